@@ -1,8 +1,8 @@
 -- What holds of a reader's text holds of the file where it is told.
-use Rattle.std.proofs.Common.{◌≡◌, ℕ, List, [], Option, Some, None, IsSome, sym, subst, refl}
+use Rattle.std.proofs.Common.{◌≡◌, ◌∙◌, ℕ, List, [], ◌∷◌, Option, Some, None, IsSome, ap, sym, subst, refl}
 use Rattle.mpi_model.specs.declared.event.Event.{Event}
-use Rattle.trace_know.specs.Segment.{PlacedEvents}
-use Rattle.dumpi_calls.specs.Collected.{AreSegments, HasPlacesPast, collected}
+use Rattle.trace_know.specs.Segment.{PlacedEvents, enter_place}
+use Rattle.dumpi_calls.specs.Collected.{AreSegments, HasPlacesPast, collected, piece_of}
 use Rattle.dumpi_calls.specs.Seen.{Seen, seen_in}
 use Rattle.dumpi_calls.specs.Walks.{IsStopped, IsWalked, StopsWalk}
 use Rattle.dumpi_calls.specs.Whole.{SegmentsTellAll, TellsEvents, WalkTellsEvents}
@@ -12,32 +12,50 @@ use Rattle.dumpi_calls.specs.declared.fault.WalkCause.TheVariants as causes
 use Rattle.dumpi_calls.specs.declared.fault.WalkFault.{WalkFault}
 use Rattle.dumpi_calls.specs.declared.walking.Walked.{Walked}
 use Rattle.command_runs.specs.Files.{StandsAtFirst}
-use Rattle.command_runs.specs.Pieces.{IsWalkFault, PassesPlaces, RefusesPiece, StopsText, TellsFacts, TellsSegments}
-use Rattle.trace_know.specs.Trace.{facts_of_all}
+use Rattle.command_runs.specs.Pieces.{IsWalkFault, PassesPlaces, RefusesPiece, StopsText, TellsFacts, TellsSegments, facts_of_piece}
+use Rattle.trace_know.specs.Trace.{facts_from, facts_of_all}
 use Rattle.command_runs.specs.declared.fault.RunFault.{RunFault}
 use Rattle.command_runs.specs.declared.fault.RunFault.TheVariants.{Memory, File, Json, Shape, Piece, Packed, PackedFrame, Layout, Text, Missing, Wrong, Place, Rank, Outside, NodeCount, Step, Worker, Net, Frame, Write}
 
-events_told : (file left : Option (List ℕ)) (events : List Event) → StandsAtFirst file left → TellsEvents left events → TellsEvents file events
-events_told None left events told h = tt
-events_told (Some bytes) left events told h = subst (λ (t : Option (List ℕ)). TellsEvents t events) told h
+-- a walk to the end of the text
+pub events_told : (file left : Option (List ℕ)) (events : List Event) (walked : Walked)
+    → WalkTellsEvents → StandsAtFirst file left → IsWalked collected left [] events walked → TellsEvents file events
+events_told None left events walked tells told h = tt
+events_told (Some bytes) left events walked tells told h = subst (λ (t : Option (List ℕ)). TellsEvents t events) told (tells left events walked h)
 
--- a walk to the end of the text, and the segments of its events
-pub facts_told : (file left : Option (List ℕ)) (rank first : ℕ) (events : List Event) (walked : Walked) (segments : List PlacedEvents)
-    → WalkTellsEvents → SegmentsTellAll → StandsAtFirst file left → IsWalked collected left [] events walked → AreSegments rank first events segments
-    → TellsFacts file rank first (facts_of_all segments)
-facts_told file left rank first events walked segments tells all told h are =
-    (events, events_told file left events told (tells left events walked h), all rank first events segments are)
+-- the facts of a piece of events
+facts_whole : (rank first : ℕ) (events : List Event) → facts_of_piece (piece_of rank first events) ≡ facts_from rank (enter_place first) events
+facts_whole rank first [] = refl
+facts_whole rank first (event ∷ events) = refl
 
-pub segments_told : (file left : Option (List ℕ)) (rank first : ℕ) (events : List Event) (walked : Walked) (segments : List PlacedEvents)
-    → WalkTellsEvents → StandsAtFirst file left → IsWalked collected left [] events walked → AreSegments rank first events segments
-    → TellsSegments file rank first segments
-segments_told file left rank first events walked segments tells told h are =
-    (events, events_told file left events told (tells left events walked h), are)
+-- the events of a text, as a piece
+pub piece_told : (file : Option (List ℕ)) (rank first : ℕ) (events : List Event) (whole : Option PlacedEvents)
+    → TellsEvents file events → whole ≡ piece_of rank first events → TellsFacts file rank first (facts_of_piece whole)
+piece_told file rank first events whole told is = (events, told, ap facts_of_piece is ∙ facts_whole rank first events)
 
--- a walk to the end of the text, and events past the last place
-pub places_told : (file left : Option (List ℕ)) (first : ℕ) (events : List Event) (walked : Walked)
+-- the events of a text, as segments
+pub facts_told : (file : Option (List ℕ)) (rank first : ℕ) (events : List Event) (segments : List PlacedEvents)
+    → SegmentsTellAll → TellsEvents file events → AreSegments rank first events segments → TellsFacts file rank first (facts_of_all segments)
+facts_told file rank first events segments all told are = (events, told, all rank first events segments are)
+
+pub segments_told : (file : Option (List ℕ)) (rank first : ℕ) (events : List Event) (segments : List PlacedEvents)
+    → TellsEvents file events → AreSegments rank first events segments → TellsSegments file rank first segments
+segments_told file rank first events segments told are = (events, told, are)
+
+-- events of a text past the last place
+pub places_told : (file : Option (List ℕ)) (first : ℕ) (events : List Event) → TellsEvents file events → HasPlacesPast first events → PassesPlaces first file
+places_told file first events told past = (events, told, past)
+
+-- a walk to the end of the text, and its events as a piece
+pub walked_piece_told : (file left : Option (List ℕ)) (rank first : ℕ) (events : List Event) (walked : Walked) (whole : Option PlacedEvents)
+    → WalkTellsEvents → StandsAtFirst file left → IsWalked collected left [] events walked → whole ≡ piece_of rank first events
+    → TellsFacts file rank first (facts_of_piece whole)
+walked_piece_told file left rank first events walked whole tells told h is =
+    piece_told file rank first events whole (events_told file left events walked tells told h) is
+
+pub walked_places_told : (file left : Option (List ℕ)) (first : ℕ) (events : List Event) (walked : Walked)
     → WalkTellsEvents → StandsAtFirst file left → IsWalked collected left [] events walked → HasPlacesPast first events → PassesPlaces first file
-places_told file left first events walked tells told h past = (events, events_told file left events told (tells left events walked h), past)
+walked_places_told file left first events walked tells told h past = places_told file first events (events_told file left events walked tells told h) past
 
 some_seen : (found : Option (List Seen)) (seen : List Seen) → found ≡ Some seen → IsSome found
 some_seen None seen e = cc

@@ -9,7 +9,7 @@ use Rattle.trace_know.specs.Segment.{PlacedEvents}
 use Rattle.trace_know.specs.Trace.{Trace, facts_from, facts_of_all, view_of}
 use Rattle.trace_know.specs.View.{View, join}
 use Rattle.input_files.specs.Manifests.{PieceParts}
-use Rattle.command_runs.specs.Pieces.{TellsFacts}
+use Rattle.command_runs.specs.Pieces.{TellsFacts, facts_of_piece}
 use Rattle.command_runs.specs.Traces.{Begin, IsFirstStranger, IsInside, IsKnown, KeepsFirst, TellTrace}
 
 tell_more : (file : List ℕ → Option (List ℕ)) (pieces : List PieceParts) (piece : PieceParts) (trace own : Trace)
@@ -69,6 +69,14 @@ begins pieces i piece e = (
 none_of : (rank place : ℕ) (events : List Event) → 0 < length events → (rest : Trace) → facts_from rank place events ++ rest ≢ []
 none_of rank place [] some rest e = omega arith
 none_of rank place (event ∷ events) some rest e = cc
+
+none_from : (rank place : ℕ) (events : List Event) → 0 < length events → facts_from rank place events ≢ []
+none_from rank place [] some e = omega arith
+none_from rank place (event ∷ events) some e = cc
+
+-- a piece that has an event tells a fact
+pub facts_of_one : (whole : Option PlacedEvents) (piece : PlacedEvents) → whole ≡ Some piece → 0 < length piece.events → facts_of_piece whole ≢ []
+facts_of_one whole piece is some e = none_from piece.rank piece.first_place piece.events some (ap facts_of_piece (sym is) ∙ e)
 
 -- segments of which the first has an event tell a fact
 facts_of_some : (segment : PlacedEvents) (segments : List PlacedEvents) → 0 < length segment.events → facts_of_all (segment ∷ segments) ≢ []

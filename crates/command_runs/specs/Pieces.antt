@@ -1,11 +1,11 @@
 -- The facts of a piece, and why a piece is refused.
-use Rattle.std.specs.Prelude.{◌≡◌, ℕ, List, Option, Some, None, IsSome, String, string_bytes}
+use Rattle.std.specs.Prelude.{◌≡◌, ℕ, List, [], Option, Some, None, IsSome, String, string_bytes}
 use Rattle.std.specs.declared.alloc.Global.{Global}
 use Rattle.mpi_model.specs.declared.event.Event.{Event}
 use Rattle.dumpi_text.specs.Call.{TextCall}
 use Rattle.dumpi_text.specs.declared.fault.TextFault.TheVariants.{At}
 use Rattle.trace_know.specs.Segment.{PlacedEvents, enter_place}
-use Rattle.trace_know.specs.Trace.{Trace, facts_from}
+use Rattle.trace_know.specs.Trace.{Trace, facts_from, facts_of}
 use Rattle.input_files.specs.Manifests.{PieceParts}
 use Rattle.dumpi_calls.specs.Collected.{AreSegments, HasPlacesPast}
 use Rattle.dumpi_calls.specs.Seen.{seen_in}
@@ -25,6 +25,11 @@ TellsFacts text rank first facts = (events : List Event) × TellsEvents text eve
 -- The segments of a piece: the events of its text from the Enter of its first call on, cut after each 65,536.
 abbrev pub TellsSegments : Option (List ℕ) → ℕ → ℕ → List PlacedEvents → Type 0
 TellsSegments text rank first segments = (events : List Event) × TellsEvents text events × AreSegments rank first events segments
+
+-- the facts that events of a piece stand for; none stand for none
+abbrev pub facts_of_piece : Option PlacedEvents → Trace
+facts_of_piece None = []
+facts_of_piece (Some piece) = facts_of piece
 
 -- The facts are those of a piece, by its file.
 abbrev pub AreFactsOf : (List ℕ → Option (List ℕ)) → PieceParts → Trace → Type 0
@@ -47,6 +52,18 @@ IsWalkFault name fault (Text cause path line) = IsNamed path name × (fault.caus
 IsWalkFault name fault (Missing parameter path line) = IsNamed path name × (fault.cause ≡ causes.Missing parameter) × (line ≡ fault.line)
 IsWalkFault name fault (Wrong parameter path line) = IsNamed path name × (fault.cause ≡ causes.Wrong parameter) × (line ≡ fault.line)
 IsWalkFault name fault _ = ⊥
+
+-- Nothing that the text says stopped the walk.
+abbrev pub IsNotOfText : WalkCause NoMemory → Type 0
+IsNotOfText (causes.Text (At line cause)) = ⊥
+IsNotOfText (causes.Missing parameter) = ⊥
+IsNotOfText (causes.Wrong parameter) = ⊥
+IsNotOfText _ = Unit {0}
+
+-- Want of memory is told only of a walk that nothing in the text stopped.
+abbrev pub IsWantOrTold : WalkCause NoMemory → RunFault → Type 0
+IsWantOrTold cause Memory = IsNotOfText cause
+IsWantOrTold cause _ = Unit {0}
 
 -- Where its bytes are told, a text stops a walk at a line for this cause, and the calls before it are typed.
 abbrev pub StopsText : Option (List ℕ) → WalkCause NoMemory → ℕ → Type 0

@@ -16,7 +16,7 @@ use crate::by_rank::{answer_by_rank, are_by_rank};
 use crate::fault::RunFault;
 use crate::knowing::with_stranger;
 use crate::opener::Opener;
-use crate::piece::segments_of;
+use crate::piece::ready_piece_of;
 use crate::watch::{Unwatched, Watcher};
 use input_files::Piece;
 use mpi_model::Layout;
@@ -83,8 +83,8 @@ fn look_for_refused<O: Opener>(
         if blames_file(fault, piece.file()) {
             return Ok(());
         }
-        match segments_of(alloc, piece, files, &mut Unwatched, &mut buffer) {
-            Ok(_segments) => {}
+        match ready_piece_of(alloc, piece, files, &mut Unwatched, &mut buffer) {
+            Ok(_whole) => {}
             Err(first) => return Err(first),
         }
     }
@@ -109,11 +109,11 @@ fn look_for_strangers<O: Opener>(
         if piece.rank() < layout.ranks() {
             continue;
         }
-        let segments = match segments_of(alloc, piece, files, &mut Unwatched, &mut buffer) {
-            Ok(segments) => segments,
+        let whole = match ready_piece_of(alloc, piece, files, &mut Unwatched, &mut buffer) {
+            Ok(whole) => whole,
             Err(fault) => return Err(fault),
         };
-        if let Some(path) = with_stranger(alloc, None, layout, piece, &segments)? {
+        if let Some(path) = with_stranger(alloc, None, layout, piece, &whole)? {
             return Err(RunFault::Rank { path });
         }
     }

@@ -1,4 +1,4 @@
-//! Who gathers what pieces tell, segment by segment.
+//! Who gathers what pieces tell, piece by piece.
 
 ghost use Rattle.std.specs.Prelude.{◌≡◌, IfOk};
 ghost use Rattle.std.specs.FinMap.{empty};
@@ -9,9 +9,9 @@ ghost use Rattle.trace_know.specs.View.{View, join};
 use mpi_model::Layout;
 use std::alloc::{AllocError, Global};
 use trace_check::Checker;
-use trace_know::{Gathering, ReadySegment};
+use trace_know::{Gathering, ReadyPiece};
 
-/// One who reads the segments of a run: for a report they are joined, and for a check an index of the
+/// One who reads the pieces of a run: for a report they are joined, and for a check an index of the
 /// pairs follows each of them too.
 pub(crate) trait Gatherer: Drop {
     /// The layout of the run.
@@ -20,9 +20,9 @@ pub(crate) trait Gatherer: Drop {
     /// All that is known.
     ghost known: { Self → View };
 
-    /// The gatherer once it has read one segment more.
-    fn reading(self, segment: ReadySegment) -> Result<Self, AllocError>
-        ensures known { IfOk result (λ g. known g ≡ join (known self) (view_of (facts_of segment))) }
+    /// The gatherer once it has read one piece more.
+    fn reading(self, piece: ReadyPiece) -> Result<Self, AllocError>
+        ensures known { IfOk result (λ g. known g ≡ join (known self) (view_of (facts_of piece))) }
         ensures layout { IfOk result (λ g. layout g ≡ layout self) };
 }
 
@@ -51,10 +51,10 @@ impl<'a> Gatherer for Gathered<'a> {
 
     ghost known = { λ g. g.know };
 
-    fn reading(self, segment: ReadySegment) -> Result<Gathered<'a>, AllocError> {
+    fn reading(self, piece: ReadyPiece) -> Result<Gathered<'a>, AllocError> {
         Ok(Gathered {
             layout: self.layout,
-            know: self.know.reading(segment)?,
+            know: self.know.reading(piece)?,
         })
     }
 }
@@ -64,7 +64,7 @@ impl<'a> Gatherer for Checker<'a> {
 
     ghost known = { λ c. c.know };
 
-    fn reading(self, segment: ReadySegment) -> Result<Checker<'a>, AllocError> {
-        Checker::reading(self, segment)
+    fn reading(self, piece: ReadyPiece) -> Result<Checker<'a>, AllocError> {
+        Checker::reading(self, piece)
     }
 }

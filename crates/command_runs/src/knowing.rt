@@ -5,21 +5,22 @@ ghost use Rattle.std.specs.FinMap.{empty};
 ghost use Rattle.std.specs.List.{All};
 ghost use Rattle.dumpi_text.specs.Failing.{Fails};
 ghost use Rattle.command_runs.specs.Files.{NamesFailed};
+ghost use Rattle.command_runs.specs.Pieces.{facts_of_piece};
 ghost use Rattle.command_runs.specs.Refusals.{RefusesPieces};
 ghost use Rattle.command_runs.specs.Traces.{IsInside, IsKnown, KeepsFirst};
-ghost use Rattle.trace_know.specs.Trace.{facts_of_all, view_of};
+ghost use Rattle.trace_know.specs.Trace.{view_of};
 ghost use Rattle.trace_know.specs.View.{join};
 ghost use Rattle.trace_node.specs.Node.{IsWithin};
 
 use crate::fault::RunFault;
 use crate::gatherer::Gatherer;
 use crate::opener::Opener;
-use crate::piece::segments_of;
+use crate::piece::ready_piece_of;
 use crate::watch::Watcher;
 use input_files::Piece;
 use mpi_model::Layout;
 use std::alloc::{AllocError, Global};
-use trace_know::{ReadySegment, join_laws, view_laws};
+use trace_know::{ReadyPiece, join_laws, view_laws};
 
 /// What the pieces tell together, of a run of this layout, by who gathers it. All of them are read before
 /// a piece is refused for its rank. The buffer is one for all texts.
@@ -46,12 +47,12 @@ pub(crate) fn know_of<G: Gatherer, O: Opener, V: Watcher>(
     let mut know = gatherer;
     let mut stranger = None;
     for piece in pieces {
-        let segments = match segments_of(alloc, piece, files, watcher, buffer) {
-            Ok(segments) => segments,
+        let whole = match ready_piece_of(alloc, piece, files, watcher, buffer) {
+            Ok(whole) => whole,
             Err(fault) => return Err(fault),
         };
-        stranger = with_stranger(alloc, stranger, layout, piece, &segments)?;
-        know = take_all(know, segments)?;
+        stranger = with_stranger(alloc, stranger, layout, piece, &whole)?;
+        know = take_whole(know, whole)?;
     }
     match stranger {
         Some(path) => Err(RunFault::Rank { path }),
@@ -65,44 +66,44 @@ pub(crate) fn with_stranger(
     stranger: Option<String>,
     layout: &Layout,
     piece: &Piece,
-    segments: &[ReadySegment],
+    whole: &Option<ReadyPiece>,
 ) -> Result<Option<String>, AllocError>
-    ensures { IfOk result (KeepsFirst layout.now.ranks piece.now (facts_of_all segments.now) stranger) }
+    ensures { IfOk result (KeepsFirst layout.now.ranks piece.now (facts_of_piece whole.now) stranger) }
 {
     if let Some(path) = stranger {
         return Ok(Some(path));
     }
-    if piece.rank() < layout.ranks() || !have_calls(segments) {
+    if piece.rank() < layout.ranks() || !has_calls(whole) {
         return Ok(None);
     }
     Ok(Some(piece.file().to_string(alloc)?))
 }
 
-/// Whether the segments tell anything: each has an event.
-fn have_calls(segments: &[ReadySegment]) -> bool
-    ensures some { result ≡ true → facts_of_all segments.now ≢ [] }
-    ensures none { result ≡ false → facts_of_all segments.now ≡ [] }
+/// Whether a piece tells anything: each that there is has an event.
+fn has_calls(whole: &Option<ReadyPiece>) -> bool
+    ensures some { result ≡ true → facts_of_piece whole.now ≢ [] }
+    ensures none { result ≡ false → facts_of_piece whole.now ≡ [] }
 {
-    let [first, ..] = segments else {
-        return false;
-    };
-    first.known();
-    true
+    match whole {
+        Some(piece) => {
+            piece.known();
+            true
+        }
+        None => false,
+    }
 }
 
-/// Takes segments that are not needed any more, with their events.
-pub(crate) fn take_all<G: Gatherer>(
+/// Takes a piece that is not needed any more, with its events.
+pub(crate) fn take_whole<G: Gatherer>(
     gatherer: G,
-    segments: Vec<ReadySegment>,
+    whole: Option<ReadyPiece>,
 ) -> Result<G, AllocError>
-    ensures known { IfOk result (λ g. G.known g ≡ join (G.known gatherer) (view_of (facts_of_all segments.items))) }
+    ensures known { IfOk result (λ g. G.known g ≡ join (G.known gatherer) (view_of (facts_of_piece whole))) }
     ensures layout { IfOk result (λ g. G.layout g ≡ G.layout gatherer) }
 {
     join_laws();
-    view_laws();
-    let mut know = gatherer;
-    for segment in segments {
-        know = know.reading(segment)?;
+    match whole {
+        Some(piece) => gatherer.reading(piece),
+        None => Ok(gatherer),
     }
-    Ok(know)
 }

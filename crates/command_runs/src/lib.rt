@@ -11,13 +11,13 @@
 //! good. Files come from an [`Opener`], so that a run can be proved and tested over
 //! files in memory; the program opens those of the system.
 //!
-//! The work is linear in the texts, but for the joins of their segments (`trace_know`) and the answer
+//! The work is linear in the texts, but for the joins of their pieces (`trace_know`) and the answer
 //! (`trace_node`). Memory holds what is known and the events of one piece; that of a replay also all
 //! pieces' segments, a copy of them for each post, and the mails, and that of a cluster the bytes of all
 //! texts, what packed files tell, and a copy of each node.
 //!
 //! - [`opener`]: where files come from; [`whole`]: a whole file, within its limit
-//! - [`piece`]: the segments of a piece; [`pieces`]: those of all pieces
+//! - [`piece`]: the events of a piece, whole or as segments; [`pieces`]: the segments of all pieces
 //! - [`input`]: the layout and the manifest; [`gatherer`], [`knowing`]: what the texts tell together; [`packed`]: what packed files
 //!   do; [`known`]: both joined; [`laws`]: that their order doesn't show
 //! - [`answering`]: the answer to it; [`by_rank`], [`any_order`]: of texts rank by rank

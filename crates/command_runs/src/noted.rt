@@ -4,35 +4,34 @@ ghost use Rattle.std.specs.Prelude.{◌≡◌, IfErr, IfOk};
 ghost use Rattle.std.specs.FinMap.{empty};
 ghost use Rattle.std.specs.List.{All};
 ghost use Rattle.dumpi_text.specs.Failing.{Fails};
-ghost use Rattle.trace_know.specs.Trace.{facts_of_all};
 ghost use Rattle.trace_node.specs.Node.{IsWithin};
 ghost use Rattle.command_runs.specs.FileNames.{shown_name};
 ghost use Rattle.command_runs.specs.Files.{NamesFailed};
 ghost use Rattle.command_runs.specs.Notes.{AreNotesOf, BeginsSo, IsNoteOf};
-ghost use Rattle.command_runs.specs.Pieces.{AreFactsOf, RefusesPiece};
+ghost use Rattle.command_runs.specs.Pieces.{AreFactsOf, RefusesPiece, facts_of_piece};
 ghost use Rattle.command_runs.specs.Refusals.{RefusesPieces};
 ghost use Rattle.command_runs.specs.Traces.{IsInside, IsKnown};
 
 use crate::fault::RunFault;
 use crate::file_name::FileName;
 use crate::gatherer::Gatherer;
-use crate::knowing::{take_all, with_stranger};
+use crate::knowing::{take_whole, with_stranger};
 use crate::opener::{OpenFault, Opener};
 use crate::piece::fault_of_walk;
 use crate::second_look::start_at;
 use crate::watch::{Watcher, announce};
 use crate::watched::Watched;
-use dumpi_calls::{walk, whole_segments, whole_texts};
+use dumpi_calls::{walk, whole_texts};
 use input_files::Piece;
 use mpi_model::Layout;
 use std::alloc::{AllocError, Global};
 use text_notes::{Noting, Start, TextNote, noted_texts};
-use trace_know::{ReadySegment, SegmentFault, join_laws, view_laws};
+use trace_know::{ReadyPiece, SegmentFault, join_laws, view_laws};
 
 /// A piece that was read.
 #[derive(Drop)]
 struct NotedPiece {
-    segments: Vec<ReadySegment>,
+    whole: Option<ReadyPiece>,
     note: TextNote,
 }
 
@@ -55,22 +54,21 @@ fn start_where<O: Opener>(calls: u64, path: &str, files: &mut O) -> Option<Start
     start_at(path, files)
 }
 
-/// The segments of a piece, none of a text without calls, and what is noted of its text.
-#[tactic(auto, using(crate::proofs::Told::facts_told, crate::proofs::Told::places_told, crate::proofs::Told::walk_told, crate::proofs::Notes::notes_told))]
+/// The events of a piece whole, none of a text without calls, and what is noted of its text.
+#[tactic(auto, using(crate::proofs::Told::walked_places_told, crate::proofs::Told::walk_told, crate::proofs::Notes::notes_told))]
 fn noted_piece<O: Opener, V: Watcher>(
     alloc: Global,
     piece: &Piece,
     files: &mut O,
     watcher: &mut V,
 ) -> Result<NotedPiece, RunFault>
-    ensures ok { IfOk result (λ read. AreFactsOf (O.file files.old) piece.now (facts_of_all read.segments.items)) }
+    ensures ok { IfOk result (λ read. AreFactsOf (O.file files.old) piece.now (facts_of_piece read.whole)) }
     ensures note { IfOk result (λ read. IsNoteOf (O.file files.old) piece.now read.note) }
     ensures err { IfErr result (RefusesPiece piece.now.file piece.now.first (O.file files.old piece.now.file)) }
     ensures failed { IfErr result (NamesFailed (Fails O.R.failures)) }
     ensures same { O.file files.new ≡ O.file files.old }
 {
     whole_texts();
-    whole_segments();
     noted_texts();
     let path = piece.file();
     let reader = match files.open(path) {
@@ -89,8 +87,8 @@ fn noted_piece<O: Opener, V: Watcher>(
     };
     watcher.has_read(path, &walked);
     let (collect, unread) = noting.into_parts();
-    let segments = match collect.into_ready(piece.rank(), piece.first()) {
-        Ok(segments) => segments,
+    let whole = match collect.into_piece(piece.rank(), piece.first()) {
+        Ok(whole) => whole,
         Err(SegmentFault::Place) => {
             return Err(RunFault::Place {
                 path: path.to_string(alloc)?,
@@ -107,7 +105,7 @@ fn noted_piece<O: Opener, V: Watcher>(
         unread,
         start,
     );
-    Ok(NotedPiece { segments, note })
+    Ok(NotedPiece { whole, note })
 }
 
 /// What the pieces tell together, as [`know_of`](crate::knowing::know_of) gathers it, and what is noted of their texts,
@@ -141,9 +139,9 @@ pub(crate) fn noted_of<G: Gatherer, O: Opener, V: Watcher>(
             Ok(read) => read,
             Err(fault) => return Err(fault),
         };
-        let NotedPiece { segments, note } = read;
-        stranger = with_stranger(alloc, stranger, layout, piece, &segments)?;
-        know = take_all(know, segments)?;
+        let NotedPiece { whole, note } = read;
+        stranger = with_stranger(alloc, stranger, layout, piece, &whole)?;
+        know = take_whole(know, whole)?;
         notes.push(note)?;
     }
     match stranger {

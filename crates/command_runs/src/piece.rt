@@ -1,10 +1,11 @@
-//! The segments of a piece: the events of its text's calls, cut after each 65,536.
+//! The events of a piece's text: whole, or as segments, cut after each 65,536.
 
 ghost use Rattle.std.specs.Prelude.{IfErr, IfOk, ◌≡◌};
 ghost use Rattle.dumpi_calls.specs.Walks.{IsReadStop};
+ghost use Rattle.dumpi_calls.specs.Whole.{TellsEvents};
 ghost use Rattle.dumpi_text.specs.Failing.{Fails};
 ghost use Rattle.command_runs.specs.Files.{NamesFailed};
-ghost use Rattle.command_runs.specs.Pieces.{AreFactsOf, AreSegmentsOf, IsWalkFault, RefusesPiece};
+ghost use Rattle.command_runs.specs.Pieces.{AreFactsOf, AreSegmentsOf, IsWalkFault, IsWantOrTold, RefusesPiece, facts_of_piece};
 ghost use Rattle.trace_know.specs.Trace.{facts_of_all};
 
 use crate::fault::RunFault;
@@ -17,25 +18,23 @@ use dumpi_calls::{
 use dumpi_text::TextFault;
 use input_files::Piece;
 use std::alloc::{AllocError, Global};
-use trace_know::{ReadySegment, SegmentFault};
+use trace_know::{ReadyPiece, ReadySegment, SegmentFault};
 
-/// The segments of a piece, ready to be joined, none of a text without calls. The buffer is one for all pieces.
-#[tactic(auto, using(crate::proofs::Told::facts_told, crate::proofs::Told::segments_told, crate::proofs::Told::places_told, crate::proofs::Told::walk_told))]
-pub fn segments_of<O: Opener, V: Watcher>(
+/// The events of a piece's text, which is read to its end. The buffer is one for all pieces.
+#[tactic(auto, using(crate::proofs::Told::events_told, crate::proofs::Told::walk_told))]
+fn events_of<O: Opener, V: Watcher>(
     alloc: Global,
     piece: &Piece,
     files: &mut O,
     watcher: &mut V,
     buffer: &mut Vec<u8>,
-) -> Result<Vec<ReadySegment>, RunFault>
-    ensures ok { IfOk result (λ segments. AreFactsOf (O.file files.old) piece.now (facts_of_all segments.items)) }
-    ensures segments { IfOk result (λ segments. AreSegmentsOf (O.file files.old) piece.now segments.items) }
+) -> Result<Collect, RunFault>
+    ensures ok { IfOk result (λ events. TellsEvents (O.file files.old piece.now.file) events) }
     ensures err { IfErr result (RefusesPiece piece.now.file piece.now.first (O.file files.old piece.now.file)) }
     ensures failed { IfErr result (NamesFailed (Fails O.R.failures)) }
     ensures same { O.file files.new ≡ O.file files.old }
 {
     whole_texts();
-    whole_segments();
     let path = piece.file();
     let reader = match files.open(path) {
         Ok(reader) => reader,
@@ -53,10 +52,61 @@ pub fn segments_of<O: Opener, V: Watcher>(
         Err(fault) => return Err(fault_of_walk(alloc, path, fault)?),
     };
     watcher.has_read(path, &walked);
-    match collect.into_ready(piece.rank(), piece.first()) {
+    Ok(collect)
+}
+
+/// The events of a piece whole, ready to be joined, none of a text without calls. The buffer is one for all pieces.
+#[tactic(auto, using(crate::proofs::Told::piece_told, crate::proofs::Told::places_told))]
+pub fn ready_piece_of<O: Opener, V: Watcher>(
+    alloc: Global,
+    piece: &Piece,
+    files: &mut O,
+    watcher: &mut V,
+    buffer: &mut Vec<u8>,
+) -> Result<Option<ReadyPiece>, RunFault>
+    ensures ok { IfOk result (λ whole. AreFactsOf (O.file files.old) piece.now (facts_of_piece whole)) }
+    ensures err { IfErr result (RefusesPiece piece.now.file piece.now.first (O.file files.old piece.now.file)) }
+    ensures failed { IfErr result (NamesFailed (Fails O.R.failures)) }
+    ensures same { O.file files.new ≡ O.file files.old }
+{
+    let events = match events_of(alloc, piece, files, watcher, buffer) {
+        Ok(events) => events,
+        Err(fault) => return Err(fault),
+    };
+    match events.into_piece(piece.rank(), piece.first()) {
+        Ok(whole) => Ok(whole),
+        Err(SegmentFault::Place) => Err(RunFault::Place {
+            path: piece.file().to_string(alloc)?,
+        }),
+        Err(_) => Err(RunFault::Memory),
+    }
+}
+
+/// The segments of a piece, ready to be joined, none of a text without calls: its events, cut after each 65,536. The
+/// buffer is one for all pieces.
+#[tactic(auto, using(crate::proofs::Told::facts_told, crate::proofs::Told::segments_told, crate::proofs::Told::places_told))]
+pub fn segments_of<O: Opener, V: Watcher>(
+    alloc: Global,
+    piece: &Piece,
+    files: &mut O,
+    watcher: &mut V,
+    buffer: &mut Vec<u8>,
+) -> Result<Vec<ReadySegment>, RunFault>
+    ensures ok { IfOk result (λ segments. AreFactsOf (O.file files.old) piece.now (facts_of_all segments.items)) }
+    ensures segments { IfOk result (λ segments. AreSegmentsOf (O.file files.old) piece.now segments.items) }
+    ensures err { IfErr result (RefusesPiece piece.now.file piece.now.first (O.file files.old piece.now.file)) }
+    ensures failed { IfErr result (NamesFailed (Fails O.R.failures)) }
+    ensures same { O.file files.new ≡ O.file files.old }
+{
+    whole_segments();
+    let events = match events_of(alloc, piece, files, watcher, buffer) {
+        Ok(events) => events,
+        Err(fault) => return Err(fault),
+    };
+    match events.into_ready(piece.rank(), piece.first()) {
         Ok(segments) => Ok(segments),
         Err(SegmentFault::Place) => Err(RunFault::Place {
-            path: path.to_string(alloc)?,
+            path: piece.file().to_string(alloc)?,
         }),
         Err(_) => Err(RunFault::Memory),
     }
@@ -69,6 +119,7 @@ pub fn fault_of_walk(
     fault: WalkFault<Memory>,
 ) -> Result<RunFault, AllocError>
     ensures fault { IfOk result (IsWalkFault path.now fault) }
+    ensures memory { IfOk result (IsWantOrTold fault.cause) }
     ensures failed { IfOk result (NamesFailed (IsReadStop fault.cause)) }
 {
     let line = fault.line;

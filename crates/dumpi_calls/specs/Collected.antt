@@ -42,6 +42,11 @@ collected events call = if ends_open events then events else events ++ events_of
 abbrev pub placed : ℕ → ℕ → List Event → PlacedEvents
 placed rank first events = record { rank = rank; first_place = enter_place first; events = events }
 
+-- the piece of events from the Enter of a call on, however many; none of no event
+abbrev pub piece_of : ℕ → ℕ → List Event → Option PlacedEvents
+piece_of rank first [] = None
+piece_of rank first (event ∷ events) = Some (placed rank first (event ∷ events))
+
 -- A part that is cut off: it has an event, and 65,536 of them where more follow.
 pub record IsPart (part rest : List Event) : Type 0 where
   pub some : 0 < length part

@@ -1,7 +1,7 @@
-//! A sink that keeps the events of its calls, for segments.
+//! A sink that keeps the events of its calls, for a piece whole or for segments.
 
 ghost use Rattle.std.specs.Prelude.{◌≡◌, ◌<◌, ◌≤◌, ◌^◌, ◌+◌, ◌↔◌, [], IsTrue, ◌≢◌, IfOk, IfErr, OnErr, OnOk, Err, Ok, length, true};
-ghost use Rattle.dumpi_calls.specs.Collected.{AreSegments, collected, ends_open, placed};
+ghost use Rattle.dumpi_calls.specs.Collected.{AreSegments, collected, ends_open, piece_of, placed};
 ghost use Rattle.dumpi_calls.specs.Rows.{OnCollective};
 ghost use Rattle.dumpi_calls.specs.Seen.{seen};
 ghost use Rattle.trace_know.specs.Segment.{alternate, enter_place};
@@ -9,11 +9,12 @@ ghost use Rattle.trace_know.specs.declared.segment.TheConstants.{PLACES};
 
 use crate::parts::Parts;
 use crate::sink::CallSink;
+use dumpi_text::MOST_LINES;
 use mpi_model::{Call, Event, Exit, Stamp};
 use std::alloc::{AllocError, AllocFailed, Global};
 use std::marker::Model;
 use thiserror::Error;
-use trace_know::{PLACES, ReadySegment, SegmentFault};
+use trace_know::{PLACES, ReadyEvents, ReadyPiece, ReadySegment, SegmentFault};
 
 /// A usual text has an event in somewhat more bytes than these.
 const BYTES_AN_EVENT: u64 = 128;
@@ -38,7 +39,7 @@ impl<T: Drop> From<AllocFailed<T>> for Memory {
 /// The events of calls, in their order. They alternate: a call that comes after one that has not returned is left out.
 #[derive(Debug, Drop)]
 pub struct Collect {
-    parts: Parts,
+    events: ReadyEvents,
     is_open: bool,
 }
 
@@ -47,13 +48,12 @@ impl Model for Collect {
     ghost use Rattle.mpi_model.specs.declared.event.Event.{Event};
     ghost use Rattle.trace_know.specs.Segment.{alternate};
     ghost use Rattle.dumpi_calls.specs.Collected.{ends_open};
-    ghost use Rattle.dumpi_calls.specs.Parts.{AreParts, events_in};
 
     ghost Value = { List Event };
 
-    ghost view = { λ c. events_in c.parts };
+    ghost view = { λ c. c.events };
 
-    ghost invariant = { λ c. AreParts c.parts × (alternate true (events_in c.parts) ≡ true) × (c.is_open ≡ ends_open (events_in c.parts)) };
+    ghost invariant = { λ c. (alternate true c.events ≡ true) × (c.is_open ≡ ends_open c.events) };
 }
 
 /// Whether so many events, from a call on, have a place past the last.
@@ -63,10 +63,24 @@ fn has_places_past(first_call: u64, count: u64) -> bool
     first_call.saturating_mul(2).saturating_add(count) > PLACES
 }
 
+/// The segments of a rank's events, cut after each 65,536.
+fn segments_of(
+    events: ReadyEvents,
+    rank: u32,
+    first_call: u64,
+) -> Result<Vec<ReadySegment>, AllocError>
+    requires halves { alternate true events ≡ true }
+    requires places { enter_place first_call + length events ≤ PLACES }
+    ensures { IfOk result (λ segments. AreSegments rank first_call events segments.items) }
+{
+    let parts = Parts::of_events(events)?;
+    parts.into_ready(rank, first_call)
+}
+
 impl Collect {
     ghost use Rattle.dumpi_calls.specs.Collected.{AreSegments, HasPlacesPast};
     ghost use Rattle.trace_know.specs.declared.segment.SegmentFault.TheVariants.{Place, Memory as NoMemory};
-    ghost use Rattle.dumpi_calls.specs.Collected.{collected};
+    ghost use Rattle.dumpi_calls.specs.Collected.{collected, piece_of};
     ghost use Rattle.dumpi_calls.specs.Rows.{OnCollective};
     ghost use Rattle.dumpi_calls.specs.Seen.{seen};
 
@@ -75,39 +89,64 @@ impl Collect {
         ensures { result ≡ [] }
     {
         Collect {
-            parts: Parts::new(alloc),
+            events: ReadyEvents::new(alloc),
             is_open: false,
         }
     }
 
     /// No events, and room for about as many as a text of so many bytes has, where there is memory for it: a list of
-    /// events that has to grow is moved each time.
+    /// events that has to grow is moved each time. Room that isn't filled costs next to nothing.
     pub fn for_text(alloc: Global, bytes: u64) -> Collect
         ensures { result ≡ [] }
     {
+        let room = (bytes / BYTES_AN_EVENT).min(MOST_LINES) as usize;
+        let events = match ReadyEvents::with_capacity(alloc, room) {
+            Ok(events) => events,
+            Err(_) => ReadyEvents::new(alloc),
+        };
         Collect {
-            parts: Parts::with_room(alloc, bytes / BYTES_AN_EVENT),
+            events,
             is_open: false,
         }
     }
 
+    /// The events as a piece of a rank that stands ready, from the Enter of its call `first_call` on, however many: none
+    /// is moved. No event gives no piece. It answers `Place` where an event would have a place at 2^40 or past it, and
+    /// `Memory`.
+    pub fn into_piece(self, rank: u32, first_call: u64) -> Result<Option<ReadyPiece>, SegmentFault>
+        ensures ok { IfOk result (λ piece. piece ≡ piece_of rank first_call self) }
+        ensures place { result ≡ Err Place ↔ HasPlacesPast first_call self }
+        ensures err { IfErr result (λ fault. fault ≢ Place → fault ≡ NoMemory) }
+    {
+        let count = self.events.count();
+        if count == 0 {
+            return Ok(None);
+        }
+        if has_places_past(first_call, count as u64) {
+            return Err(SegmentFault::Place);
+        }
+        match self.events.into_piece(rank, first_call) {
+            Ok(piece) => Ok(Some(piece)),
+            Err(_) => Err(SegmentFault::Memory),
+        }
+    }
+
     /// The events as segments of a rank that stand ready, from the Enter of its call `first_call` on, cut after each
-    /// 65,536 events: none is moved. No event gives no segment. It answers `Place` where an event would have a place at
+    /// 65,536 events: where there are more, each is moved. No event gives no segment. It answers `Place` where an event would have a place at
     /// 2^40 or past it, and `Memory`.
     pub fn into_ready(self, rank: u32, first_call: u64) -> Result<Vec<ReadySegment>, SegmentFault>
         ensures ok { IfOk result (λ segments. AreSegments rank first_call self segments.items) }
         ensures place { result ≡ Err Place ↔ HasPlacesPast first_call self }
         ensures err { IfErr result (λ fault. fault ≢ Place → fault ≡ NoMemory) }
     {
-        let Collect { parts, .. } = self;
-        let count = parts.count();
+        let count = self.events.count();
         if count == 0 {
-            return Ok(Vec::new(parts.last.allocator()));
+            return Ok(Vec::new(self.events.allocator()));
         }
-        if has_places_past(first_call, count) {
+        if has_places_past(first_call, count as u64) {
             return Err(SegmentFault::Place);
         }
-        match parts.into_ready(rank, first_call) {
+        match segments_of(self.events, rank, first_call) {
             Ok(segments) => Ok(segments),
             Err(_) => Err(SegmentFault::Memory),
         }
@@ -124,12 +163,12 @@ impl Collect {
         }
         match exit {
             None => {
-                self.parts.push(Event::Enter(call, enter))?;
+                self.events.push(Event::Enter(call, enter))?;
                 self.is_open = true;
             }
             Some(exit) => {
                 let Exit { outs, stamp } = exit;
-                self.parts
+                self.events
                     .push_both(Event::Enter(call, enter), Event::Return(outs, stamp))?;
             }
         }

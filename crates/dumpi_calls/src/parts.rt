@@ -1,5 +1,4 @@
-//! Events in parts of a segment's length, each put where it stands in what is known: segments are made of the parts, and
-//! no event is moved.
+//! Events in parts of a segment's length, of which segments are made.
 
 ghost use Rattle.std.specs.Prelude.{◌≡◌, ◌+◌, ◌%◌, ◌≤◌, ◌++◌, ◌∷◌, [], IfOk, OnErr, OnOk, length, min, true};
 ghost use Rattle.dumpi_calls.specs.Collected.{AreSegments};
@@ -35,33 +34,26 @@ impl Parts {
         }
     }
 
-    /// No events, and room for so many, or for those of one part, where there is memory for it.
-    pub fn with_room(alloc: Global, events: u64) -> Parts
-        ensures none { events_in result ≡ [] }
-        ensures parts { AreParts result }
+    /// These events: in one part where they fit into it, so that none is moved.
+    pub fn of_events(events: ReadyEvents) -> Result<Parts, AllocError>
+        ensures same { IfOk result (λ parts. events_in parts ≡ events) }
+        ensures parts { IfOk result (λ parts. AreParts parts) }
     {
-        let room = events.min(MOST_EVENTS as u64) as usize;
-        let last = match ReadyEvents::with_capacity(alloc, room) {
-            Ok(last) => last,
-            Err(_) => ReadyEvents::new(alloc),
-        };
-        Parts {
-            full: Vec::new(alloc),
-            last,
+        let alloc = events.allocator();
+        if events.count() <= MOST_EVENTS {
+            return Ok(Parts {
+                full: Vec::new(alloc),
+                last: events,
+            });
         }
+        let mut parts = Parts::new(alloc);
+        for event in events.into_events()? {
+            parts.push(event)?;
+        }
+        Ok(parts)
     }
 
-    /// How many events there are, or the greatest number where there are more.
-    pub fn count(&self) -> u64
-        requires { AreParts self.now }
-        ensures { result ≡ min (length (events_in self.now)) u64.MAX }
-    {
-        (self.full.len() as u64)
-            .saturating_mul(MOST_EVENTS as u64)
-            .saturating_add(self.last.count() as u64)
-    }
-
-    /// Sees that the last part isn't full, so that it can take the two events of a call.
+    /// Sees that the last part isn't full, so that it can take an event.
     #[inline(always)]
     fn see_room(&mut self) -> Result<(), AllocError>
         requires { AreParts self.old }
@@ -101,20 +93,6 @@ impl Parts {
     {
         self.see_room()?;
         self.last.push(event)?;
-        Ok(())
-    }
-
-    /// Puts the two events of a call behind the others, both into one part.
-    #[inline(always)]
-    pub fn push_both(&mut self, enter: Event, exit: Event) -> Result<(), AllocError>
-        requires parts { AreParts self.old }
-        requires even { length self.old.last % 2 ≡ 0 }
-        ensures ok { OnOk result (events_in self.new ≡ events_in self.old ++ enter ∷ exit ∷ []) }
-        ensures parts { AreParts self.new }
-        ensures err { OnErr result (events_in self.new ≡ events_in self.old) }
-    {
-        self.see_room()?;
-        self.last.push_both(enter, exit)?;
         Ok(())
     }
 

@@ -1,6 +1,8 @@
 -- The values that events can have. An `i64` has the range of its type.
 use Rattle.std.specs.Prelude.{◌<◌, ◌^◌, ℕ, ℤ, Option, IfSome, FitsSigned, All}
 use Rattle.std.specs.Int.{w64}
+use Rattle.std.specs.Ordering.{nat_cmp, ordering_then}
+use Rattle.std.specs.declared.cmp.Ordering.{Ordering}
 use Rattle.mpi_model.specs.Times.{IsTimes}
 use Rattle.mpi_model.specs.Ranges.{IsTold, IsSend, IsReceive, IsProbe, IsCollective, BothEnvelopes, IsExchange}
 use Rattle.mpi_model.specs.declared.envelope.Envelope.{Envelope}
@@ -10,6 +12,7 @@ use Rattle.mpi_model.specs.declared.outcome.Outs.{Outs}
 use Rattle.mpi_model.specs.declared.outcome.Outs.TheVariants as outs
 use Rattle.mpi_model.specs.declared.list.elements.Element.{Element}
 use Rattle.mpi_model.specs.declared.event.Event.{Event}
+use Rattle.mpi_model.specs.declared.event.OpName.{OpName}
 use Rattle.mpi_model.specs.declared.event.Event.TheVariants as events
 
 -- a number of a request or a datatype
@@ -81,3 +84,7 @@ IsOutcome (outs.Flag done told) = IsTold told
 abbrev pub IsEvent : Event → Type 0
 IsEvent (events.Enter call time) = IsCall call × IsTimes time
 IsEvent (events.Return found time) = IsOutcome found × IsTimes time
+
+-- operations by their ranks, then by their calls, and then by their parts
+abbrev pub name_cmp : OpName → OpName → Ordering
+name_cmp a b = ordering_then (nat_cmp a.rank b.rank) (ordering_then (nat_cmp a.call b.call) (nat_cmp a.part b.part))

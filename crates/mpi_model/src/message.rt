@@ -77,7 +77,7 @@ pub struct Receive {
     pub ended: Option<u64>,
 }
 
-const _: () = prove!(size_of::<Message>() <= 64 && size_of::<Receive>() <= 80);
+const _: () = prove!(size_of::<Message>() <= 48 && size_of::<Receive>() <= 72);
 
 impl Receive {
     /// Whether it may take more than is known of it: its source is untold, or it is doubtful. A

@@ -45,11 +45,10 @@ pub type Summary = (usize, usize, usize, bool);
 
 pub fn summary(alloc: Global, know: &Knowledge) -> Result<Summary, Fail> {
     let contradictions = know.conflict_places(alloc)?;
-    let readable = know.readable(alloc, 0)?;
     Ok((
         know.count(),
         contradictions.len(),
-        readable.len(),
+        know.readable(0).len(),
         know.beyond(0),
     ))
 }

@@ -1,4 +1,4 @@
--- A segment of one rank changes what no other rank did.
+-- A piece of one rank changes what no other rank did.
 use Rattle.std.proofs.Common.{◌≡◌, ◌∙◌, ◌≢◌, ◌↔◌, ◌+◌, ◌<◌, ◌≤◌, ℕ, zero, suc, true, List, [], ◌∷◌, Option, Some, None, IsSome, ap, refl, sym, subst, length, get_or, set, arith, ⊎_elim, ◌⊎◌, inl, inr, zero-add}
 use Rattle.std.specs.Prelude.{Contains}
 use Rattle.std.proofs.Math.ListN.{length-set}
@@ -64,7 +64,7 @@ ops_alike leads one tells layout a b rank alike =
     let beyond = beyond_alike tells a b rank alike (ap length events) in
     λ i. ops_by layout rank (beyond i) (events i)
 
--- ---- the facts of a segment
+-- ---- the facts of a piece
 
 -- the facts of a rank's events are of that rank
 of_rank : (rank place : ℕ) (events : List Event) (i : ℕ) (fact : Fact) → i < length (facts_from rank place events) → get_or (facts_from rank place events) i fact ≡ fact → fact.rank ≡ rank
@@ -81,32 +81,32 @@ join_none : (known other : Option Known) → other ≡ None → join_cell known 
 join_none None other e = e
 join_none (Some known) other e = rw e refl
 
--- of other ranks a segment tells nothing
-alike_elsewhere : JoinsCells → ShowsFacts → (know : View) (segment : PlacedEvents) (rank : ℕ) → rank ≢ segment.rank → KnowsAlike (join know (view_of (facts_of segment))) know rank
-alike_elsewhere joins shows know segment rank other place =
-    let facts = facts_of segment in
+-- of other ranks a piece tells nothing
+alike_elsewhere : JoinsCells → ShowsFacts → (know : View) (piece : PlacedEvents) (rank : ℕ) → rank ≢ piece.rank → KnowsAlike (join know (view_of (facts_of piece))) know rank
+alike_elsewhere joins shows know piece rank other place =
+    let facts = facts_of piece in
     joins know (view_of facts) rank place
     ∙ join_none (cell know rank place) (cell (view_of facts) rank place)
     (none_at facts rank place (cell (view_of facts) rank place) (shows facts rank place)
-    (λ fact among e. other (sym e ∙ of_rank segment.rank segment.first_place segment.events among.0 fact among.1 among.2)))
+    (λ fact among e. other (sym e ∙ of_rank piece.rank piece.first_place piece.events among.0 fact among.1 among.2)))
 
 same_or_not : (m n : ℕ) → (m ≡ n) ⊎ (m ≢ n)
 same_or_not m n = ⊎_elim (λ (e : m ≡ n). inl e) (⊎_elim (λ (lt : m < n). inr (λ e. omega (arith, e, lt))) (λ (lt : n < m). inr (λ e. omega (arith, e, lt)))) (cases_order m n)
 
-module _ (joins : JoinsCells) (shows : ShowsFacts) (leads : LeadsEvents) (one : HasOneList) (tells : TellsBeyond) (layout : Parts) (know new : View) (segment : PlacedEvents) (is : new ≡ join know (view_of (facts_of segment))) where
+module _ (joins : JoinsCells) (shows : ShowsFacts) (leads : LeadsEvents) (one : HasOneList) (tells : TellsBeyond) (layout : Parts) (know new : View) (piece : PlacedEvents) (is : new ≡ join know (view_of (facts_of piece))) where
   at : (view : View) (rank : ℕ) → rank < layout.ranks → get_or (all_ops layout view) rank no_ops ≡ ops_of layout view rank
   at view rank lt = get_or-map-range_with_len (ops_of layout view) 0 layout.ranks rank rank no_ops lt (zero-add rank)
 
-  elsewhere : (rank : ℕ) → rank ≢ segment.rank → ops_of layout know rank ≡ ops_of layout new rank
+  elsewhere : (rank : ℕ) → rank ≢ piece.rank → ops_of layout know rank ≡ ops_of layout new rank
   elsewhere rank other =
       sym (ap (λ (v : View). ops_of layout v rank) is
-      ∙ ops_alike leads one tells layout (join know (view_of (facts_of segment))) know rank (alike_elsewhere joins shows know segment rank other))
+      ∙ ops_alike leads one tells layout (join know (view_of (facts_of piece))) know rank (alike_elsewhere joins shows know piece rank other))
 
   wide : (view : View) → length (all_ops layout view) ≡ layout.ranks
   wide view = length-map-range_with_len (ops_of layout view) 0 layout.ranks
 
-  -- once the segment's rank is followed, all ranks are
-  pub followed_all : (own : ℕ) (ops : Ops) → own ≡ segment.rank → own < layout.ranks → ops ≡ ops_of layout new own → set (all_ops layout know) own ops ≡ all_ops layout new
+  -- once the piece's rank is followed, all ranks are
+  pub followed_all : (own : ℕ) (ops : Ops) → own ≡ piece.rank → own < layout.ranks → ops ≡ ops_of layout new own → set (all_ops layout know) own ops ≡ all_ops layout new
   followed_all own ops is_own lt did =
       let old = all_ops layout know in
       ext_get_or no_ops (set old own ops) (all_ops layout new) (length-set old own ops ∙ wide know ∙ sym (wide new)) (λ rank below.
@@ -118,8 +118,8 @@ module _ (joins : JoinsCells) (shows : ShowsFacts) (leads : LeadsEvents) (one : 
       (λ (other : rank ≢ own). get_or-set_other old own rank ops no_ops other ∙ at know rank here ∙ elsewhere rank (λ e. other (e ∙ sym is_own)) ∙ sym (at new rank here))
       (same_or_not rank own))
 
-  -- a segment of no rank of the layout changes no rank's ops
-  pub followed_none : (own : ℕ) → own ≡ segment.rank → layout.ranks ≤ own → all_ops layout know ≡ all_ops layout new
+  -- a piece of no rank of the layout changes no rank's ops
+  pub followed_none : (own : ℕ) → own ≡ piece.rank → layout.ranks ≤ own → all_ops layout know ≡ all_ops layout new
   followed_none own is_own ge =
       ext_get_or no_ops (all_ops layout know) (all_ops layout new) (wide know ∙ sym (wide new)) (λ rank below.
       let here : rank < layout.ranks = omega (arith, below, wide know) in

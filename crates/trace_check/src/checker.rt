@@ -1,4 +1,4 @@
-//! What is checked of a run: from its segments to the two lines.
+//! What is checked of a run: from its pieces to the two lines.
 
 ghost use Rattle.std.specs.Prelude.{◌≡◌, ◌<◌, ◌^◌, ℕ, true, IfOk, length, map, string_bytes};
 ghost use Rattle.std.specs.FinMap.{empty};
@@ -13,13 +13,13 @@ use crate::lines::check_lines;
 use mpi_model::Layout;
 use std::alloc::{AllocError, Global};
 use std::marker::Model;
-use trace_know::{Knowledge, ReadySegment, join_laws, prefix_laws, view_laws};
+use trace_know::{Knowledge, ReadyPiece, join_laws, prefix_laws, view_laws};
 use trace_ops::{RankOps, State, all_ops, ops_laws, ops_of};
 use trace_pair::{PairIndex, PairTable, pair_all};
 use trace_stuck::stuck;
 use trace_wait::{conditions, rounds};
 
-/// All that is known of the run of a layout, and an index of its pairs that follows it segment by segment.
+/// All that is known of the run of a layout, and an index of its pairs that follows it piece by piece.
 #[derive(Drop)]
 pub struct Checker<'a> {
     alloc: Global,
@@ -59,18 +59,18 @@ impl<'a> Checker<'a> {
         })
     }
 
-    /// The checker once it has read a segment: its facts are joined, and the index follows its rank, where
+    /// The checker once it has read a piece: its facts are joined, and the index follows its rank, where
     /// the layout has that.
-    pub fn reading(self, segment: ReadySegment) -> Result<Checker<'a>, AllocError>
-        ensures { IfOk result (λ c. c ≡ held self.entry.layout (join self.entry.know (view_of (facts_of segment)))) }
+    pub fn reading(self, piece: ReadyPiece) -> Result<Checker<'a>, AllocError>
+        ensures { IfOk result (λ c. c ≡ held self.entry.layout (join self.entry.know (view_of (facts_of piece)))) }
     {
         ops_laws();
         join_laws();
         view_laws();
         prefix_laws();
-        let (alloc, layout, rank) = (self.alloc, self.layout, segment.rank());
+        let (alloc, layout, rank) = (self.alloc, self.layout, piece.rank());
         let mut know = self.know;
-        know.take_ready(segment)?;
+        know.take_piece(piece)?;
         let mut index = self.index;
         if rank < layout.ranks() {
             index.set(rank, ops_of(alloc, layout, &know, rank)?)?;

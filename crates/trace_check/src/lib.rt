@@ -2,17 +2,17 @@
 //!
 //! A report's pairs are made by one pass over all calls, or by an index that follows the ranks; who is
 //! stuck, by a queue of released ranks. All are proved to keep to the rules. A [`Checker`] doesn't lean on
-//! that: it reads the same segments, holds the index against the pass
+//! that: it reads the same pieces, holds the index against the pass
 //! ([`pair_all`](trace_pair::pair_all)), and looks at each stuck and each released rank by itself
 //! ([`Checker::lines`]). So who trusts no proof can see on a trace of their own that both ways to the pairs
 //! give the same, and that the two checks of `trace_stuck` accept the verdict.
 //!
-//! Cost: a segment costs one pass over all calls of its rank; n ranks whose conditions have c parts
+//! Cost: a piece costs one pass over all calls of its rank; n ranks whose conditions have c parts
 //! n (n + c) steps.
 //!
 //! - [`tables`]: whether two tables of pairs are the same; [`verdict`]: whether a verdict is right
 //! - [`lines`]: the two lines that say so
-//! - [`checker`]: what is checked, from segments to these lines
+//! - [`checker`]: what is checked, from pieces to these lines
 //!
 //! Its tests are in `tests/cases/`, which the built program runs, and `tests/run_storms`.
 #![tactic(auto)]

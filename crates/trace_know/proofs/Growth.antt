@@ -7,7 +7,7 @@ use Rattle.trace_know.specs.Cell.{IsAtMost}
 use Rattle.trace_know.specs.Prefix.{IsLeading, BeginsWith, enters_unread, readable_of, readable_at, events_of, prefix_of}
 use Rattle.trace_know.specs.View.{View, IsBelow, cell}
 use Rattle.trace_know.proofs.Leading.{later}
-use Rattle.trace_know.proofs.Readable.{events_of-IsLeading}
+use Rattle.trace_know.proofs.Prefixes.{events_of-IsLeading}
 
 -- of lists that agree where both have something the longer begins with the shorter
 longer_begins : (at to : ℕ → Option Event) (xs ys : List Event) → IsLeading at xs → IsLeading to ys → ((i : ℕ) (x y : Event) → at i ≡ Some x → to i ≡ Some y → x ≡ y) → length xs ≤ length ys → BeginsWith ys xs

@@ -1,5 +1,5 @@
 -- What a test gives from 0 on, up to the first nothing.
-use Rattle.std.proofs.Common.{◌≡◌, ℕ, zero, suc, ◌<◌, ◌≤◌, Option, Some, None, List, [], ◌∷◌, ◌++◌, length, refl, sym, subst, ◌∙◌, ◌⊎◌, inl, inr, arith}
+use Rattle.std.proofs.Common.{◌≡◌, ℕ, zero, suc, ◌<◌, ◌≤◌, Option, Some, None, List, [], ◌∷◌, length, refl, sym, subst, ◌∙◌, ◌⊎◌, inl, inr, arith}
 use Rattle.std.specs.Prelude.{IsSome}
 use Rattle.std.specs.List.{slice_get}
 use Rattle.std.proofs.lemmas.Bool.{cases_lt}
@@ -67,10 +67,3 @@ length_of_leading at xs h m all none = elim (cases_lt m (length xs)) [
   | inl lt ↦ absurd (not_some (at m) none (some_within at xs h m lt))
   | inr le ↦ let k : m ≤ length xs = greatest_leading at xs h m all in omega arith
 ]
-
--- one element more
-pub push_each : {X : Type 0} (at : ℕ → Option X) (xs : List X) (x : X) → ((i : ℕ) → i < length xs → at i ≡ slice_get xs i) → at (length xs) ≡ Some x → (i : ℕ) → i < length (xs ++ x ∷ []) → at i ≡ slice_get (xs ++ x ∷ []) i
-push_each at [] x each here zero l = here
-push_each at [] x each here (suc i) l = absurd (omega arith)
-push_each at (y ∷ ys) x each here zero l = each zero (omega arith)
-push_each at (y ∷ ys) x each here (suc i) l = push_each (λ k. at (suc k)) ys x (λ k b. each (suc k) (omega arith)) here i (omega arith)

@@ -6,7 +6,7 @@ pub mod Facts
 pub mod Kept
 pub mod Placed
 pub mod Leading
-pub mod Readable
+pub mod Prefixes
 pub mod Growth
 pub mod Counts
 pub mod Rows
@@ -19,6 +19,7 @@ pub mod Listing
 pub mod Walks
 pub mod Holding
 pub mod Fronts
+pub mod SoundCells
 pub mod Alike
 pub mod Behind
 pub mod Below

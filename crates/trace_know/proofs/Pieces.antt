@@ -5,13 +5,13 @@ use Rattle.trace_know.specs.declared.cell.Known.{Known}
 use Rattle.trace_know.specs.declared.cell.Known.TheVariants.{One, Contradiction}
 use Rattle.trace_know.specs.declared.run.Run.{Run}
 use Rattle.trace_know.specs.Placed.{IsKnowledge}
-use Rattle.trace_know.specs.Ready.{AreEvents, IsReady, events_among, segment_in}
+use Rattle.trace_know.specs.Ready.{AreEvents, IsReady, IsReadyPiece, events_among, segment_in}
 use Rattle.trace_know.specs.Runs.{of_run, IsAlike, IsCounted, IsFilled, conflicts_among, sound_among}
-use Rattle.trace_know.specs.Segment.{PlacedEvents, IsSegment}
+use Rattle.trace_know.specs.Segment.{PlacedEvents, IsPiece, IsSegment}
 use Rattle.trace_know.specs.Trace.{facts_of, view_of}
 use Rattle.trace_know.proofs.Counts.{conflicts-events, length-ones, ones_behind}
 use Rattle.trace_know.proofs.Order.{counted-alike}
-use Rattle.trace_know.proofs.Placed.{segment-IsKnowledge}
+use Rattle.trace_know.proofs.Placed.{piece-IsKnowledge, segment-IsKnowledge, segment-piece}
 use Rattle.trace_know.proofs.Rows.{run-facts}
 
 -- cells that are all one event have just these events
@@ -45,6 +45,38 @@ ready-facts run ready = run-facts run (segment_in run) refl refl ready.whole
 
 pub ready-placed : (run : Run) → IsReady run → IsKnowledge (of_run run)
 ready-placed run ready = subst IsKnowledge (sym (ready-facts run ready)) (segment-IsKnowledge (segment_in run) ready.segment)
+
+-- ---- a piece whole
+
+pub segment-ready : (run : Run) → IsReady run → IsReadyPiece run
+segment-ready run ready = record { whole = ready.whole; counted = ready.counted; piece = segment-piece (segment_in run) ready.segment }
+
+-- a run of the events of a piece is ready
+pub run-piece : (run : Run) (piece : PlacedEvents) → IsPiece piece → run.rank ≡ piece.rank → run.first ≡ piece.first_place → run.cells.items ≡ map (λ e. One e) piece.events → IsCounted run → IsReadyPiece run
+run-piece run piece is rank first cells counted =
+    let same = segment-of-run run piece rank first cells in
+    let events : piece.events ≡ events_among run.cells.items = sym (ap events_among cells ∙ events-ones piece.events) in
+    record {
+      whole = cells ∙ ap (λ (es : List Event). map {B = Known} (λ e. One e) es) events;
+      counted = counted;
+      piece = subst IsPiece (sym same) is;
+    }
+
+pub piece-filled : (run : Run) → IsReadyPiece run → IsFilled run
+piece-filled run ready =
+    let lengths : length run.cells.items ≡ length (events_among run.cells.items) = ap length ready.whole ∙ length-ones (events_among run.cells.items) in
+    record { some = omega (arith, ready.piece.some); places = omega (arith, ready.piece.places); counted = ready.counted }
+
+pub piece-facts : (run : Run) → IsReadyPiece run → of_run run ≡ view_of (facts_of (segment_in run))
+piece-facts run ready = run-facts run (segment_in run) refl refl ready.whole
+
+pub piece-placed : (run : Run) → IsReadyPiece run → IsKnowledge (of_run run)
+piece-placed run ready = subst IsKnowledge (sym (piece-facts run ready)) (piece-IsKnowledge (segment_in run) ready.piece)
+
+pub alike-piece : (a b : Run) → IsAlike a b → IsReadyPiece b → IsReadyPiece a
+alike-piece a b same ready = run-piece a (segment_in b) ready.piece same.rank same.first (same.cells ∙ ready.whole) (counted-alike a b same ready.counted)
+
+-- ---- a segment
 
 pub ready-sound : (run : Run) → IsReady run → conflicts_among run.cells.items ≡ 0
 ready-sound run ready = ap conflicts_among ready.whole ∙ conflicts-events (events_among run.cells.items)

@@ -14,3 +14,4 @@ pub mod Patches
 pub mod Ready
 pub mod Chunks
 pub mod Lent
+pub mod Readable

@@ -1,4 +1,4 @@
-//! Segments that come in any order, joined in the order of their places.
+//! Pieces that come in any order, joined in the order of their places.
 
 ghost use Rattle.std.specs.Prelude.{◌≡◌, IfOk};
 ghost use Rattle.std.specs.FinMap.{empty};
@@ -7,18 +7,18 @@ ghost use Rattle.trace_know.specs.Trace.{facts_of, facts_of_all, view_of};
 ghost use Rattle.trace_know.specs.View.{join};
 
 use crate::knowledge::Knowledge;
-use crate::ready::ReadySegment;
+use crate::ready_piece::ReadyPiece;
 use std::alloc::{AllocError, Global};
 use std::marker::Model;
 
 /// As long as fewer events are held back, they wait for more.
 const FEW_EVENTS: usize = 131_072;
 
-/// How many events a segment has on average where joining them in any order is cheap.
-const LONG_SEGMENT: usize = 1_024;
+/// How many events a piece has on average where joining them in any order is cheap.
+const LONG_PIECE: usize = 1_024;
 
-/// What segments tell together, whatever order they come in. They are held back and joined in the order
-/// of their places, so that each goes to the end of what is known: a million short segments cost the
+/// What pieces tell together, whatever order they come in. They are held back and joined in the order
+/// of their places, so that each goes to the end of what is known: a million short pieces cost the
 /// sorting, where [`Knowledge::take`] moves pointers for each new run among others. Long ones are
 /// joined once a hundred thousand events are held.
 ///
@@ -27,7 +27,7 @@ const LONG_SEGMENT: usize = 1_024;
 pub struct Gathering {
     alloc: Global,
     know: Knowledge,
-    held: Vec<ReadySegment>,
+    held: Vec<ReadyPiece>,
     /// How many events are held, as far as they can be counted.
     events: usize,
 }
@@ -59,11 +59,11 @@ impl Gathering {
         }
     }
 
-    /// The gathering once it has read one segment more.
-    pub fn reading(self, segment: ReadySegment) -> Result<Gathering, AllocError>
-        ensures { IfOk result (λ g. g ≡ join self (view_of (facts_of segment))) }
+    /// The gathering once it has read one piece more.
+    pub fn reading(self, piece: ReadyPiece) -> Result<Gathering, AllocError>
+        ensures { IfOk result (λ g. g ≡ join self (view_of (facts_of piece))) }
     {
-        let more = self.holding(segment)?;
+        let more = self.holding(piece)?;
         if more.is_due() {
             return more.joined();
         }
@@ -77,13 +77,13 @@ impl Gathering {
         join_all(self.know, self.held)
     }
 
-    /// Holds one segment more.
-    fn holding(self, segment: ReadySegment) -> Result<Gathering, AllocError>
-        ensures { IfOk result (λ g. g ≡ join self (view_of (facts_of segment))) }
+    /// Holds one piece more.
+    fn holding(self, piece: ReadyPiece) -> Result<Gathering, AllocError>
+        ensures { IfOk result (λ g. g ≡ join self (view_of (facts_of piece))) }
     {
-        let events = self.events.saturating_add(segment.count());
+        let events = self.events.saturating_add(piece.count());
         let mut held = self.held;
-        held.push(segment)?;
+        held.push(piece)?;
         Ok(Gathering {
             alloc: self.alloc,
             know: self.know,
@@ -92,9 +92,9 @@ impl Gathering {
         })
     }
 
-    /// Whether many events are held, in segments that are long on average.
+    /// Whether many events are held, in pieces that are long on average.
     fn is_due(&self) -> bool {
-        self.events >= FEW_EVENTS && self.events / LONG_SEGMENT >= self.held.len()
+        self.events >= FEW_EVENTS && self.events / LONG_PIECE >= self.held.len()
     }
 
     /// The same with nothing held.
@@ -111,30 +111,30 @@ impl Gathering {
     }
 }
 
-/// What is known with these segments, which are joined in the order of their places.
-fn join_all(know: Knowledge, segments: Vec<ReadySegment>) -> Result<Knowledge, AllocError>
-    ensures { IfOk result (λ all. all ≡ join know (view_of (facts_of_all segments.items))) }
+/// What is known with these pieces, which are joined in the order of their places.
+fn join_all(know: Knowledge, pieces: Vec<ReadyPiece>) -> Result<Knowledge, AllocError>
+    ensures { IfOk result (λ all. all ≡ join know (view_of (facts_of_all pieces.items))) }
 {
-    let sorted = by_place(segments)?;
+    let sorted = by_place(pieces)?;
     join_each(know, sorted)
 }
 
-/// The segments in the order of their ranks and first places.
-fn by_place(segments: Vec<ReadySegment>) -> Result<Vec<ReadySegment>, AllocError>
-    ensures { IfOk result (λ sorted. IsPermutation segments.items sorted.items) }
+/// The pieces in the order of their ranks and first places.
+fn by_place(pieces: Vec<ReadyPiece>) -> Result<Vec<ReadyPiece>, AllocError>
+    ensures { IfOk result (λ sorted. IsPermutation pieces.items sorted.items) }
 {
-    let mut sorted = segments;
-    sorted.sort_by_key(|segment| (segment.rank(), segment.first_place()))?;
+    let mut sorted = pieces;
+    sorted.sort_by_key(|piece| (piece.rank(), piece.first_place()))?;
     Ok(sorted)
 }
 
-/// What is known with these segments, one after another.
-fn join_each(know: Knowledge, segments: Vec<ReadySegment>) -> Result<Knowledge, AllocError>
-    ensures { IfOk result (λ all. all ≡ join know (view_of (facts_of_all segments.items))) }
+/// What is known with these pieces, one after another.
+fn join_each(know: Knowledge, pieces: Vec<ReadyPiece>) -> Result<Knowledge, AllocError>
+    ensures { IfOk result (λ all. all ≡ join know (view_of (facts_of_all pieces.items))) }
 {
     let mut all = know;
-    for segment in segments {
-        all.take_ready(segment)?;
+    for piece in pieces {
+        all.take_piece(piece)?;
     }
     Ok(all)
 }

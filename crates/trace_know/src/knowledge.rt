@@ -18,11 +18,13 @@ use crate::cell::{Cell, Known, cell_of, known_of};
 use crate::compare::{holds_all, same_cells};
 use crate::copies::{boxed_copy, copies_of};
 use crate::patches::join_runs;
+use crate::readable::Readable;
 use crate::readers::{
     any_from, cell_in, conflict_in, conflict_places_in, count_cells, count_conflicts, is_unread_in,
     known_in, prefix_in, readable_in,
 };
 use crate::ready::{ReadySegment, piece_of};
+use crate::ready_piece::ReadyPiece;
 use crate::run::{run_of, run_of_cells};
 use crate::run_list::RunList;
 use crate::runs::{take_cell, take_or_return};
@@ -128,6 +130,21 @@ impl Knowledge {
             Ok(()) => Ok(()),
             Err(piece) => Err(AllocFailed {
                 value: ReadySegment::of_piece(piece),
+            }),
+        }
+    }
+
+    /// Joins the facts of a piece that stands ready, as [`take_ready`](Self::take_ready) does those of a segment. Without
+    /// memory nothing changes, and the piece comes back.
+    pub fn take_piece(&mut self, piece: ReadyPiece) -> Result<(), AllocFailed<ReadyPiece>>
+        ensures ok { OnOk result (self.new ≡ join self.old (view_of (facts_of piece))) }
+        ensures err { OnErr result (self.new ≡ self.old) }
+        ensures back { IfErr result (λ refused. refused.value ≡ piece) }
+    {
+        match self.join_piece(piece.into_run()) {
+            Ok(()) => Ok(()),
+            Err(run) => Err(AllocFailed {
+                value: ReadyPiece::of_run(run),
             }),
         }
     }
@@ -315,11 +332,11 @@ impl Knowledge {
         is_unread_in(&self.runs, rank)
     }
 
-    /// The events below the readable prefix of a rank, in order.
-    pub fn readable(&self, alloc: Global, rank: u32) -> Result<Vec<&Event>, AllocError>
-        ensures { IfOk result (λ events. map (λ e. e.now) events.items ≡ events_of self.now rank) }
+    /// The events below the readable prefix of a rank, in order. It takes no memory: they are read where they stand.
+    pub fn readable(&self, rank: u32) -> Readable<'_>
+        ensures { result ≡ events_of self.now rank }
     {
-        readable_in(alloc, &self.runs, rank)
+        readable_in(&self.runs, rank)
     }
 
     /// Whether both know the same of each place, times included.

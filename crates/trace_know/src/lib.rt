@@ -18,7 +18,8 @@
 //! - [`run`]: cells of one rank without a gap; [`boxed`]: a run in memory of its own; [`runs`]: such
 //!   runs in their order; [`run_list`]: the list that they stand in, [`chunks`]: what it is cut into;
 //!   [`copies`]: of runs; [`patches`]: joins of whole lists of runs
-//! - [`readers`]: what runs tell; [`walk`]: their cells one after another; [`compare`]: by walks
+//! - [`readers`]: what runs tell; [`readable`]: the readable events of a rank; [`walk`]: all cells one after another;
+//!   [`compare`]: by walks
 //! - [`knowledge`]: all that is known; [`gathering`]: segments that come in any order
 //! - [`laws`]: what holds of joins and views, as contracts of calls that do nothing
 //!
@@ -34,8 +35,10 @@ mod gathering;
 mod knowledge;
 mod laws;
 mod patches;
+mod readable;
 mod readers;
 mod ready;
+mod ready_piece;
 mod run;
 mod run_list;
 mod runs;
@@ -46,6 +49,8 @@ pub use cell::{Cell, Known};
 pub use gathering::Gathering;
 pub use knowledge::Knowledge;
 pub use laws::{growth_laws, join_laws, listing_laws, prefix_laws, view_laws};
+pub use readable::Readable;
 pub use ready::{ReadyEvents, ReadySegment};
+pub use ready_piece::ReadyPiece;
 pub use segment::{MOST_EVENTS, PLACES, Segment, SegmentFault};
 pub use walk::Walk;

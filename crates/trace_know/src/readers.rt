@@ -11,11 +11,11 @@ ghost use Rattle.trace_know.specs.Runs.{Above, IsFilled, IsFront, cells_of_run, 
 
 use crate::boxed::BoxedRun;
 use crate::cell::{Known, enters_unread};
+use crate::readable::Readable;
 use crate::run::Run;
 use crate::run_list::RunList;
 use crate::runs::{first_at, known_at};
 use crate::segment::PLACES;
-use mpi_model::Event;
 use std::alloc::{AllocError, Global};
 
 /// How many cells there are.
@@ -88,17 +88,6 @@ pub(crate) fn prefix_in(runs: &RunList, rank: u32) -> u64
     }
 }
 
-/// The event that is readable of the cell at an index.
-fn event_in(run: &BoxedRun, i: usize) -> Option<&Event>
-    ensures event { option_copied result ≡ readable_of (slice_get run.now.cells.items i) }
-    ensures range { IsSome result → i < deque_len run.now.cells }
-{
-    match run.get().cells.get(i) {
-        Some(Known::One(event)) if !enters_unread(event) => Some(event),
-        _ => None,
-    }
-}
-
 /// Whether the cell at an index has one event, the Enter of an unread call.
 fn is_unread_at(run: &BoxedRun, i: usize) -> bool
     ensures { result ≡ is_unread_enter (event_of (slice_get run.now.cells.items i)) }
@@ -110,22 +99,14 @@ fn is_unread_at(run: &BoxedRun, i: usize) -> bool
 }
 
 /// The events below the readable prefix of a rank.
-pub(crate) fn readable_in(
-    alloc: Global,
-    runs: &RunList,
-    rank: u32,
-) -> Result<Vec<&Event>, AllocError>
+pub(crate) fn readable_in(runs: &RunList, rank: u32) -> Readable<'_>
     requires { Above 0 runs.now.items }
-    ensures { IfOk result (λ events. map (λ e. e.now) events.items ≡ events_of (of_runs runs.now.items) rank) }
+    ensures { result ≡ events_of (of_runs runs.now.items) rank }
 {
-    let Some(run) = front_run(runs, rank) else {
-        return Ok(Vec::new(alloc));
-    };
-    let mut events = Vec::with_capacity(alloc, run.sound())?;
-    while let Some(event) = event_in(run, events.len()) {
-        events.push(event)?;
+    match front_run(runs, rank) {
+        Some(run) => Readable::of_run(run.get()),
+        None => Readable::nothing(),
     }
-    Ok(events)
 }
 
 /// Whether the readable prefix of a rank ends at the Enter of an unread call.

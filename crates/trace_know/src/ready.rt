@@ -10,7 +10,8 @@ ghost use Rattle.trace_know.specs.Segment.{IsSegment, alternate, enter_place, pl
 use crate::boxed::BoxedRun;
 use crate::cell::{Known, enters_unread};
 use crate::copies::boxed_copy;
-use crate::run::{run_of_events, run_with_room};
+use crate::ready_piece::ReadyPiece;
+use crate::run::{give_back, run_of_events, run_with_room};
 use crate::segment::Segment;
 use mpi_model::Event;
 use std::alloc::{AllocError, AllocFailed, Global};
@@ -120,8 +121,8 @@ impl ReadySegment {
     }
 }
 
-/// Events that are to be a segment, each put where it stands in what is known: they become a [`ReadySegment`], and none
-/// is moved.
+/// Events that are to be a segment or a piece, each put where it stands in what is known: they become a [`ReadySegment`]
+/// or a [`ReadyPiece`], and none is moved.
 ///
 /// In a contract they are their list.
 #[derive(Debug, Drop)]
@@ -210,6 +211,30 @@ impl ReadyEvents {
         Ok(ReadySegment {
             piece: BoxedRun::new(alloc, run)?,
         })
+    }
+
+    /// The piece of these events, ready, from the Enter of its call `first_call` on, however many there are. No event is
+    /// moved.
+    pub fn into_piece(self, rank: u32, first_call: u64) -> Result<ReadyPiece, AllocError>
+        requires some { 0 < length self }
+        requires places { enter_place first_call + length self ≤ PLACES }
+        requires halves { alternate true self ≡ true }
+        ensures { IfOk result (λ ready. ready ≡ record { rank = rank; first_place = enter_place first_call; events = self }) }
+    {
+        let alloc = self.allocator();
+        let whole = run_of_events(rank, 2 * first_call, self.cells, self.sound);
+        let run = BoxedRun::new(alloc, whole)?;
+        Ok(ReadyPiece::of_run(run))
+    }
+
+    /// The events in a list, each of which is moved.
+    pub fn into_events(self) -> Result<Vec<Event>, AllocError>
+        ensures { IfOk result (λ events. events.items ≡ self) }
+    {
+        let mut events = Vec::with_capacity(self.allocator(), self.cells.len())?;
+        let run = run_of_events(0, 0, self.cells, self.sound);
+        give_back(run, &mut events);
+        Ok(events)
     }
 }
 

@@ -1,5 +1,5 @@
 -- Before a rank's steps are gone through nothing is gathered.
-use Rattle.std.proofs.Common.{◌≡◌, ℕ, Bool, false, List, [], drop, take, length, reverse, sym, subst, ap}
+use Rattle.std.proofs.Common.{◌≡◌, ℕ, false, List, [], drop, take, length, reverse, sym, subst, ap}
 use Rattle.std.specs.Prelude.{ℤ, Option, None, is_some}
 use Rattle.std.proofs.lemmas.List.{drop_all}
 use Rattle.std.proofs.Common.{arith}
@@ -9,7 +9,7 @@ use Rattle.trace_ops.specs.declared.touched.Touch.{Touch}
 use Rattle.trace_ops.specs.Calls.{Entry}
 use Rattle.trace_ops.specs.Gathered.{IsGathered}
 use Rattle.trace_ops.specs.Source.{told_in}
-use Rattle.trace_ops.specs.Steps.{Step, steps_from}
+use Rattle.trace_ops.specs.Steps.{steps_from}
 use Rattle.trace_ops.specs.Tables.{kept_of}
 use Rattle.trace_ops.specs.Touched.{Follows, end_of, ended_at, is_marked, is_void_end, tellings_of}
 

@@ -1,8 +1,8 @@
 -- One element more of a list that is gone through.
-use Rattle.std.proofs.Common.{◌≡◌, ℕ, zero, suc, ◌+◌, ◌*◌, ◌/◌, ◌%◌, ◌<◌, List, [], ◌∷◌, ◌++◌, map, take, get_or, length, reverse, refl, sym, ◌∙◌, ap, arith, Bor}
+use Rattle.std.proofs.Common.{◌≡◌, ℕ, zero, suc, ◌+◌, ◌*◌, ◌/◌, ◌%◌, ◌<◌, List, [], ◌∷◌, ◌++◌, take, get_or, length, reverse, refl, sym, ◌∙◌, ap, arith}
 use Rattle.std.specs.Prelude.{Bool, true, false, if◌then◌else◌, filter, Option, Some, None, slice_get}
 use Rattle.std.specs.List.{filter_map, cons_option}
-use Rattle.std.specs.Option.{option_and_then, option_map}
+use Rattle.std.specs.Option.{option_and_then}
 use Rattle.std.proofs.lemmas.List.{take_more, reverse-append, append-nil}
 use Rattle.std.proofs.lemmas.List.Elements.{filter_map-append}
 use Rattle.mpi_model.specs.declared.event.Event.{Event}
@@ -10,22 +10,22 @@ use Rattle.trace_ops.specs.Calls.{call_of, outs_of, calls_of}
 use Rattle.trace_ops.specs.Steps.{Step}
 
 -- the call at a place, by the events at its places
-pub call_placed : (es : List (Bor Event)) (n k : ℕ) (e : Bor Event) → k ≡ 2 * n → k < length es → e ≡ get_or es k e →
-    slice_get (calls_of (map (λ e. e.now) es)) n ≡ Some (record { call = call_of e.now; outs = option_and_then outs_of (option_map (λ e. e.now) (slice_get es (k + 1))) })
-call_placed [] n k e two lt at = absurd (omega (arith, lt))
-call_placed (x ∷ []) zero zero e two lt at = rw at refl
-call_placed (x ∷ []) (suc n) zero e two lt at = absurd (omega (arith, two))
-call_placed (x ∷ []) n (suc k) e two lt at = absurd (omega (arith, lt))
-call_placed (x ∷ y ∷ es) zero zero e two lt at = rw at refl
-call_placed (x ∷ y ∷ es) (suc n) zero e two lt at = absurd (omega (arith, two))
-call_placed (x ∷ y ∷ es) zero (suc k) e two lt at = absurd (omega (arith, two))
-call_placed (x ∷ y ∷ es) (suc n) (suc zero) e two lt at = absurd (omega (arith, two))
-call_placed (x ∷ y ∷ es) (suc n) (suc (suc k)) e two lt at =
+pub call_placed : (es : List Event) (n k : ℕ) (e : Event) → k ≡ 2 * n → slice_get es k ≡ Some e →
+    slice_get (calls_of es) n ≡ Some (record { call = call_of e; outs = option_and_then outs_of (slice_get es (k + 1)) })
+call_placed [] n k e two at = absurd cc
+call_placed (x ∷ []) zero zero e two at = let same : x ≡ e = cc in rw same refl
+call_placed (x ∷ []) (suc n) zero e two at = absurd (omega (arith, two))
+call_placed (x ∷ []) n (suc k) e two at = absurd cc
+call_placed (x ∷ y ∷ es) zero zero e two at = let same : x ≡ e = cc in rw same refl
+call_placed (x ∷ y ∷ es) (suc n) zero e two at = absurd (omega (arith, two))
+call_placed (x ∷ y ∷ es) zero (suc k) e two at = absurd (omega (arith, two))
+call_placed (x ∷ y ∷ es) (suc n) (suc zero) e two at = absurd (omega (arith, two))
+call_placed (x ∷ y ∷ es) (suc n) (suc (suc k)) e two at =
     let m : suc (suc k) + 1 ≡ suc (suc (k + 1)) = omega arith in
-    rw m (call_placed es n k e (omega (arith, two)) (omega (arith, lt)) at)
+    rw m (call_placed es n k e (omega (arith, two)) at)
 
 -- how many calls there are
-pub calls_count : (es : List (Bor Event)) → length (calls_of (map (λ e. e.now) es)) ≡ length es / 2 + length es % 2
+pub calls_count : (es : List Event) → length (calls_of es) ≡ length es / 2 + length es % 2
 calls_count [] = refl
 calls_count (x ∷ []) = refl
 calls_count (x ∷ y ∷ es) = let more = calls_count es in omega (arith, more)

@@ -1,6 +1,5 @@
 -- The calls of a rank, as its readable events tell them.
-use Rattle.std.specs.Prelude.{◌≡◌, ℕ, Option, Some, None, List, [], ◌∷◌, map, slice_get}
-use denote.Ref.{Bor}
+use Rattle.std.specs.Prelude.{◌≡◌, ℕ, Option, Some, None, List, [], ◌∷◌, slice_get}
 use Rattle.mpi_model.specs.declared.call.Call.{Call}
 use Rattle.mpi_model.specs.declared.call.Call.TheVariants.{Local}
 use Rattle.mpi_model.specs.declared.outcome.Outs.{Outs}
@@ -15,6 +14,10 @@ pub record Entry : Type 0 where
 -- This is the call at a place.
 abbrev pub IsCallAt : List Entry → ℕ → Entry → Type 0
 IsCallAt calls n c = slice_get calls n ≡ Some c
+
+-- This call was entered at a place, whatever its outcome.
+abbrev pub IsEnteredAt : List Entry → ℕ → Call → Type 0
+IsEnteredAt calls n call = (c : Entry) × IsCallAt calls n c × (c.call ≡ call)
 
 -- the call of an Enter (an event at an even place is one)
 abbrev pub call_of : Event → Call
@@ -31,7 +34,3 @@ abbrev pub calls_of : List Event → List Entry
 calls_of [] = []
 calls_of (enter ∷ []) = record { call = call_of enter; outs = None } ∷ []
 calls_of (enter ∷ exit ∷ events) = record { call = call_of enter; outs = outs_of exit } ∷ calls_of events
-
--- the same of events that are lent
-abbrev pub calls_in : List (Bor Event) → List Entry
-calls_in events = calls_of (map (λ e. e.now) events)

@@ -3,7 +3,7 @@ use Rattle.std.specs.Prelude.{◌≡◌, ℕ, ℤ, Bool, ◌||◌, if◌then◌e
 use Rattle.std.specs.Option.{option_map}
 use Rattle.mpi_model.specs.declared.call.Call.{Call}
 use Rattle.trace_ops.specs.declared.held.Init.{Init as Lent}
-use Rattle.trace_ops.specs.Calls.{Entry}
+use Rattle.trace_ops.specs.Calls.{Entry, IsCallAt}
 use Rattle.trace_ops.specs.Request.{freed_of, given_of, is_init, is_posted, started_by}
 
 -- an init that has returned: its call, with its number
@@ -37,6 +37,10 @@ Holds before kept = (x : ℤ) → option_map plain_init (kept x) ≡ held_in bef
 -- Call n is followed: what was kept of the calls before it is now of both.
 abbrev pub HoldsNext : ℕ → Entry → (old new : ℤ → Option Lent) → Type 0
 HoldsNext n c old new = (before : List Entry) → length before ≡ n → Holds before old → Holds (c ∷ before) new
+
+-- The call at a place is followed, whatever its outcome.
+abbrev pub HoldsPast : List Entry → ℕ → (old new : ℤ → Option Lent) → Type 0
+HoldsPast calls n old new = (c : Entry) → IsCallAt calls n c → HoldsNext n c old new
 
 -- what holds the numbers that a Start or Startall lists, behind these calls
 abbrev pub inits_at : List Entry → Entry → List (Option Init)

@@ -1,9 +1,9 @@
 //! The calls of a rank, as its readable events tell them.
 
-ghost use Rattle.std.specs.Prelude.{◌≡◌, ◌<◌, Some, None, if◌then◌else◌, is_some, length, map, slice_get};
-ghost use Rattle.std.specs.Option.{option_and_then, option_copied, option_map};
+ghost use Rattle.std.specs.Prelude.{◌≡◌, ◌<◌, Some, None, if◌then◌else◌, is_some, length, slice_get};
+ghost use Rattle.std.specs.Option.{option_and_then, option_copied};
 ghost use Rattle.mpi_model.specs.declared.call.Call.TheVariants.{Local};
-ghost use Rattle.trace_ops.specs.Calls.{IsCallAt, call_of, calls_in, outs_of};
+ghost use Rattle.trace_ops.specs.Calls.{IsCallAt, IsEnteredAt, call_of, calls_of, outs_of};
 ghost use Rattle.trace_ops.specs.Called.{places_by, plain_called};
 ghost use Rattle.trace_ops.specs.Request.{freed_of, given_in, given_of, is_completing, is_init};
 ghost use Rattle.trace_ops.specs.Trust.{cancel_of};
@@ -12,6 +12,7 @@ use crate::completed::{Completed, given_of, place_at, place_count};
 use crate::held::{is_init, is_start};
 use mpi_model::{Call, Event, Outs};
 use std::marker::Model;
+use trace_know::Readable;
 
 /// A call that was entered, with its outcome, where it has returned.
 #[derive(Clone, Copy, Debug)]
@@ -123,12 +124,12 @@ fn outs_of(event: &Event) -> Option<&Outs>
 
 /// The outcome of the Return at a place, where there is one before the end.
 #[inline(always)]
-fn outs_at<'a>(events: &[&'a Event], place: usize, end: usize) -> Option<&'a Outs>
+fn outs_at<'a>(events: &Readable<'a>, place: usize, end: usize) -> Option<&'a Outs>
     requires { end ≡ length events.now }
-    ensures { option_copied result ≡ option_and_then outs_of (option_map (λ e. e.now) (slice_get events.now place)) }
+    ensures { option_copied result ≡ option_and_then outs_of (slice_get events.now place) }
 {
     if place < end {
-        outs_of(events[place])
+        outs_of(events.at(place))
     } else {
         None
     }
@@ -136,22 +137,33 @@ fn outs_at<'a>(events: &[&'a Event], place: usize, end: usize) -> Option<&'a Out
 
 /// How many calls these events tell: the last may have no Return.
 #[inline(always)]
-fn count_in(events: &[&Event]) -> usize
-    ensures { result ≡ length (calls_in events.now) }
+fn count_in(events: &Readable<'_>) -> usize
+    ensures { result ≡ length (calls_of events.now) }
 {
     events.len() / 2 + events.len() % 2
 }
 
+/// The call at a place, without its outcome.
+#[inline(always)]
+fn call_in<'a>(events: &Readable<'a>, local: &'a Call, n: usize) -> &'a Call
+    requires place { n < length (calls_of events.now) }
+    requires local { local.now ≡ Local }
+    ensures { IsEnteredAt (calls_of events.now) n result.now }
+{
+    let _end = events.len();
+    call_of(events.at(2 * n), local)
+}
+
 /// The call at a place.
 #[inline(always)]
-fn called_in<'a>(events: &[&'a Event], local: &'a Call, n: usize) -> Called<'a>
-    requires place { n < length (calls_in events.now) }
+fn called_in<'a>(events: &Readable<'a>, local: &'a Call, n: usize) -> Called<'a>
+    requires place { n < length (calls_of events.now) }
     requires local { local.now ≡ Local }
-    ensures { IsCallAt (calls_in events.now) n (plain_called result) }
+    ensures { IsCallAt (calls_of events.now) n (plain_called result) }
 {
     let end = events.len();
     let place = 2 * n;
-    let call = call_of(events[place], local);
+    let call = call_of(events.at(place), local);
     let outs = outs_at(events, place + 1, end);
     Called { call, outs }
 }
@@ -160,7 +172,7 @@ fn called_in<'a>(events: &[&'a Event], local: &'a Call, n: usize) -> Called<'a>
 /// behind it.
 #[derive(Drop)]
 pub(crate) struct Calls<'a> {
-    events: &'a [&'a Event],
+    events: Readable<'a>,
     /// It stands where no call was entered.
     local: &'a Call,
 }
@@ -168,19 +180,19 @@ pub(crate) struct Calls<'a> {
 impl<'a> Model for Calls<'a> {
     ghost use Rattle.std.specs.Prelude.{◌≡◌, List};
     ghost use Rattle.mpi_model.specs.declared.call.Call.TheVariants.{Local};
-    ghost use Rattle.trace_ops.specs.Calls.{Entry, calls_in};
+    ghost use Rattle.trace_ops.specs.Calls.{Entry, calls_of};
 
     ghost Value = { List Entry };
 
-    ghost view = { λ c. calls_in c.events.now };
+    ghost view = { λ c. calls_of c.events };
 
     ghost invariant = { λ c. c.local.now ≡ Local };
 }
 
 impl<'a> Calls<'a> {
-    pub fn new(events: &'a [&'a Event], local: &'a Call) -> Calls<'a>
+    pub fn new(events: Readable<'a>, local: &'a Call) -> Calls<'a>
         requires { local.now ≡ Local }
-        ensures { result ≡ calls_in events.now }
+        ensures { result ≡ calls_of events.entry }
     {
         Calls { events, local }
     }
@@ -190,7 +202,16 @@ impl<'a> Calls<'a> {
     pub fn len(&self) -> usize
         ensures { result ≡ length self.now }
     {
-        count_in(self.events)
+        count_in(&self.events)
+    }
+
+    /// The call at a place, without its outcome.
+    #[inline(always)]
+    pub fn call_at(&self, n: usize) -> &'a Call
+        requires { n < length self.now }
+        ensures { IsEnteredAt self.now n result.now }
+    {
+        call_in(&self.events, self.local, n)
     }
 
     /// The call at a place.
@@ -199,6 +220,6 @@ impl<'a> Calls<'a> {
         requires { n < length self.now }
         ensures { IsCallAt self.now n (plain_called result) }
     {
-        called_in(self.events, self.local, n)
+        called_in(&self.events, self.local, n)
     }
 }

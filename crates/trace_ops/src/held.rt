@@ -5,7 +5,8 @@ ghost use Rattle.std.specs.Ordering.{int_eq};
 ghost use Rattle.std.specs.Option.{option_map};
 ghost use Rattle.indexmap.specs.IndexMap.{get};
 ghost use Rattle.trace_ops.specs.Called.{plain_called};
-ghost use Rattle.trace_ops.specs.Held.{Holds, HoldsNext, inits_from, plain_init};
+ghost use Rattle.trace_ops.specs.Calls.{Entry, IsEnteredAt};
+ghost use Rattle.trace_ops.specs.Held.{Holds, HoldsNext, HoldsPast, inits_from, plain_init};
 ghost use Rattle.trace_ops.specs.Request.{is_init, is_start, started_by};
 ghost use Rattle.trace_ops.specs.Steps.{IsPartAt, OfListed, as_started};
 ghost use Rattle.trace_ops.specs.Tables.{ChangesAt};
@@ -91,22 +92,23 @@ pub(crate) fn holds_none(held: &Held<'_>) -> bool
     held.is_empty()
 }
 
-/// Whether no init holds a number, and the call is none: then no init holds a number behind it.
-fn still_holds_none(held: &Held<'_>, called: &Called<'_>) -> bool
-    ensures { IsTrue result → (n : ℕ) → HoldsNext n (plain_called called.now) (get int_eq held.now) (get int_eq held.now) }
+/// Whether no init holds a number, and the call is none: then no init holds a number behind it, whatever its outcome.
+fn still_holds_none(held: &Held<'_>, call: &Call) -> bool
+    ensures { IsTrue result → (n : ℕ) → (c : Entry) → c.call ≡ call.now → HoldsNext n c (get int_eq held.now) (get int_eq held.now) }
 {
-    holds_none(held) && !is_init(called.call)
+    holds_none(held) && !is_init(call)
 }
 
-/// Goes one call on. Nearly always no init holds a number, and there is nothing to look up.
-fn hold<'a>(held: &mut Held<'a>, n: u64, called: &Called<'a>) -> Result<(), AllocError>
-    ensures { OnOk result (HoldsNext n (plain_called called.now) (get int_eq held.old) (get int_eq held.new)) }
+/// Goes one call on. Nearly always no init holds a number, and there is nothing to look up: then its outcome is not read.
+fn hold<'a>(held: &mut Held<'a>, calls: &Calls<'a>, n: usize, call: &Call) -> Result<(), AllocError>
+    requires { IsEnteredAt calls.now n call.now }
+    ensures { OnOk result (HoldsPast calls.now n (get int_eq held.old) (get int_eq held.new)) }
 {
-    if still_holds_none(held, called) {
-        Ok(())
-    } else {
-        change_hold(held, n, called)
+    if still_holds_none(held, call) {
+        return Ok(());
     }
+    change_hold(held, n as u64, &calls.at(n))?;
+    Ok(())
 }
 
 /// Goes one call on: the init holds its number, and a number that is given or freed otherwise is held no longer.
@@ -215,10 +217,10 @@ pub(crate) fn holding_of<'a>(alloc: Global, calls: &Calls<'a>) -> Result<Holding
     let mut room = Room::empty();
     let mut n = 0;
     while n < calls.len() {
-        let called = calls.at(n);
-        room.count(called.call);
-        push_held(&mut inits, &held, started_by(called.call))?;
-        hold(&mut held, n as u64, &called)?;
+        let call = calls.call_at(n);
+        room.count(call);
+        push_held(&mut inits, &held, started_by(call))?;
+        hold(&mut held, calls, n, call)?;
         n += 1;
     }
     Ok(Holding { inits, held, room })

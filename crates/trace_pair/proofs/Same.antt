@@ -61,7 +61,7 @@ pub same_receives : (a b : Receive) → Decides ((receive_eq.ghosts).eq a b) (a 
 same_receives a b =
     let t = (trust_eq.ghosts).eq a.trust b.trust in
     let d = int_eq a.datatype b.datatype in
-    let n = eqb a.name.rank b.name.rank && (eqb a.name.call b.name.call && eqb a.name.part b.name.part) in
+    let n = eqb a.name.rank b.name.rank && (eqb a.name.part b.name.part && eqb a.name.call b.name.call) in
     let c = eqb a.comm b.comm in
     let p = eqb a.at b.at in
     let s = option_eq eqb a.source b.source in
@@ -69,10 +69,10 @@ same_receives a b =
     let e = eqb a.count b.count in
     let f = option_eq eqb a.ended b.ended in
     Decides-like ((receive_eq.ghosts).eq a b)
-    (λ h. all_parts a b (record { rank = h.0.0; call = h.0.1.0; part = h.0.1.1; comm = h.1.0; at = h.1.1.0; source = h.1.1.1.0; tag = h.1.1.1.1.0; count = h.1.1.1.1.1.0; trust = h.1.1.1.1.1.1.0; datatype = h.1.1.1.1.1.1.1.0; ended = h.1.1.1.1.1.1.1.1 }))
-    (λ (h : a ≡ b). ((ap (λ (x : Receive). x.name.rank) h, (ap (λ (x : Receive). x.name.call) h, ap (λ (x : Receive). x.name.part) h)), (ap (λ (x : Receive). x.comm) h, (ap (λ (x : Receive). x.at) h, (ap (λ (x : Receive). x.source) h, (ap (λ (x : Receive). x.tag) h, (ap (λ (x : Receive). x.count) h, (ap (λ (x : Receive). x.trust) h, (ap (λ (x : Receive). x.datatype) h, ap (λ (x : Receive). x.ended) h)))))))))
-    (Decides-and n (c && (p && (s && (g && (e && (t && (d && f))))))) (Decides-and (eqb a.name.rank b.name.rank) (eqb a.name.call b.name.call && eqb a.name.part b.name.part) (Decides-eqb a.name.rank b.name.rank)
-    (Decides-and (eqb a.name.call b.name.call) (eqb a.name.part b.name.part) (Decides-eqb a.name.call b.name.call) (Decides-eqb a.name.part b.name.part)))
+    (λ h. all_parts a b (record { rank = h.0.0; call = h.0.1.1; part = h.0.1.0; comm = h.1.0; at = h.1.1.0; source = h.1.1.1.0; tag = h.1.1.1.1.0; count = h.1.1.1.1.1.0; trust = h.1.1.1.1.1.1.0; datatype = h.1.1.1.1.1.1.1.0; ended = h.1.1.1.1.1.1.1.1 }))
+    (λ (h : a ≡ b). ((ap (λ (x : Receive). x.name.rank) h, (ap (λ (x : Receive). x.name.part) h, ap (λ (x : Receive). x.name.call) h)), (ap (λ (x : Receive). x.comm) h, (ap (λ (x : Receive). x.at) h, (ap (λ (x : Receive). x.source) h, (ap (λ (x : Receive). x.tag) h, (ap (λ (x : Receive). x.count) h, (ap (λ (x : Receive). x.trust) h, (ap (λ (x : Receive). x.datatype) h, ap (λ (x : Receive). x.ended) h)))))))))
+    (Decides-and n (c && (p && (s && (g && (e && (t && (d && f))))))) (Decides-and (eqb a.name.rank b.name.rank) (eqb a.name.part b.name.part && eqb a.name.call b.name.call) (Decides-eqb a.name.rank b.name.rank)
+    (Decides-and (eqb a.name.part b.name.part) (eqb a.name.call b.name.call) (Decides-eqb a.name.part b.name.part) (Decides-eqb a.name.call b.name.call)))
     (Decides-and c (p && (s && (g && (e && (t && (d && f)))))) (Decides-eqb a.comm b.comm)
     (Decides-and p (s && (g && (e && (t && (d && f))))) (Decides-eqb a.at b.at)
     (Decides-and s (g && (e && (t && (d && f)))) (same_options a.source b.source)

@@ -1,5 +1,5 @@
 -- What the sets of an index keep of the maps that they stand in.
-use Rattle.std.specs.Prelude.{◌≡◌, ℕ, Bool, true, cond, ◌&&◌, ◌||◌, Option, Some, None, is_some, is_none, List}
+use Rattle.std.specs.Prelude.{◌≡◌, ◌<◌, ℕ, Bool, true, cond, ◌&&◌, ◌||◌, Option, Some, None, is_some, is_none, List}
 use Rattle.std.specs.BTreeMap.{BTreeMap, IsOrdered}
 use Rattle.std.specs.BTreeSet.{BTreeSet}
 use Rattle.mpi_model.specs.declared.message.Message.{Message}
@@ -33,6 +33,10 @@ pub record AreGrouped (kinds : Kinds) (groups : BTreeMap ReceiveKey (BTreeSet Re
   pub ordered : IsOrdered receive_key_cmp groups
   pub placed : ArePlaced receive_key_cmp receive_cmp receive_key_of groups
   pub marked : (r : Receive) → Has (members groups) r → had kinds r.source r.tag ≡ true
+
+-- the receives are of ranks below the bound
+abbrev pub AreBelow : ℕ → List Receive → Type 0
+AreBelow below xs = (r : Receive) → Has xs r → r.at < below
 
 -- both are told, or neither is
 abbrev pub alike : Option ℕ → Option ℕ → Bool

@@ -12,8 +12,6 @@ use Rattle.trace_ops.specs.Ops.{Ops, no_ops}
 use Rattle.trace_pair.specs.After.{comes_after}
 use Rattle.trace_pair.specs.Pairing.{After, receive_of}
 use Rattle.trace_pair.specs.declared.pair.Pair.{Pair}
-use Rattle.trace_pair.specs.declared.pair.Side.{Side}
-use Rattle.trace_pair.specs.declared.pair.Side.TheVariants.{Sent, Received}
 
 -- the sends of all ranks, one rank after another
 abbrev pub sends_of : List Ops → List Message
@@ -83,11 +81,6 @@ taken_by pairs name = option_map (λ p. p.receive) (find (λ p. same_name p.mess
 -- the message that the receive of that name takes
 abbrev pub given_by : List Pair → OpName → Option OpName
 given_by pairs name = option_map (λ p. p.message) (find (λ p. same_name p.receive name) pairs)
-
--- the other end of the pair of a send or of a receive
-abbrev pub partner_in : Side → List Pair → OpName → Option OpName
-partner_in Sent pairs name = taken_by pairs name
-partner_in Received pairs name = given_by pairs name
 
 -- that many ranks without calls
 abbrev pub fresh : ℕ → List Ops

@@ -26,8 +26,8 @@ ghost use Rattle.trace_pair.specs.Table.{sends_of, receives_of};
 ghost use Rattle.trace_pair.specs.Waiting.{ArePlain};
 
 use crate::couples::receive_by;
-use crate::queues::Receives;
 use crate::ranked_ends::RankedEnds;
+use crate::ranked_receives::RankedReceives;
 use crate::reach::Reaches;
 use crate::sends::Sends;
 use crate::takings::Takings;
@@ -41,7 +41,7 @@ use trace_ops::RankOps;
 #[derive(Drop)]
 pub(crate) struct Batch<'a> {
     messages: Takings<'a>,
-    free: Receives,
+    free: RankedReceives,
     opened: RankedEnds,
 }
 
@@ -54,7 +54,7 @@ impl<'a> Batch<'a> {
     }
 
     /// The places of the pairs, nearly in order of the receive.
-    pub(crate) fn into_places_near(self, alloc: Global) -> Result<Vec<usize>, AllocError> {
+    pub(crate) fn into_places_near(self, alloc: Global) -> Result<Vec<u32>, AllocError> {
         self.messages.into_places_near(alloc)
     }
 
@@ -134,7 +134,7 @@ fn taken_by(batch: &mut Batch, reaches: &Reaches, q: &Receive) -> Result<Option<
     let Some(place) = offered_place(batch, reaches, q)? else {
         return Ok(None);
     };
-    if !batch.free.has_some() {
+    if !batch.free.may_be_of(q.at) {
         return Ok(Some(place));
     }
     let m = batch.messages.messages().at(place);
@@ -309,7 +309,7 @@ fn all_waiting<'a>(alloc: Global, ops: &'a [RankOps]) -> Result<Batch<'a>, Alloc
     let messages = Takings::new(alloc, sends)?;
     Ok(Batch {
         messages,
-        free: Receives::empty(alloc),
+        free: RankedReceives::empty(alloc),
         opened: RankedEnds::empty(alloc),
     })
 }

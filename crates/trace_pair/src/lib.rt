@@ -13,15 +13,15 @@
 //! step on that brings a call of several parts, a Startall. It keeps no table: each call of `pairs`
 //! makes one, by a pass over all messages.
 //!
-//! - [`pair`]: a pair, and the two sides of one
+//! - [`pair`]: a pair
 //! - [`scratch`]: the pairing from scratch; [`batch`]: its pass over all receives; [`sends`]: all
 //!   messages, where they stand; [`takings`]: with what takes each; [`taken_by`]: in little memory;
 //!   [`places`], [`by_key`]: where those that wait stand; [`ends`]: the ends of receives, and whether
-//!   some of them may take a message; [`ranked_ends`]: none where their ranks come before
+//!   some of them may take a message; [`ranked_ends`], [`ranked_receives`]: none where their ranks come before
 //! - [`rules`]: whether names are one, and a message is its receiver's own; [`reach`]: which messages come after which
 //!   receives, asked of a table
-//! - [`rows`], [`near`], [`table`]: the pairs and the postponed messages, their order by the receive,
-//!   and the other end of each
+//! - [`rows`], [`near`], [`table`]: the pairs and the postponed messages, and the receive of a message;
+//!   [`by_receive`]: the pairs in order of the receive, made where it is asked for, and the message of one
 //! - [`one_or_many`]: a set that has no tree of its own while it has one member; [`groups`],
 //!   [`queues`]: sets of calls, found by a few probes of an ordered map; [`couples`]: the pairs by
 //!   either name; [`slots`]: flat lists of values by such names
@@ -36,6 +36,7 @@
 
 mod batch;
 mod by_key;
+mod by_receive;
 mod couples;
 mod ends;
 mod follow;
@@ -52,6 +53,7 @@ mod pair;
 mod places;
 mod queues;
 mod ranked_ends;
+mod ranked_receives;
 mod reach;
 mod rows;
 mod rules;
@@ -64,13 +66,14 @@ mod takings;
 mod together;
 mod whole;
 
+pub use by_receive::PairsByReceive;
 pub use ends::Ends;
 pub use index::PairIndex;
 pub use laws::{
     doubtful_may_stand_outside, pairs_are_certain, pairs_are_the_rules, tables_are_certain,
     what_comes_after_stays, worked_runs,
 };
-pub use pair::{Pair, Side};
+pub use pair::Pair;
 pub use reach::{RankReach, Reaches, reaches_of};
 pub use scratch::pair_all;
 pub use table::PairTable;

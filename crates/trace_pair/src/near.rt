@@ -6,7 +6,7 @@
 //! sends to one alone: its pair stands where the guess is. Where a guess is wrong the pairs are halved.
 
 ghost use Rattle.std.specs.Prelude.{◌≡◌, None, IfSome, IfNone, slice_get};
-ghost use Rattle.trace_pair.specs.Searched.{ArePairs, pair_named};
+ghost use Rattle.trace_pair.specs.Searched.{ArePairs, pair_named, receive_at};
 
 use crate::matched::Matched;
 use crate::pair::Pair;
@@ -40,6 +40,13 @@ pub(crate) fn pair_at(pairs: &[Pair], place: usize) -> Option<Pair>
     pairs.get(place).copied()
 }
 
+/// The receive of the pair at a place.
+pub(crate) fn receive_at(pairs: &[Pair], place: usize) -> Option<OpName>
+    ensures { result ≡ receive_at pairs.now place }
+{
+    pairs.get(place).map(|p| p.receive)
+}
+
 /// The place of the pair of the message of that name, looked for at `next` first.
 pub(crate) fn place_near(pairs: &[Pair], next: usize, name: &OpName) -> Option<usize>
     requires { ArePairs pairs.now }
@@ -71,9 +78,18 @@ fn guessed_place(pairs: &[Pair], guesses: &mut Vec<Guess>, m: &Message) -> Optio
     Some(place)
 }
 
+/// Puts a place behind the others, if four bytes hold it: nothing is claimed of one that is missing.
+#[inline(always)]
+pub(crate) fn put_place(places: &mut Vec<u32>, place: usize) -> Result<(), AllocError> {
+    if place <= u32::MAX as usize {
+        places.push(place as u32)?;
+    }
+    Ok(())
+}
+
 /// Puts the places of the pairs of a rank's receives behind the others.
 fn put_places(
-    places: &mut Vec<usize>,
+    places: &mut Vec<u32>,
     guesses: &mut Vec<Guess>,
     state: &Matched,
     pairs: &[Pair],
@@ -85,7 +101,7 @@ fn put_places(
     for q in receives {
         if let Some(m) = state.message_of(&mut next, q) {
             if let Some(place) = guessed_place(pairs, guesses, &m) {
-                places.push(place)?;
+                put_place(places, place)?;
             }
         }
     }
@@ -98,7 +114,7 @@ pub(crate) fn places_near(
     state: &Matched,
     held: &[RankOps],
     pairs: &[Pair],
-) -> Result<Vec<usize>, AllocError>
+) -> Result<Vec<u32>, AllocError>
     requires { ArePairs pairs.now }
 {
     let mut places = Vec::with_capacity(alloc, pairs.len())?;

@@ -15,13 +15,6 @@ pub struct Pair {
     pub over: bool,
 }
 
-/// An end of a pair: a call can have both, as a Sendrecv has.
-#[derive(Clone, Copy, Debug, PartialEq, Eq)]
-pub enum Side {
-    Sent,
-    Received,
-}
-
 /// A message and the receive that takes it.
 #[derive(Clone, Copy, Debug, PartialEq, Eq)]
 pub(crate) struct Couple {

@@ -115,13 +115,6 @@ pub(crate) const NO_KINDS: Kinds = Kinds {
 };
 
 impl Kinds {
-    /// Whether there were any.
-    pub(crate) fn is_any(self) -> bool
-        ensures { result ≡ false → (source tag : Option ℕ) → had self source tag ≡ false }
-    {
-        self.told || self.told_any_tag || self.untold || self.untold_any_tag
-    }
-
     /// Whether receives with such a source and tag were among them.
     pub(crate) fn has(self, source: Option<u32>, tag: Option<u32>) -> bool
         ensures { result ≡ had self source tag }
@@ -181,13 +174,6 @@ impl Receives {
             kinds: NO_KINDS,
             groups: BTreeMap::new(alloc),
         }
-    }
-
-    /// Whether there were ever any.
-    pub(crate) fn has_some(&self) -> bool
-        ensures { result ≡ false → (q : Receive) → Has self.now q → ⊥ }
-    {
-        self.kinds.is_any()
     }
 
     /// Puts a receive in, and marks its kind.

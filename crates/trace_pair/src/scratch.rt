@@ -29,6 +29,5 @@ pub fn pair_all(alloc: Global, ops: &[RankOps]) -> Result<PairTable, AllocError>
     let batch = batch_of(alloc, &reaches)?;
     let rows = Rows::of_batch(alloc, &batch, &reaches)?;
     let near = batch.into_places_near(alloc)?;
-    let pairs = PairTable::of_rows(alloc, rows, near)?;
-    Ok(pairs)
+    Ok(PairTable::of_rows(rows, near))
 }

@@ -1,19 +1,18 @@
 //! A table: the pairs and the postponed messages, in order of the message.
 
-ghost use Rattle.std.specs.Prelude.{◌≡◌, ◌≢◌, ◌<◌, true, false, OnOk, IfOk, IfSome, ℕ, length, slice_index_or};
+ghost use Rattle.std.specs.Prelude.{◌≡◌, IfOk};
 ghost use Rattle.trace_ops.specs.Ops.{AreOwn};
-ghost use Rattle.trace_ops.specs.Order.{Has};
 ghost use Rattle.trace_pair.specs.Followed.{Follows};
 ghost use Rattle.trace_pair.specs.Reach.{AreReachesOf};
-ghost use Rattle.trace_pair.specs.Searched.{ArePairs, AreByReceive, IsSearchable, receive_at, message_at, IsSeen};
-ghost use Rattle.trace_pair.specs.Table.{table_of, partner_in, taken_by, given_by};
+ghost use Rattle.trace_pair.specs.Searched.{ArePairs};
+ghost use Rattle.trace_pair.specs.Table.{table_of, taken_by};
 
+use crate::by_receive::PairsByReceive;
 use crate::matched::Matched;
-use crate::near::{pair_at, place_near, places_near};
-use crate::pair::{Pair, Side};
+use crate::near::{place_near, places_near, receive_at};
+use crate::pair::Pair;
 use crate::reach::RankReach;
 use crate::rows::Rows;
-use crate::rules::is_same_name;
 use mpi_model::OpName;
 use std::alloc::{AllocError, Global};
 use std::marker::Model;
@@ -23,34 +22,30 @@ use trace_ops::RankOps;
 #[derive(Drop)]
 pub struct PairTable {
     rows: Rows,
-    /// The places of the pairs, in order of the receive.
-    by_receive: Vec<usize>,
+    /// Places of the pairs, nearly in order of the receive. Nothing is claimed of them: the sort by the
+    /// receive begins with them, where it is asked for.
+    near: Vec<u32>,
 }
 
 impl Model for PairTable {
     ghost use Rattle.trace_pair.specs.Table.{Table};
-    ghost use Rattle.trace_pair.specs.Searched.{IsSearchable};
+    ghost use Rattle.trace_pair.specs.Searched.{ArePairs};
 
     ghost Value = { Table };
 
     ghost view = { λ s. s.rows };
 
-    ghost invariant = { λ s. IsSearchable s.rows.pairs s.by_receive.items };
+    ghost invariant = { λ s. ArePairs s.rows.pairs };
 }
 
 impl PairTable {
-    /// The table of these rows. The more of `near` is places in order of the receive, the sooner it
-    /// is made.
-    pub(crate) fn of_rows(
-        alloc: Global,
-        rows: Rows,
-        near: Vec<usize>,
-    ) -> Result<PairTable, AllocError>
+    /// The table of these rows. The more of `near` is places in order of the receive, the sooner the
+    /// pairs are put in that order.
+    pub(crate) fn of_rows(rows: Rows, near: Vec<u32>) -> PairTable
         requires { ArePairs rows.pairs }
-        ensures { IfOk result (λ table. table ≡ rows) }
+        ensures { result ≡ rows }
     {
-        let by_receive = places_by_receive(alloc, &rows.pairs, near)?;
-        Ok(PairTable { rows, by_receive })
+        PairTable { rows, near }
     }
 
     /// The table of the held ops, for which the state stands.
@@ -67,8 +62,7 @@ impl PairTable {
     {
         let rows = Rows::of_held(alloc, state, held, reaches)?;
         let near = places_near(alloc, state, held, &rows.pairs)?;
-        let table = PairTable::of_rows(alloc, rows, near)?;
-        Ok(table)
+        Ok(PairTable::of_rows(rows, near))
     }
 
     /// In order of the message: by rank, then by call.
@@ -93,99 +87,31 @@ impl PairTable {
         (self.rows.pairs, self.rows.postponed)
     }
 
-    /// The other end of the pair of a send, or of a receive, if it is in one; found by halving.
-    pub fn partner(&self, name: OpName, side: Side) -> Option<OpName>
-        ensures { result ≡ partner_in side self.now.pairs name }
+    /// The receive that takes the message of that name, if one does; found by halving.
+    pub fn receive_of(&self, message: OpName) -> Option<OpName>
+        ensures { result ≡ taken_by self.now.pairs message }
     {
         let mut nowhere = usize::MAX;
-        self.partner_near(name, side, &mut nowhere)
+        self.receive_near(message, &mut nowhere)
     }
 
-    /// As [`partner`](Self::partner), but looked for at a place first, which is then set behind the one
-    /// where the pair was found. So who asks for calls in their order, with one place for all of them,
-    /// halves only at the first and at those that are in no pair.
-    pub fn partner_near(&self, name: OpName, side: Side, place: &mut usize) -> Option<OpName>
-        ensures { result ≡ partner_in side self.now.pairs name }
+    /// As [`receive_of`](Self::receive_of), but looked for at a place first, which is then set behind the
+    /// one where the pair was found. So who asks for messages in their order, with one place for all of
+    /// them, halves only at the first and at those that are in no pair.
+    pub fn receive_near(&self, message: OpName, place: &mut usize) -> Option<OpName>
+        ensures { result ≡ taken_by self.now.pairs message }
     {
-        match side {
-            Side::Sent => taken_near(&self.rows.pairs, place, &name),
-            Side::Received => given_near(&self.rows.pairs, &self.by_receive, place, &name),
-        }
+        taken_near(&self.rows.pairs, place, &message)
     }
-}
 
-/// The receive of the pair at a place.
-fn receive_at(pairs: &[Pair], place: usize) -> Option<OpName>
-    ensures { result ≡ receive_at pairs.now place }
-{
-    pairs.get(place).map(|p| p.receive)
-}
-
-/// The message of the pair at a place.
-fn message_at(pairs: &[Pair], place: usize) -> Option<OpName>
-    ensures { result ≡ message_at pairs.now place }
-{
-    pairs.get(place).map(|p| p.message)
-}
-
-/// Marks a place as seen, where it is one of those that are asked for.
-fn see_place(seen: &mut Vec<bool>, place: usize)
-    ensures { (i : ℕ) → i ≢ place → slice_index_or seen.new.items i false ≡ slice_index_or seen.old.items i false }
-{
-    if place < seen.len() {
-        seen[place] = true;
+    /// The pairs in order of the receive. The table keeps no such order: it is made anew by each call, in
+    /// n log n, and less the nearer the receives came in their order.
+    pub fn by_receive(&self, alloc: Global) -> Result<PairsByReceive<'_>, AllocError>
+        ensures { IfOk result (λ pairs. pairs ≡ self.now.pairs) }
+    {
+        let pairs = PairsByReceive::of_pairs(alloc, &self.rows.pairs, &self.near)?;
+        Ok(pairs)
     }
-}
-
-/// Which of so many places are among these.
-fn seen_places(alloc: Global, places: &[usize], count: usize) -> Result<Vec<bool>, AllocError>
-    ensures { IfOk result (λ seen. (i : ℕ) → slice_index_or seen.items i false ≡ true → Has places.now i) }
-{
-    let mut seen = Vec::from_elem(alloc, false, count)?;
-    for place in places {
-        see_place(&mut seen, *place);
-    }
-    Ok(seen)
-}
-
-/// Puts the place behind the others, if it isn't seen among them.
-fn put_unseen(places: &mut Vec<usize>, seen: &[bool], place: usize) -> Result<(), AllocError>
-    ensures kept { OnOk result ((i : ℕ) → Has places.old.items i → Has places.new.items i) }
-    ensures there { OnOk result ((IsSeen seen.now place → Has places.old.items place) → Has places.new.items place) }
-{
-    if seen.get(place).copied().unwrap_or(false) {
-        return Ok(());
-    }
-    places.push(place)?;
-    Ok(())
-}
-
-/// All places of the pairs, those of `near` first.
-fn all_places(alloc: Global, pairs: &[Pair], near: Vec<usize>) -> Result<Vec<usize>, AllocError>
-    ensures { IfOk result (λ places. (i : ℕ) → i < length pairs.now → Has places.items i) }
-{
-    let seen = seen_places(alloc, &near, pairs.len())?;
-    let mut places = near;
-    let mut next = 0;
-    while next < pairs.len() {
-        put_unseen(&mut places, &seen, next)?;
-        next += 1;
-    }
-    Ok(places)
-}
-
-/// The places of the pairs, in order of the receive.
-fn places_by_receive(
-    alloc: Global,
-    pairs: &[Pair],
-    near: Vec<usize>,
-) -> Result<Vec<usize>, AllocError>
-    ensures sorted { IfOk result (λ places. AreByReceive pairs.now places.items) }
-    ensures all { IfOk result (λ places. (i : ℕ) → i < length pairs.now → Has places.items i) }
-{
-    let mut places = all_places(alloc, pairs, near)?;
-    places.sort_by_key(|place| receive_at(pairs, *place))?;
-    Ok(places)
 }
 
 /// The receive that takes the message of that name, looked for at the place first.
@@ -196,33 +122,4 @@ fn taken_near(pairs: &[Pair], place: &mut usize, name: &OpName) -> Option<OpName
     let found = place_near(pairs, *place, name)?;
     *place = found.saturating_add(1);
     receive_at(pairs, found)
-}
-
-/// The message that the receive of that name takes, looked for first at the place among those in order
-/// of the receive.
-fn given_near(pairs: &[Pair], places: &[usize], place: &mut usize, name: &OpName) -> Option<OpName>
-    requires { IsSearchable pairs.now places.now }
-    ensures { result ≡ given_by pairs.now name.now }
-{
-    if let Some(pair) = pair_listed(pairs, places, *place) {
-        if is_same_name(&pair.receive, name) {
-            *place = place.saturating_add(1);
-            return Some(pair.message);
-        }
-    }
-    match places.binary_search_by_key(&Some(*name), |place| receive_at(pairs, *place)) {
-        Ok(found) => {
-            *place = found.saturating_add(1);
-            message_at(pairs, places[found])
-        }
-        Err(_) => None,
-    }
-}
-
-/// The pair at a place among those in order of the receive.
-fn pair_listed(pairs: &[Pair], places: &[usize], place: usize) -> Option<Pair>
-    ensures { IfSome result (λ pair. Has pairs.now pair) }
-{
-    let listed = places.get(place)?;
-    pair_at(pairs, *listed)
 }

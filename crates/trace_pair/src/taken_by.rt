@@ -5,6 +5,7 @@ ghost use Rattle.trace_pair.specs.Coupled.{taker_of};
 ghost use Rattle.trace_pair.specs.Waiting.{waits_at, taker_in};
 
 use crate::couples::taker_of;
+use crate::near::put_place;
 use crate::pair::Taker;
 use mpi_model::Receive;
 use std::alloc::{AllocError, Global};
@@ -17,8 +18,8 @@ pub(crate) struct TakenBy<'a> {
     receives: Vec<Option<&'a Receive>>,
     /// Of each message whether it waits: in a byte, since that is asked of any of them in turn.
     waiting: Vec<bool>,
-    /// The places of those that are taken, as their receives came.
-    came: Vec<usize>,
+    /// The places of those that are taken, as their receives came, as far as four bytes hold them.
+    came: Vec<u32>,
 }
 
 impl<'a> Model for TakenBy<'a> {
@@ -108,7 +109,7 @@ impl<'a> TakenBy<'a> {
         ensures taken { OnOk result (self.new ≡ slice_set self.old place (Some (taker_of q.now))) }
         ensures memory { OnErr result (self.new ≡ self.old) }
     {
-        self.came.push(place)?;
+        put_place(&mut self.came, place)?;
         self.receives[place] = Some(q);
         self.waiting[place] = false;
         Ok(())
@@ -117,14 +118,14 @@ impl<'a> TakenBy<'a> {
     /// The places of the pairs, as the receives that take them came: a start from which the sort by the
     /// receive has nothing left to do. Nothing is claimed of that order. Where each message is taken, its
     /// pair stands at its place.
-    pub(crate) fn into_places_near(self, alloc: Global) -> Result<Vec<usize>, AllocError> {
+    pub(crate) fn into_places_near(self, alloc: Global) -> Result<Vec<u32>, AllocError> {
         let mut places = self.came;
         if places.len() == self.waiting.len() {
             return Ok(places);
         }
         let counts = taken_before(alloc, &self.waiting)?;
         for i in 0..places.len() {
-            places[i] = counts.get(places[i]).copied().unwrap_or(0) as usize;
+            places[i] = counts.get(places[i] as usize).copied().unwrap_or(0);
         }
         Ok(places)
     }

@@ -51,31 +51,30 @@ fn is_plain(m: &Message) -> bool
     m.trust.is_sure() && m.name.rank == m.from && m.name.part == 0
 }
 
-/// Whether all messages are. Each is alone of its call then.
-fn are_plain(messages: &Sends) -> bool
-    ensures { result ≡ true → ArePlain messages.now }
+/// Whether that is known of the messages before this one, and holds of it. Each is alone of its call then.
+fn stays_plain(plain: bool, m: &Message) -> bool
+    ensures before { result ≡ true → plain ≡ true }
+    ensures this { result ≡ true → IsPlain m.now }
 {
-    for place in 0..messages.len() {
-        if !is_plain(messages.at(place)) {
-            return false;
-        }
-    }
-    true
+    plain && is_plain(m)
 }
 
-/// The places of the messages by queue.
-fn queues_of(alloc: Global, messages: &Sends) -> Result<Queues, AllocError>
-    ensures { IfOk result (λ queues. (takers : List (Option Taker)) → ArePlaces queue_cmp queue_of messages.now takers queues) }
+/// The places of the messages by queue, and whether all of them are plain.
+fn queues_of(alloc: Global, messages: &Sends) -> Result<(Queues, bool), AllocError>
+    ensures queues { IfOk result (λ made. (takers : List (Option Taker)) → ArePlaces queue_cmp queue_of messages.now takers made.0) }
+    ensures plain { IfOk result (λ made. made.1 ≡ true → ArePlain messages.now) }
 {
     let mut queues = Queues::empty(alloc);
+    let mut plain = true;
     for place in 0..messages.len() {
         let m = messages.at(place);
+        plain = stays_plain(plain, m);
         if m.trust.is_void() {
             continue;
         }
         queues.add(alloc, (m.to, m.from, m.tag, m.comm), place)?;
     }
-    Ok(queues)
+    Ok((queues, plain))
 }
 
 /// The places of the messages by lane.
@@ -109,9 +108,8 @@ impl<'a> Takings<'a> {
         requires { AreRising (λ m. m.name) messages }
         ensures { IfOk result (λ t. t ≡ untaken messages.entry) }
     {
-        let queues = queues_of(alloc, &messages)?;
+        let (queues, plain) = queues_of(alloc, &messages)?;
         let takers = TakenBy::none(alloc, messages.len())?;
-        let plain = are_plain(&messages);
         Ok(Takings {
             messages,
             plain,
@@ -208,7 +206,7 @@ impl<'a> Takings<'a> {
     }
 
     /// The places of the pairs, nearly in order of the receive.
-    pub(crate) fn into_places_near(self, alloc: Global) -> Result<Vec<usize>, AllocError> {
+    pub(crate) fn into_places_near(self, alloc: Global) -> Result<Vec<u32>, AllocError> {
         self.takers.into_places_near(alloc)
     }
 }

@@ -23,9 +23,9 @@ use std::collections::BTreeSet;
 use std::marker::Model;
 use std::sync::Arc;
 use trace_ops::{Entered, RankOps};
-use trace_pair::{Ends, PairTable, Reaches, Side};
+use trace_pair::{Ends, PairTable, PairsByReceive, Reaches};
 
-/// The whole run, and what was gathered of it to be looked up: which messages are in no pair, which
+/// The whole run, and what was gathered of it to be looked up: its pairs by their receives, which messages are in no pair, which
 /// of them were cancelled, when the receives end that are in no pair, which messages come after which
 /// receives, which rounds are mismatched, how many calls each member has entered and which, and the
 /// members of each communicator in a list to be shared.
@@ -34,6 +34,7 @@ pub(crate) struct Overview<'a> {
     pub layout: &'a Layout,
     pub ops: &'a [RankOps],
     pub pairs: &'a PairTable,
+    pub received: &'a PairsByReceive<'a>,
     pub rounds: &'a [Round],
     pub offered: &'a BTreeSet<Pattern>,
     pub withdrawn: &'a BTreeSet<Pattern>,
@@ -69,7 +70,8 @@ impl<'a> Model for Overview<'a> {
         × (AreGroups s.layout.now.comms s.groups.now)
         × ((p : Named) → contains pattern_cmp s.withdrawn.now p ≡ list_any (λ m. offers true m p) (unpaired_messages s.ops.now s.pairs.now.pairs))
         × (s.reaches.now ≡ s.ops.now)
-        × (s.entries.now ≡ s.ops.now) };
+        × (s.entries.now ≡ s.ops.now)
+        × (s.received.now ≡ s.pairs.now.pairs) };
 }
 
 impl<'a> Overview<'a> {
@@ -101,14 +103,14 @@ impl<'a> Overview<'a> {
     pub fn is_taken(&self, m: &Message) -> bool
         ensures { result ≡ is_some (taken_by self.now.pairs m.now.name) }
     {
-        self.pairs.partner(m.name, Side::Sent).is_some()
+        self.pairs.receive_of(m.name).is_some()
     }
 
     /// Whether the receive is in a pair.
     pub fn is_given(&self, q: &Receive) -> bool
         ensures { result ≡ is_some (given_by self.now.pairs q.now.name) }
     {
-        self.pairs.partner(q.name, Side::Received).is_some()
+        self.received.message_of(q.name).is_some()
     }
 
     /// Whether some unpaired receive may take the message.

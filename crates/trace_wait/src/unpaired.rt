@@ -19,7 +19,7 @@ use mpi_model::{Message, Receive};
 use std::alloc::{AllocError, Global};
 use std::collections::BTreeSet;
 use trace_ops::RankOps;
-use trace_pair::{Ends, PairTable};
+use trace_pair::{Ends, PairTable, PairsByReceive};
 
 /// Communicator, receiver, source and tag, as a receive names them.
 pub(crate) type Pattern = (u32, u32, Option<u32>, Option<u32>);
@@ -101,12 +101,12 @@ pub(crate) fn patterns_offered(
 
 /// Notes when the receive ends, where it is in no pair and was not cancelled.
 fn ask_unpaired(
-    pairs: &PairTable,
+    pairs: &PairsByReceive,
     q: &Receive,
     place: &mut usize,
     asked: &mut Ends,
 ) -> Result<(), AllocError>
-    ensures { OnOk result (AsksFree pairs.now.pairs (q.now ∷ []) asked.old asked.new) }
+    ensures { OnOk result (AsksFree pairs.now (q.now ∷ []) asked.old asked.new) }
 {
     if q.trust.is_void() {
         return Ok(());
@@ -120,12 +120,12 @@ fn ask_unpaired(
 
 /// Notes the same of all these receives.
 fn ask_all(
-    pairs: &PairTable,
+    pairs: &PairsByReceive,
     receives: &[Receive],
     place: &mut usize,
     asked: &mut Ends,
 ) -> Result<(), AllocError>
-    ensures { OnOk result (AsksFree pairs.now.pairs receives.now asked.old asked.new) }
+    ensures { OnOk result (AsksFree pairs.now receives.now asked.old asked.new) }
 {
     for q in receives {
         ask_unpaired(pairs, q, place, asked)?;
@@ -137,9 +137,9 @@ fn ask_all(
 pub(crate) fn ends_asked(
     alloc: Global,
     ops: &[RankOps],
-    pairs: &PairTable,
+    pairs: &PairsByReceive,
 ) -> Result<Ends, AllocError>
-    ensures { IfOk result (AreLast (free_receives ops.now pairs.now.pairs)) }
+    ensures { IfOk result (AreLast (free_receives ops.now pairs.now)) }
 {
     let mut asked = Ends::empty(alloc);
     let mut place = 0;

@@ -176,7 +176,8 @@ fn conditions_gathered(
 {
     let offered = patterns_offered(alloc, false, ops, pairs)?;
     let withdrawn = patterns_offered(alloc, true, ops, pairs)?;
-    let asked = ends_asked(alloc, ops, pairs)?;
+    let received = pairs.by_receive(alloc)?;
+    let asked = ends_asked(alloc, ops, &received)?;
     let table = reaches_of(alloc, ops)?;
     let reaches = Reaches::new(ops, &table);
     let mismatched = mismatched_rounds(alloc, rounds)?;
@@ -187,6 +188,7 @@ fn conditions_gathered(
         layout,
         ops,
         pairs,
+        received: &received,
         rounds,
         offered: &offered,
         withdrawn: &withdrawn,

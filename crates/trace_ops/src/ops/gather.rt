@@ -292,9 +292,8 @@ pub fn ops_of(
 ) -> Result<RankOps, AllocError>
     ensures { IfOk result (λ ops. ops ≡ ops_of layout.now know.now rank) }
 {
-    let events = know.readable(alloc, rank)?;
     let local = Call::Local;
-    let calls = Calls::new(&events, &local);
+    let calls = Calls::new(know.readable(rank), &local);
     gather(alloc, layout, rank, know.beyond(rank), &calls)
 }
 

@@ -1,10 +1,10 @@
 use Rattle.std.proofs.Common.{rules, refl, arith, inr, ◌≡◌, ◌∙◌, ◌+◌, ◌<◌, ◌++◌, ◌∷◌, [], ℕ, List, ap, sym, subst, length, take}
 use Rattle.std.proofs.Math.Seq.{take-length}
 use Rattle.std.proofs.lemmas.List.{take_more}
-use Rattle.trace_know.specs.Trace.{facts_of_all, view_of}
+use Rattle.trace_know.specs.Trace.{view_of}
 use Rattle.trace_know.specs.View.{join}
 use Rattle.input_files.specs.Manifests.{PieceParts}
-use Rattle.command_runs.specs.Pieces.{RefusesPiece, TellsFacts}
+use Rattle.command_runs.specs.Pieces.{RefusesPiece, TellsFacts, facts_of_piece}
 use Rattle.command_runs.specs.Refusals.{BlamesFile}
 use Rattle.command_runs.specs.Traces.{IsKnown}
 use Rattle.command_runs.proofs.AnyOrder.{first_blamed, first_of_whole}
@@ -20,14 +20,14 @@ loop-piece-preserved g c =
     let pieces = c.args.pieces.now in
     let i = c.loop-piece.piece-index in
     let piece = c.piece-item.result in
-    let facts = facts_of_all c.in-Ok._segments.items in
+    let facts = facts_of_piece c.in-Ok._whole in
     let was = c.loop-piece.invariant.whole in
     let now = join was.0 (view_of facts) in
     let below : i < length pieces = omega arith in
     let more : take (i + 1) pieces ≡ take i pieces ++ piece ∷ [] = take_more pieces i piece below ∙ ap (λ (p : PieceParts). take i pieces ++ p ∷ []) (sym c.piece-item.is) in
     let told : TellsFacts (file piece.file) piece.rank piece.first facts = rw c.loop-piece.invariant.files at c.in-Ok.ensures.ok in
     record {
-      files = c.segments_of.ensures.same ∙ c.loop-piece.invariant.files;
+      files = c.ready_piece_of.ensures.same ∙ c.loop-piece.invariant.files;
       whole = (now, subst (λ (ps : List PieceParts). IsKnown file ps now) (sym more) (known_more c.view_laws.ensures.union file (take i pieces) piece was.0 now facts was.1 told refl));
     }
 

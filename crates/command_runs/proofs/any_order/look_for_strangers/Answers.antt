@@ -4,10 +4,8 @@ use Rattle.std.specs.declared.alloc.Global.{Global}
 use Rattle.std.proofs.lemmas.List.{take_more}
 use Rattle.std.proofs.lemmas.List.Elements.{All-nil, All-push}
 use Rattle.std.proofs.Math.Seq.{take-length}
-use Rattle.trace_know.specs.Segment.{PlacedEvents}
-use Rattle.trace_know.specs.Trace.{facts_of_all}
 use Rattle.input_files.specs.Manifests.{PieceParts}
-use Rattle.command_runs.specs.Pieces.{RefusesPiece, TellsFacts}
+use Rattle.command_runs.specs.Pieces.{RefusesPiece, TellsFacts, facts_of_piece}
 use Rattle.command_runs.specs.Traces.{IsInside, KeepsFirst}
 use Rattle.command_runs.proofs.AnyOrder.{known_front}
 use Rattle.command_runs.proofs.Traces.{begins, outside_later}
@@ -28,14 +26,14 @@ loop-piece-preserved g c =
     let pieces = c.args.pieces.now in
     let i = c.loop-piece.piece-index in
     let piece = c.piece-item.result in
-    let facts = facts_of_all c.in-Ok.segments.items in
+    let facts = facts_of_piece c.in-Ok.whole in
     let below : i < length pieces = omega arith in
     let more : take (i + 1) pieces ≡ take i pieces ++ piece ∷ [] = take_more pieces i piece below ∙ ap (λ (p : PieceParts). take i pieces ++ p ∷ []) (sym c.piece-item.is) in
     let told : TellsFacts (file piece.file) piece.rank piece.first facts = rw c.loop-piece.invariant.files at c.in-Ok.ensures.ok in
-    let keeps : KeepsFirst ranks piece facts None None = subst (λ (ss : List PlacedEvents). KeepsFirst ranks piece (facts_of_all ss) None None) c.deref.ensures.value
-    (subst (λ (o : Option (String Global)). KeepsFirst ranks piece (facts_of_all c.deref.result.now) None o) (none_kept _ c.in_default.not-Some) c.in_ok-path.ensures) in
+    let keeps : KeepsFirst ranks piece facts None None =
+    subst (λ (o : Option (String Global)). KeepsFirst ranks piece facts None o) (none_kept _ c.in_default.not-Some) c.in_ok-path.ensures in
     record {
-      files = c.segments_of.ensures.same ∙ c.loop-piece.invariant.files;
+      files = c.ready_piece_of.ensures.same ∙ c.loop-piece.invariant.files;
       inside = outside_later file ranks (take i pieces) (take (i + 1) pieces) piece facts None None more c.loop-piece.invariant.inside told keeps;
     }
 
@@ -58,11 +56,11 @@ returns-in-Some-clause-err g c =
     let pieces = c.args.pieces.now in
     let i = c.loop-piece.piece-index in
     let piece = c.piece-item.result in
-    let facts = facts_of_all c.in-Ok.segments.items in
+    let facts = facts_of_piece c.in-Ok.whole in
     let below : i < length pieces = omega arith in
     let more : take (i + 1) pieces ≡ take i pieces ++ piece ∷ [] = take_more pieces i piece below ∙ ap (λ (p : PieceParts). take i pieces ++ p ∷ []) (sym c.piece-item.is) in
     let told : TellsFacts (file piece.file) piece.rank piece.first facts = rw c.loop-piece.invariant.files at c.in-Ok.ensures.ok in
-    let named : KeepsFirst ranks piece facts None (Some c.in-Some.path) = rw (c.in-Some.is, c.deref.ensures.value) at c.in_ok-path.ensures in
+    let named : KeepsFirst ranks piece facts None (Some c.in-Some.path) = rw c.in-Some.is at c.in_ok-path.ensures in
     inr (inr (c.requires, (take i pieces, piece, begins pieces i piece more, c.loop-piece.invariant.inside, (named.0, named.1, (facts, told, named.2)))))
 
 pub returns-clause-ok : goal.returns-clause-ok

@@ -2,10 +2,10 @@ use Rattle.std.proofs.Common.{rules, refl, arith, ◌≡◌, ◌∙◌, ◌+◌,
 use Rattle.std.specs.List.{All}
 use Rattle.std.proofs.Math.Seq.{take-length}
 use Rattle.std.proofs.lemmas.List.{take_more}
-use Rattle.trace_know.specs.Trace.{facts_of_all, view_of}
+use Rattle.trace_know.specs.Trace.{view_of}
 use Rattle.trace_know.specs.View.{join}
 use Rattle.input_files.specs.Manifests.{PieceParts}
-use Rattle.command_runs.specs.Pieces.{RefusesPiece, TellsFacts}
+use Rattle.command_runs.specs.Pieces.{RefusesPiece, TellsFacts, facts_of_piece}
 use Rattle.command_runs.specs.Traces.{IsFirstStranger, IsInside, IsKnown}
 use Rattle.command_runs.proofs.Traces.{IsOutside, begins, known_more, outside_later}
 use Rattle.command_runs.proofs.Within.{within_more, within_nothing}
@@ -27,17 +27,17 @@ loop-piece-preserved g c =
     let more : take (c.loop-piece.piece-index + 1) c.args.pieces.now ≡ take c.loop-piece.piece-index c.args.pieces.now ++ c.piece-item.result ∷ [] =
     take_more c.args.pieces.now c.loop-piece.piece-index c.piece-item.result below
     ∙ ap (λ (p : PieceParts). take c.loop-piece.piece-index c.args.pieces.now ++ p ∷ []) (sym c.piece-item.is) in
-    let told : TellsFacts (file c.piece-item.result.file) c.piece-item.result.rank c.piece-item.result.first (facts_of_all c.in-Ok.segments.items) =
+    let told : TellsFacts (file c.piece-item.result.file) c.piece-item.result.rank c.piece-item.result.first (facts_of_piece c.in-Ok.whole) =
     rw c.loop-piece.invariant.files at c.in-Ok.ensures.ok in
-    let taken : g.G.Gatherer.known c.in_ok-know.know ≡ join (g.G.Gatherer.known c.loop-piece.know) (view_of (facts_of_all c.in-Ok.segments.items)) = c.in_ok-know.ensures.known in
+    let taken : g.G.Gatherer.known c.in_ok-know.know ≡ join (g.G.Gatherer.known c.loop-piece.know) (view_of (facts_of_piece c.in-Ok.whole)) = c.in_ok-know.ensures.known in
     record {
-      files = c.segments_of.ensures.same ∙ c.loop-piece.invariant.files;
+      files = c.ready_piece_of.ensures.same ∙ c.loop-piece.invariant.files;
       known = subst (λ (ps : List PieceParts). IsKnown file ps (g.G.Gatherer.known c.in_ok-know.know)) (sym more)
           (known_more c.view_laws.ensures.union file (take c.loop-piece.piece-index c.args.pieces.now) c.piece-item.result (g.G.Gatherer.known c.loop-piece.know) (g.G.Gatherer.known c.in_ok-know.know)
-          (facts_of_all c.in-Ok.segments.items) c.loop-piece.invariant.known told taken);
+          (facts_of_piece c.in-Ok.whole) c.loop-piece.invariant.known told taken);
       outside = outside_later file c.args.layout.now.ranks (take c.loop-piece.piece-index c.args.pieces.now) _ c.piece-item.result
-          (facts_of_all c.in-Ok.segments.items) c.loop-piece.stranger _ more c.loop-piece.invariant.outside told (search rules);
-      within = within_more c.join_laws.ensures.cells c.view_laws.ensures.cells _ c.args.layout.now c.piece-item.result (facts_of_all c.in-Ok.segments.items)
+          (facts_of_piece c.in-Ok.whole) c.loop-piece.stranger _ more c.loop-piece.invariant.outside told (search rules);
+      within = within_more c.join_laws.ensures.cells c.view_laws.ensures.cells _ c.args.layout.now c.piece-item.result (facts_of_piece c.in-Ok.whole)
           c.loop-piece.stranger _ (g.G.Gatherer.known c.loop-piece.know) (g.G.Gatherer.known c.in_ok-know.know) c.loop-piece.invariant.within told (search rules) taken;
       layout = c.in_ok-know.ensures.layout ∙ c.loop-piece.invariant.layout;
     }

@@ -19,7 +19,7 @@ pub returns-clause-table : goal.returns-clause-table
 returns-clause-table c =
     let rows = subst (λ (os : List Ops). c.in_ok-rows.rows ≡ table_with (comes_after os) (sends_of os) (receives_of os)) c.new-reaches.ensures
     (c.in_ok-rows.ensures (sends_of c.new-reaches.result) (receives_of c.new-reaches.result) c.in_ok-batch.ensures) in
-    c.in_ok-pairs.ensures ∙ rows
+    c.of_rows.ensures ∙ rows
 
 pub returns-clause-certain : goal.returns-clause-certain
 returns-clause-certain c = certain_table c.args.ops.now _ c.requires.own (returns-clause-table c)

@@ -8,7 +8,7 @@ use Rattle.trace_wait.proofs.unpaired.ask_all.Goals as goal
 
 pub loop-q-preserved : goal.loop-q-preserved
 loop-q-preserved c = λ before last.
-    let pairs = c.args.pairs.now.pairs in
+    let pairs = c.args.pairs.now in
     let qs = c.args.receives.now in
     let i = c.loop-q.q-index in
     subst (λ (l : List Receive). AreLast l c.ask_unpaired.new.asked) (more_free pairs before qs i _ c.loop-q-test.true)

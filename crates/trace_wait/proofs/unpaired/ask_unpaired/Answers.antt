@@ -7,18 +7,18 @@ use Rattle.trace_wait.proofs.unpaired.ask_unpaired.Goals as goal
 
 pub returns-then-is_void : goal.returns-then-is_void
 returns-then-is_void c = λ before last.
-    subst (λ (l : List Receive). AreLast l c.args.asked.now) (passed_void c.args.pairs.now.pairs c.args.q.now before (sym c.is_void.ensures ∙ c.if-is_void.true)) last
+    subst (λ (l : List Receive). AreLast l c.args.asked.now) (passed_void c.args.pairs.now c.args.q.now before (sym c.is_void.ensures ∙ c.if-is_void.true)) last
 
 pub returns-then-is_given : goal.returns-then-is_given
 returns-then-is_given c = λ before last.
     let q = c.args.q.now in
-    let pairs = c.args.pairs.now.pairs in
+    let pairs = c.args.pairs.now in
     subst (λ (l : List Receive). AreLast l c.args.asked.now) (passed_paired pairs q before (has_one (given_by pairs q.name) (sym c.is_given.ensures ∙ c.if-is_given.true))) last
 
 pub returns : goal.returns
 returns c = λ before last.
     let q = c.args.q.now in
-    let pairs = c.args.pairs.now.pairs in
+    let pairs = c.args.pairs.now in
     subst (λ (l : List Receive). AreLast l c.insert.new.self)
     (put_free pairs q before (sym c.is_void.ensures ∙ c.if-is_void.false) (has_none (given_by pairs q.name) (sym c.is_given.ensures ∙ c.if-is_given.false)))
     (last_behind before q c.insert.new.self (c.in_ok-insert.ensures before last))

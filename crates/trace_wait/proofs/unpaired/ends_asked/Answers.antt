@@ -9,7 +9,7 @@ use Rattle.trace_wait.proofs.unpaired.ends_asked.Goals as goal
 
 pub loop-o-preserved : goal.loop-o-preserved
 loop-o-preserved c =
-    let pairs = c.args.pairs.now.pairs in
+    let pairs = c.args.pairs.now in
     let ops = c.args.ops.now in
     let i = c.loop-o.o-index in
     let first = free_receives (take i ops) pairs in

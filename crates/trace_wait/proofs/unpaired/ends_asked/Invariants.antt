@@ -4,4 +4,4 @@ use Rattle.trace_wait.specs.Matching.{free_receives}
 use Rattle.trace_wait.proofs.unpaired.ends_asked.Given as goal
 
 abbrev pub invariant-loop-o : goal.invariant-loop-o
-invariant-loop-o l = AreLast (free_receives (take l.o-index l.ops) l.pairs.pairs) l.asked
+invariant-loop-o l = AreLast (free_receives (take l.o-index l.ops) l.pairs) l.asked

@@ -23,12 +23,12 @@ invariant_of-result c =
           let ranks = c.ranks.ensures.value in
           w.index-is ∙ w.in_ok-set.ensures.ok ∙ ap (λ (l : List Ops). set l c.rank-rank.result w.in_ok-ops_of.field-0) c.self.invariant
           ∙ followed_all c.join_laws.ensures.cells c.view_laws.ensures.cells c.prefix_laws.ensures.events c.prefix_laws.ensures.one_list c.prefix_laws.ensures.beyond
-          layout know c.take_ready.new.self c.args.segment c.in_ok-take_ready.ensures.ok c.rank-rank.result w.in_ok-ops_of.field-0 c.rank-rank.ensures
+          layout know c.take_piece.new.self c.args.piece c.in_ok-take_piece.ensures.ok c.rank-rank.result w.in_ok-ops_of.field-0 c.rank-rank.ensures
           (omega (arith, inside, ranks)) w.in_ok-ops_of.ensures)
       | else-rank-ranks w ↦ (
           let outside = w.if-rank-ranks.false in
           let ranks = c.ranks.ensures.value in
           w.index-is ∙ c.self.invariant
           ∙ followed_none c.join_laws.ensures.cells c.view_laws.ensures.cells c.prefix_laws.ensures.events c.prefix_laws.ensures.one_list c.prefix_laws.ensures.beyond
-          layout know c.take_ready.new.self c.args.segment c.in_ok-take_ready.ensures.ok c.rank-rank.result c.rank-rank.ensures (omega (arith, outside, ranks)))
+          layout know c.take_piece.new.self c.args.piece c.in_ok-take_piece.ensures.ok c.rank-rank.result c.rank-rank.ensures (omega (arith, outside, ranks)))
     ]

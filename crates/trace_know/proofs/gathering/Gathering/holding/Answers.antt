@@ -9,5 +9,5 @@ pub returns : goal.returns
 returns c =
     let inside = c.self.inside in
     ap (λ (ss : List PlacedEvents). join inside.know (view_of (facts_of_all ss))) c.in_ok-push.ensures.items
-    ∙ sym (one_more inside.know inside.held.items c.args.segment)
-    ∙ ap (λ (v : View). join v (view_of (facts_of c.args.segment))) c.self.view_is
+    ∙ sym (one_more inside.know inside.held.items c.args.piece)
+    ∙ ap (λ (v : View). join v (view_of (facts_of c.args.piece))) c.self.view_is

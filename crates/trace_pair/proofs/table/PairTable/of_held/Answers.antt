@@ -14,4 +14,4 @@ pub of_rows-requires : goal.of_rows-requires
 of_rows-requires c = table_are c.args.held.now c.in_ok-rows.rows c.requires.own (c.in_ok-rows.ensures c.requires.followed)
 
 pub returns : goal.returns
-returns c = c.in_ok-table.ensures ∙ c.in_ok-rows.ensures c.requires.followed
+returns c = c.of_rows.ensures ∙ c.in_ok-rows.ensures c.requires.followed

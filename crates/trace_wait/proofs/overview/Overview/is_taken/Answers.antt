@@ -5,4 +5,4 @@ use Rattle.trace_wait.proofs.overview.Overview.is_taken.Goals as goal
 
 pub returns : goal.returns
 returns c =
-    c.is_some.ensures ∙ ap is_some c.partner.ensures ∙ ap (λ (s : Run). is_some (taken_by s.pairs c.args.m.now.name)) c.self.view_is
+    c.is_some.ensures ∙ ap is_some c.receive_of.ensures ∙ ap (λ (s : Run). is_some (taken_by s.pairs c.args.m.now.name)) c.self.view_is
