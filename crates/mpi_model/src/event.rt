@@ -107,7 +107,7 @@ impl PartialOrd for OpName {
 
     ghost laws = { partial_order_from_agreeing_total name_cmp
         (then_total (on_total (λ a. a.rank) nat_cmp_total)
-            (then_total (on_total (λ a. a.call) nat_cmp_total) (on_total (λ a. a.part) nat_cmp_total)))
+        (then_total (on_total (λ a. a.call) nat_cmp_total) (on_total (λ a. a.part) nat_cmp_total)))
         (λ a b. refl) (Prim.search (comparing, rules)) };
 
     fn partial_cmp(&self, other: &OpName) -> Option<Ordering> {
