@@ -19,7 +19,7 @@ use Rattle.trace_ops.specs.Places.{completed_in, places_of}
 use Rattle.trace_ops.specs.Request.{given_of, completions, is_completed, is_init, is_posted, is_start}
 use Rattle.trace_ops.specs.Steps.{IsPartOf, Step, given_by, completed_by, posted_by, touches, whole}
 use Rattle.trace_ops.specs.Source.{told_in, told_by}
-use Rattle.trace_ops.specs.Touched.{Follows, IsQuiet, ended_at, ends_at, end_of, is_any_cancelled, is_completed_at, marked, is_marked, is_void_end, tellings_of, voided_end, with_ends, with_firsts, with_told, with_tellings}
+use Rattle.trace_ops.specs.Touched.{Follows, IsQuiet, IsWithoutRequest, ended_at, ends_at, end_of, is_any_cancelled, is_completed_at, marked, is_marked, is_void_end, tellings_of, voided_end, with_ends, with_firsts, with_told, with_tellings}
 use Rattle.trace_ops.specs.Trust.{cancel_of, cancels, first_said, has_cancel, said_in, said_by}
 use Rattle.trace_ops.proofs.Placing.{any_completed, completed_there}
 
@@ -279,6 +279,13 @@ module _ (calls : List Entry) (n : ℕ) (c : Entry) (later : List Step) (old new
       ((x : ℤ) → new x ≡ cond (int_eq request x) (Some (ends_at n 0)) (old x)) → Follows calls later old → Follows calls (whole n c ∷ later) new
   whole_given request at q p = follows_given calls (whole n c) later old new request at q p (quiet c.call c.outs request p)
 
+-- a call that has to do with no request
+pub whole_silent : (calls : List Entry) (n : ℕ) (c : Entry) (later : List Step) (kept : ℤ → Option Touch) → IsWithoutRequest c.call → Follows calls later kept → Follows calls (whole n c ∷ later) kept
+whole_silent calls n c later kept none f =
+    let s = whole n c in
+    by_one calls s later kept kept kept
+    (λ x. passes calls s later kept kept x (kept x) f refl (untouched calls s later kept kept (none.gives c.outs) (none.completes c.outs) x) (cancels_none calls s later kept kept none.cancels x))
+
 -- a Start or Startall cancels and completes none
 start_quiet : (call : Call) (outs : Option Outs) → is_start call ≡ true → (cancel_of call ≡ None) × (completions call outs ≡ [])
 start_quiet (Start request) outs h = (refl, refl)
@@ -303,6 +310,14 @@ module _ (calls : List Entry) (n : ℕ) (s : Step) (later : List Step) (part : I
 -- the call at a place is what is read there
 pub read_there : (calls : List Entry) (n : ℕ) (c : Entry) → slice_get calls n ≡ Some c → c ≡ get_or calls n c
 read_there calls n c at = sym (get_or_from_slice_get calls n c c at)
+
+-- a call that has to do with no request posts none
+pub posts_none : (n : ℕ) (c : Entry) → IsWithoutRequest c.call → posted_by (whole n c) ≡ None
+posts_none n c none = by (is_init c.call)
+  where
+    by : (b : Bool) → (if b then None else given_of c.call c.outs) ≡ None
+    by true = refl
+    by false = none.gives c.outs
 
 -- a call that posts a number gives it
 pub posts_given : (n : ℕ) (c : Entry) (x : ℤ) → posted_by (whole n c) ≡ Some x → given_of c.call c.outs ≡ Some x

@@ -3,6 +3,8 @@ use Rattle.std.specs.Prelude.{◌≡◌, ℕ, ℤ, ◌+◌, Bool, false, true, i
 use Rattle.std.specs.List.{list_any}
 use Rattle.std.specs.Option.{option_map, option_and_then}
 use Rattle.std.specs.Ordering.{int_eq}
+use Rattle.mpi_model.specs.declared.call.Call.{Call}
+use Rattle.mpi_model.specs.declared.outcome.Outs.{Outs}
 use Rattle.mpi_model.specs.declared.told.Told.{Told}
 use Rattle.mpi_model.specs.declared.told.Told.TheVariants.{Nothing, Source, Cancelled}
 use Rattle.mpi_model.specs.Tells.{is_cancelled}
@@ -13,7 +15,7 @@ use Rattle.trace_ops.specs.declared.touched.Touch.{Touch}
 use Rattle.trace_ops.specs.Calls.{Entry}
 use Rattle.trace_ops.specs.Ended.{ended_by}
 use Rattle.trace_ops.specs.Places.{completed_in, places_of}
-use Rattle.trace_ops.specs.Request.{given_in, is_completing}
+use Rattle.trace_ops.specs.Request.{completions, given_in, given_of, is_completing, is_start}
 use Rattle.trace_ops.specs.Steps.{IsPartOf, Step, given_by, touches, whole}
 use Rattle.trace_ops.specs.Source.{told_at, told_in, told_by}
 use Rattle.trace_ops.specs.Tables.{Becomes, kept_of}
@@ -149,6 +151,14 @@ NotesCall n c old new = (calls : List Entry) → slice_get calls n ≡ Some c �
 -- a part of call n that gives this number, if one, is noted
 abbrev pub NotesPart : ℕ → Option ℤ → (old new : Touched) → Type 0
 NotesPart n given old new = (calls : List Entry) (s : Step) → IsPartOf calls n s → given ≡ given_by s → Notes calls s old new
+
+-- The call has to do with no request, whatever its outcome: it gives no number, starts, completes and frees none, and cancels
+-- none.
+pub record IsWithoutRequest (call : Call) : Type 0 where
+  pub starts : is_start call ≡ false
+  pub gives : (outs : Option Outs) → given_of call outs ≡ None
+  pub completes : (outs : Option Outs) → completions call outs ≡ []
+  pub cancels : cancel_of call ≡ None
 
 -- The call cancels no request, and gives no number.
 pub record IsQuiet (c : Entry) : Type 0 where

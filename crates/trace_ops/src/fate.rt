@@ -89,28 +89,31 @@ fn called_at<'a>(calls: &'a Calls<'_>, n: usize) -> Option<Called<'a>>
     }
 }
 
-/// What the completions of the call that ends a number tell of it.
+/// What the call that ends a number tells of it: the source, by its completions from a place on, and the call itself, where
+/// its outcome completes a request.
 #[inline(always)]
-fn tellings_of(members: &[u32], x: i64, calls: &Calls<'_>, end: Option<End>) -> Option<u32>
-    ensures { result ≡ told_in members.now x (tellings_of calls.now end) }
+fn told_by_end(
+    members: &[u32],
+    x: i64,
+    calls: &Calls<'_>,
+    end: Option<End>,
+) -> (Option<u32>, Option<u64>)
+    ensures told { result.0 ≡ told_in members.now x (tellings_of calls.now end) }
+    ensures ended { result.1 ≡ ended_at calls.now end }
 {
-    let end = end?;
-    let called = called_at(calls, end.call)?;
-    told_in(members, x, &called, end.place)
-}
-
-/// The call whose outcome completes a request, where the call that ends it has one.
-#[inline(always)]
-fn ended_at(calls: &Calls<'_>, end: Option<End>) -> Option<u64>
-    ensures { result ≡ ended_at calls.now end }
-{
-    let end = end?;
-    let called = called_at(calls, end.call)?;
-    if called.is_completing() {
+    let Some(end) = end else {
+        return (None, None);
+    };
+    let Some(called) = called_at(calls, end.call) else {
+        return (None, None);
+    };
+    let told = told_in(members, x, &called, end.place);
+    let ended = if called.is_completing() {
         Some(end.call as u64)
     } else {
         None
-    }
+    };
+    (told, ended)
 }
 
 /// What becomes of the request that is posted, if one is, by what is kept of its number of the steps behind its post.
@@ -130,20 +133,14 @@ pub(crate) fn fate_of<'a>(
     })
 }
 
-/// What is told of the source of an Irecv, by the fate of its request.
+/// By the fate of an Irecv's request, what is told of its source, and the call whose outcome completes it.
 #[inline(always)]
-pub(crate) fn told_of_post(members: &[u32], fate: Option<Fate<'_>>) -> Option<u32>
-    ensures { OfFate fate.entry (λ later posted. result ≡ told_of_post members.now later posted) }
+pub(crate) fn end_of_post(members: &[u32], fate: Option<Fate<'_>>) -> (Option<u32>, Option<u64>)
+    ensures told { OfFate fate.entry (λ later posted. result.0 ≡ told_of_post members.now later posted) }
+    ensures ended { OfFate fate.entry (λ later posted. result.1 ≡ ended_of_post later posted) }
 {
-    let fate = fate?;
-    tellings_of(members, fate.request, fate.calls, end_of(fate.touch))
-}
-
-/// The call whose outcome completes an Irecv, by the fate of its request.
-#[inline(always)]
-pub(crate) fn ended_of_post(fate: Option<Fate<'_>>) -> Option<u64>
-    ensures { OfFate fate.entry (λ later posted. result ≡ ended_of_post later posted) }
-{
-    let fate = fate?;
-    ended_at(fate.calls, end_of(fate.touch))
+    match fate {
+        Some(fate) => told_by_end(members, fate.request, fate.calls, end_of(fate.touch)),
+        None => (None, None),
+    }
 }

@@ -10,7 +10,7 @@ ghost use Rattle.trace_ops.specs.Source.{told_of_flag, told_of_own};
 ghost use Rattle.trace_ops.specs.Steps.{starting};
 ghost use Rattle.trace_ops.specs.Trust.{trust_by};
 
-use crate::fate::{Fate, ended_of_post, source_in, told_of_post};
+use crate::fate::{Fate, end_of_post, source_in};
 use crate::group::{Group, group_named};
 use crate::trust::{trust_of_post, trust_of_probe};
 use mpi_model::{Call, Envelope, Layout, OpName, Outs, Peer, ProbeEnvelope, Receive, Trust};
@@ -170,9 +170,8 @@ fn taken_by(
             taken_with(group, name, both.receive(), Trust::Sure, told, ended)
         }
         Call::Irecv(e) => {
-            let told = told_of_post(group.members, fate);
+            let (told, ended) = end_of_post(group.members, fate);
             let trust = trust_of_post(fate, told.is_some());
-            let ended = ended_of_post(fate);
             taken_with(group, name, e.envelope(), trust, told, ended)
         }
         Call::Mprobe(e) => {

@@ -1,16 +1,16 @@
 //! Which request numbers the calls behind touch or cancel, and what they tell of them.
 
-ghost use Rattle.std.specs.Prelude.{◌≡◌, Some, IfOk, OnOk};
+ghost use Rattle.std.specs.Prelude.{◌≡◌, true, Some, IfOk, OnOk};
 ghost use Rattle.std.specs.Option.{option_map};
 ghost use Rattle.trace_ops.specs.Called.{places_by, plain_called};
 ghost use Rattle.trace_ops.specs.Request.{given_in};
 ghost use Rattle.trace_ops.specs.Tables.{Becomes, ChangesAt, kept_of};
-ghost use Rattle.trace_ops.specs.Touched.{IsKept, NotesCall, NotesEnd, NotesPart, NotesQuiet, end_of, ends_at, is_any_cancelled, is_cancelled_at, marked, voided, with_ends, with_firsts, with_place, with_tellings};
+ghost use Rattle.trace_ops.specs.Touched.{IsKept, IsWithoutRequest, NotesCall, NotesEnd, NotesPart, NotesQuiet, end_of, ends_at, is_any_cancelled, is_cancelled_at, marked, voided, with_ends, with_firsts, with_place, with_tellings};
 
 use crate::called::Called;
 use crate::completed::Completed;
 use crate::table::Touched;
-use mpi_model::Told;
+use mpi_model::{Call, Told};
 use std::alloc::AllocError;
 
 /// The first call that touches a request number, and what it tells of the request.
@@ -29,6 +29,22 @@ pub(crate) struct Touch {
     pub end: Option<End>,
     /// Whether a Cancel names the number before it is touched.
     pub cancelled: bool,
+}
+
+/// Whether it is known that the call has to do with no request, whatever its outcome.
+#[inline(always)]
+pub(crate) fn is_without_request(call: &Call) -> bool
+    ensures { result ≡ true → IsWithoutRequest call.now }
+{
+    matches!(
+        call,
+        Call::Local
+            | Call::Send(_, _)
+            | Call::Recv(_)
+            | Call::Sendrecv(_)
+            | Call::Collective(_)
+            | Call::Probe(_)
+    )
 }
 
 /// What is kept of the number.

@@ -1,6 +1,6 @@
 //! From what is known of a rank to what it did.
 
-ghost use Rattle.std.specs.Prelude.{◌≡◌, ◌<◌, ◌≤◌, ◌+◌, if◌then◌else◌, IfOk, OnOk, length, reverse};
+ghost use Rattle.std.specs.Prelude.{◌≡◌, ◌<◌, ◌≤◌, ◌+◌, if◌then◌else◌, IfOk, IfSome, OnOk, length, reverse};
 ghost use Rattle.std.specs.Ordering.{int_eq};
 ghost use Rattle.indexmap.specs.IndexMap.{get};
 ghost use Rattle.trace_ops.specs.Foreign.{is_foreign_in};
@@ -15,13 +15,16 @@ use crate::completed::push_some;
 use crate::entered::Entered;
 use crate::fate::fate_of;
 use crate::group::{Group, group_given_world, is_foreign_in, world_of};
-use crate::held::{Held, Init, Part, as_started, begun_at, holding_of, is_start, started_by};
+use crate::held::{
+    Held, Init, Part, as_started, begun_at, holding_of, is_init, is_start, started_by,
+};
 use crate::message::{entered_in, message_in};
 use crate::ops::RankOps;
 use crate::rank_state::{state_of, waiting_of};
 use crate::receive::receive_in;
+use crate::room::Room;
 use crate::table::Touched;
-use crate::touched::{note, note_part};
+use crate::touched::{is_without_request, note, note_part};
 use crate::trust::{cancelled_with, gives_back};
 use mpi_model::{Call, Layout, Message, OpName, Receive};
 use std::alloc::{AllocError, Global};
@@ -58,7 +61,62 @@ impl Gathered {
     ghost use Rattle.trace_ops.specs.Called.{plain_called};
     ghost use Rattle.trace_ops.specs.Calls.{IsCallAt};
     ghost use Rattle.trace_ops.specs.Gathered.{AddsCall, AddsPart, AddsWhole, IsGathered};
+    ghost use Rattle.std.specs.Prelude.{List, ℕ, []};
+    ghost use Rattle.mpi_model.specs.Layouts.{Parts};
+    ghost use Rattle.trace_ops.specs.Calls.{Entry};
     ghost use Rattle.trace_ops.specs.Request.{is_start};
+    ghost use Rattle.trace_ops.specs.Touched.{IsWithoutRequest};
+
+    /// Nothing is gathered of any step yet, and there is room for so many messages and receives.
+    fn empty(alloc: Global, room: Room, calls: &Calls<'_>) -> Result<Gathered, AllocError>
+        ensures few { IfOk result (λ g. g.foreign ≡ 0) }
+        ensures gathered { IfOk result (λ g. (layout : Parts) (rank : ℕ) → IsGathered layout rank calls.now [] g) }
+    {
+        Ok(Gathered {
+            sends: Vec::with_capacity(alloc, room.sends)?,
+            receives: Vec::with_capacity(alloc, room.receives)?,
+            rounds: Vec::new(alloc),
+            active: Vec::new(alloc),
+            cancelled: Vec::new(alloc),
+            foreign: 0,
+            given_back: false,
+            touched: Touched::new(alloc, calls.len())?,
+        })
+    }
+
+    /// Adds what a call tells that has to do with no request, behind which all steps were gathered.
+    #[inline(always)]
+    fn add_without_request(
+        &mut self,
+        layout: &Layout,
+        rank: u32,
+        n: usize,
+        called: &Called<'_>,
+        world: Option<Group<'_>>,
+    ) -> Result<(), AllocError>
+        requires world { IsWorldOf layout.now rank world }
+        requires none { IsWithoutRequest called.now.call.now }
+        requires few { self.old.foreign < u64.MAX }
+        ensures few { OnOk result (self.new.foreign ≤ self.old.foreign + 1) }
+        ensures gathered { OnOk result ((calls : List Entry) → AddsWhole layout.now rank calls n called.now self.old self.new) }
+    {
+        let call = called.call;
+        let number = n as u64;
+        let name = OpName {
+            rank,
+            call: number,
+            part: 0,
+        };
+        let group = group_given_world(layout, rank, number, call, world);
+        push_some(&mut self.sends, message_in(group, name, call, None))?;
+        push_some(
+            &mut self.receives,
+            receive_in(group, name, call, called.outs, None, self.given_back),
+        )?;
+        push_some(&mut self.rounds, entered_in(group, number, call))?;
+        self.foreign = with_call(self.foreign, group, call);
+        Ok(())
+    }
 
     /// Adds what a call at a place tells that is one step, behind which all steps were gathered.
     #[inline(always)]
@@ -168,9 +226,32 @@ impl Gathered {
         Ok(())
     }
 
+    /// Adds what a call at a place tells that is one step, behind which all steps were gathered.
+    #[inline(always)]
+    fn add_single(
+        &mut self,
+        layout: &Layout,
+        rank: u32,
+        calls: &Calls<'_>,
+        n: usize,
+        called: &Called<'_>,
+        world: Option<Group<'_>>,
+    ) -> Result<(), AllocError>
+        requires place { IsCallAt calls.now n (plain_called called.now) }
+        requires world { IsWorldOf layout.now rank world }
+        requires few { self.old.foreign < u64.MAX }
+        ensures few { OnOk result (self.new.foreign ≤ self.old.foreign + 1) }
+        ensures gathered { OnOk result (AddsWhole layout.now rank calls.now n called.now self.old self.new) }
+    {
+        if is_without_request(called.call) {
+            self.add_without_request(layout, rank, n, called, world)
+        } else {
+            self.add_whole(layout, rank, calls, n, called, world)
+        }
+    }
+
     /// Adds what the call at a place tells, behind which all steps were gathered, by what holds the numbers that it
     /// starts.
-    #[inline(always)]
     fn add(
         &mut self,
         layout: &Layout,
@@ -190,7 +271,7 @@ impl Gathered {
         if is_start(called.call) {
             self.add_parts(layout, rank, calls, n, called, world, inits)
         } else {
-            self.add_whole(layout, rank, calls, n, called, world)
+            self.add_single(layout, rank, calls, n, called, world)
         }
     }
 
@@ -237,11 +318,36 @@ impl Gathered {
     }
 }
 
-/// What a rank with these calls did. They are gone through from the first to the last, by which it
-/// is known which inits hold the numbers that Starts and Startalls list; and from the last to the
-/// first, so that what the steps behind a post tell of its request is known when it is met. The
-/// lists are turned round at the end.
-fn gather(
+/// What a rank with these calls did, where none of them is an init or starts what one describes; nothing where the first
+/// of these is met. They are gone through once, from the last to the first, so that what the steps behind a post tell of
+/// its request is known when it is met. The lists are turned round at the end.
+fn gather_without_inits(
+    alloc: Global,
+    layout: &Layout,
+    rank: u32,
+    beyond: bool,
+    calls: &Calls<'_>,
+) -> Result<Option<RankOps>, AllocError>
+    ensures { IfOk result (λ found. IfSome found (λ ops. ops ≡ ops_by_calls layout.now rank beyond calls.now)) }
+{
+    let mut gathered = Gathered::empty(alloc, Room::guessed(calls), calls)?;
+    let world = world_of(layout, rank);
+    let mut n = calls.len();
+    while n > 0 {
+        n -= 1;
+        let called = calls.at(n);
+        if is_init(called.call) || is_start(called.call) {
+            return Ok(None);
+        }
+        gathered.add_single(layout, rank, calls, n, &called, world)?;
+    }
+    let ops = gathered.into_ops(alloc, layout, rank, beyond, calls, &Held::new(alloc))?;
+    Ok(Some(ops))
+}
+
+/// What a rank with these calls did. They are gone through from the first to the last, by which it is known which inits
+/// hold the numbers that Starts and Startalls list; and then from the last to the first.
+fn gather_with_inits(
     alloc: Global,
     layout: &Layout,
     rank: u32,
@@ -251,16 +357,7 @@ fn gather(
     ensures { IfOk result (λ ops. ops ≡ ops_by_calls layout.now rank beyond calls.now) }
 {
     let holding = holding_of(alloc, calls)?;
-    let mut gathered = Gathered {
-        sends: Vec::with_capacity(alloc, holding.room.sends)?,
-        receives: Vec::with_capacity(alloc, holding.room.receives)?,
-        rounds: Vec::new(alloc),
-        active: Vec::new(alloc),
-        cancelled: Vec::new(alloc),
-        foreign: 0,
-        given_back: false,
-        touched: Touched::new(alloc, calls.len())?,
-    };
+    let mut gathered = Gathered::empty(alloc, holding.room, calls)?;
     let world = world_of(layout, rank);
     let mut left = holding.inits.len();
     let mut n = calls.len();
@@ -280,6 +377,22 @@ fn gather(
         )?;
     }
     gathered.into_ops(alloc, layout, rank, beyond, calls, &holding.held)
+}
+
+/// What a rank with these calls did. Few programs have persistent requests.
+fn gather(
+    alloc: Global,
+    layout: &Layout,
+    rank: u32,
+    beyond: bool,
+    calls: &Calls<'_>,
+) -> Result<RankOps, AllocError>
+    ensures { IfOk result (λ ops. ops ≡ ops_by_calls layout.now rank beyond calls.now) }
+{
+    match gather_without_inits(alloc, layout, rank, beyond, calls)? {
+        Some(ops) => Ok(ops),
+        None => gather_with_inits(alloc, layout, rank, beyond, calls),
+    }
 }
 
 /// What a rank of the layout did, by its readable events.

@@ -3,7 +3,7 @@ use Rattle.std.specs.Option.{option_map}
 use Rattle.trace_ops.specs.Gathered.{IsGathered}
 use Rattle.trace_ops.specs.Held.{inits_from, plain_init}
 use Rattle.trace_ops.specs.Steps.{steps_from}
-use Rattle.trace_ops.proofs.ops.gather.gather.Given as goal
+use Rattle.trace_ops.proofs.ops.gather.gather_with_inits.Given as goal
 
 abbrev pub decreases-loop-n : goal.decreases-loop-n
 decreases-loop-n l = l.n

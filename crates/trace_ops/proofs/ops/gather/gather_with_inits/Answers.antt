@@ -1,4 +1,4 @@
-use Rattle.std.proofs.Common.{◌≡◌, ◌+◌, ◌-◌, ◌<◌, ◌≤◌, false, List, [], reverse, take, drop, map, length, refl, sym, ◌∙◌, ap, subst, arith, rules}
+use Rattle.std.proofs.Common.{◌≡◌, ◌+◌, ◌-◌, ◌<◌, ◌≤◌, List, [], reverse, take, drop, map, length, sym, ◌∙◌, ap, subst, arith, rules}
 use Rattle.std.specs.Prelude.{ℤ, Option}
 use Rattle.std.specs.Option.{option_map}
 use Rattle.trace_ops.specs.declared.held.Init.{Init as Lent}
@@ -10,10 +10,9 @@ use Rattle.trace_ops.specs.Held.{inits_from, plain_init}
 use Rattle.trace_ops.specs.Request.{started_by}
 use Rattle.trace_ops.specs.Steps.{Step, steps_from}
 use Rattle.trace_ops.proofs.Behind.{read_there}
-use Rattle.trace_ops.specs.declared.ops.gather.Gathered.{Gathered}
 use Rattle.trace_ops.proofs.Nothing.{gathered_first}
 use Rattle.trace_ops.proofs.Holding.{before_count, listed_before, listed_here, listed_within, middle, steps_more}
-use Rattle.trace_ops.proofs.ops.gather.gather.Goals as goal
+use Rattle.trace_ops.proofs.ops.gather.gather_with_inits.Goals as goal
 
 pub overflow_sub-left : goal.overflow_sub-left
 overflow_sub-left c =
@@ -31,26 +30,17 @@ overflow_sub-left c =
 
 pub loop-n-init : goal.loop-n-init
 loop-n-init c =
-    let first : Gathered = record {
-      sends = c.in_ok-with_capacity.field-0;
-      receives = c.in_ok-with_capacity-2.field-0;
-      rounds = c.new.result;
-      active = c.new-2.result;
-      cancelled = c.new-3.result;
-      foreign = 0;
-      given_back = false;
-      touched = c.in_ok-new.field-0;
-    } in
     let all : c.len-n.result ≡ length c.args.calls.now = c.len-n.ensures in
     let whole : length c.in_ok-holding.holding.inits.items ≤ c.len-left.result = search rules in
+    let few = c.in_ok-gathered.ensures.few in
     record {
       within = search rules;
-      few = search rules;
+      few = omega (arith, all, few);
       left = search rules;
       listed = ap (λ (l : List (Option Lent)). map (option_map plain_init) l) (take_all c.len-left.result c.in_ok-holding.holding.inits.items whole)
           ∙ c.in_ok-holding.ensures.listed ∙ sym (ap (λ (l : List Entry). inits_from [] l) (take_all c.len-n.result c.args.calls.now (omega (arith, all))));
-      gathered = gathered_first c.args.layout.now c.args.rank c.args.calls.now first c.len-n.result c.len-n.ensures c.in_ok-with_capacity.ensures.items
-          c.in_ok-with_capacity-2.ensures.items c.new.ensures.items c.new-2.ensures.items c.new-3.ensures.items refl refl c.in_ok-new.ensures;
+      gathered = gathered_first c.args.layout.now c.args.rank c.args.calls.now c.in_ok-gathered.gathered c.len-n.result c.len-n.ensures
+          (c.in_ok-gathered.ensures.gathered c.args.layout.now c.args.rank);
     }
 
 pub loop-n-preserved : goal.loop-n-preserved
