@@ -1,5 +1,5 @@
-//! Places of messages by keys. Messages that follow one another, and receives that do, mostly go round the same few keys: so
-//! each key remembers which one was asked for behind it, and the map is asked only where it is another one this time.
+//! Places of messages by keys. The map is asked once for nearly every key: from then on its row is found by a guess, a table by
+//! what the key mixes to, and by a look whether the row has that key.
 
 ghost use Rattle.std.specs.Prelude.{◌≡◌, ◌<◌, ◌++◌, ◌∷◌, true, [], None, IfSome, OnOk, length};
 ghost use Rattle.std.specs.BTreeMap.{get};
@@ -13,38 +13,84 @@ use std::alloc::{AllocError, Global};
 use std::collections::BTreeMap;
 use std::marker::Model;
 
-/// Of each row the one that was asked for behind it, the last time. Nothing is claimed of it: it is where a key is looked for
-/// first.
-#[derive(Drop)]
-struct Behind {
-    rows: Vec<usize>,
-    last: usize,
+/// A key, and a number that few other keys have.
+pub(crate) trait Mix {
+    /// The number, whose upper bits are mixed best.
+    fn mix(&self) -> u64;
 }
 
-impl Behind {
-    fn empty(alloc: Global) -> Behind {
-        Behind {
+/// Two numbers in one.
+fn both(a: u32, b: u32) -> u64 {
+    a as u64 | (b as u64) << 32
+}
+
+/// Each bit of the number reaches the upper ones.
+fn spread(bits: u64) -> u64 {
+    bits.wrapping_mul(0x9E37_79B9_7F4A_7C15)
+}
+
+impl Mix for (u32, u32, u32, u32) {
+    #[inline(always)]
+    fn mix(&self) -> u64 {
+        spread(spread(both(self.0, self.1)).rotate_left(32) ^ both(self.2, self.3))
+    }
+}
+
+impl Mix for (u32, u32, u32) {
+    #[inline(always)]
+    fn mix(&self) -> u64 {
+        spread(spread(both(self.0, self.1)).rotate_left(32) ^ self.2 as u64)
+    }
+}
+
+/// How many guesses there are at first.
+const FEW: usize = 256;
+
+/// Rows that were asked for, by what their keys mix to. Nothing is claimed of them: a key is looked for there first.
+#[derive(Drop)]
+struct Guesses {
+    /// As many as a power of two.
+    rows: Vec<usize>,
+    /// How many rows there are to guess.
+    count: usize,
+}
+
+impl Guesses {
+    fn empty(alloc: Global) -> Guesses {
+        Guesses {
             rows: Vec::new(alloc),
-            last: 0,
+            count: 0,
         }
     }
 
-    /// The row that was asked for behind the last one.
-    fn guess(&self) -> usize {
-        self.rows.get(self.last).copied().unwrap_or(0)
+    /// Where the guess for a key stands, if one does.
+    #[inline(always)]
+    fn place(&self, mixed: u64) -> usize {
+        (mixed >> 40) as usize & self.rows.len().wrapping_sub(1)
     }
 
-    /// This row is asked for.
-    fn ask(&mut self, row: usize) {
-        if self.last < self.rows.len() {
-            self.rows[self.last] = row;
+    /// The row that was last asked for where this key may have its guess.
+    #[inline(always)]
+    fn at(&self, mixed: u64) -> usize {
+        self.rows.get(self.place(mixed)).copied().unwrap_or(0)
+    }
+
+    /// This row has the key.
+    #[inline(always)]
+    fn put(&mut self, mixed: u64, row: usize) {
+        let place = self.place(mixed);
+        if place < self.rows.len() {
+            self.rows[place] = row;
         }
-        self.last = row;
     }
 
-    /// A row more.
-    fn add(&mut self) -> Result<(), AllocError> {
-        self.rows.push(0)?;
+    /// A row more. Where that makes too many rows for the guesses, there are twice as many, and all are new.
+    fn add(&mut self, alloc: Global) -> Result<(), AllocError> {
+        self.count = self.count.saturating_add(1);
+        if self.count > self.rows.len() / 2 {
+            let many = self.rows.len().saturating_mul(2).max(FEW);
+            self.rows = Vec::from_elem(alloc, 0, many)?;
+        }
         Ok(())
     }
 }
@@ -61,7 +107,7 @@ struct Row<K> {
 pub(crate) struct PlacesByKey<K: Ord> {
     rows: Vec<Row<K>>,
     index: BTreeMap<K, usize>,
-    behind: Behind,
+    guesses: Guesses,
 }
 
 impl<K: Ord> Model for PlacesByKey<K> {
@@ -144,7 +190,7 @@ fn put_row<K: Ord + Copy + Drop>(
     }
 }
 
-impl<K: Ord + Copy + Drop> PlacesByKey<K> {
+impl<K: Ord + Mix + Copy + Drop> PlacesByKey<K> {
     /// No places at any key.
     pub(crate) fn empty(alloc: Global) -> PlacesByKey<K>
         ensures { result ≡ [] }
@@ -152,7 +198,7 @@ impl<K: Ord + Copy + Drop> PlacesByKey<K> {
         PlacesByKey {
             rows: Vec::new(alloc),
             index: BTreeMap::new(alloc),
-            behind: Behind::empty(alloc),
+            guesses: Guesses::empty(alloc),
         }
     }
 
@@ -162,7 +208,7 @@ impl<K: Ord + Copy + Drop> PlacesByKey<K> {
         ensures { OnOk result (AddsPlace K.cmp key place self.old self.new) }
     {
         let places = Places::one(alloc, place)?;
-        self.behind.add()?;
+        self.guesses.add(alloc)?;
         put_row(&mut self.rows, &mut self.index, Row { key, places })?;
         Ok(())
     }
@@ -171,10 +217,11 @@ impl<K: Ord + Copy + Drop> PlacesByKey<K> {
     pub(crate) fn add(&mut self, alloc: Global, key: K, place: usize) -> Result<(), AllocError>
         ensures { OnOk result (AddsPlace K.cmp key place self.old self.new) }
     {
-        let Some(row) = row_of(&self.rows, &self.index, self.behind.guess(), &key) else {
+        let mixed = key.mix();
+        let Some(row) = row_of(&self.rows, &self.index, self.guesses.at(mixed), &key) else {
             return self.put_first(alloc, key, place);
         };
-        self.behind.ask(row);
+        self.guesses.put(mixed, row);
         push_in(&mut self.rows[row], place)
     }
 
@@ -191,10 +238,11 @@ impl<K: Ord + Copy + Drop> PlacesByKey<K> {
             (from_waiting takers.now (places_at K.cmp self.old key.now)) }
         ensures left { DropsTaken K.cmp key.now takers.now self.old self.new }
     {
-        let Some(row) = row_of(&self.rows, &self.index, self.behind.guess(), key) else {
+        let mixed = key.mix();
+        let Some(row) = row_of(&self.rows, &self.index, self.guesses.at(mixed), key) else {
             return None;
         };
-        self.behind.ask(row);
+        self.guesses.put(mixed, row);
         sole_in(&mut self.rows[row], plain, messages, takers)
     }
 }
