@@ -55,7 +55,7 @@ USES = {
     "frames": ["mpi_model", "trace_know", "trace_wire", "anyhow"],
 }
 TAKES = ["16 1 11574 0", "16 6250 2 0", "16 6250 2 1", "1 100000 2 1", "16 12500 2 1", "16 1 11574 2"]
-PAIRS = ("VmRSS", "VmHWM", "of_all", "pairs", "partners", "rank 0")
+PAIRS = ("pair_all", "VmRSS", "VmHWM", "of_all", "pairs", "by the receive", "partners", "rank 0")
 
 
 def built(room, name):

@@ -49,17 +49,14 @@ const FEW: usize = 256;
 /// Rows that were asked for, by what their keys mix to. Nothing is claimed of them: a key is looked for there first.
 #[derive(Drop)]
 struct Guesses {
-    /// As many as a power of two.
+    /// As many as a power of two, or none.
     rows: Vec<usize>,
-    /// How many rows there are to guess.
-    count: usize,
 }
 
 impl Guesses {
     fn empty(alloc: Global) -> Guesses {
         Guesses {
             rows: Vec::new(alloc),
-            count: 0,
         }
     }
 
@@ -84,12 +81,15 @@ impl Guesses {
         }
     }
 
-    /// A row more. Where that makes too many rows for the guesses, there are twice as many, and all are new.
-    fn add(&mut self, alloc: Global) -> Result<(), AllocError> {
-        self.count = self.count.saturating_add(1);
-        if self.count > self.rows.len() / 2 {
-            let many = self.rows.len().saturating_mul(2).max(FEW);
-            self.rows = Vec::from_elem(alloc, 0, many)?;
+    /// Twice as many guesses, where these are too few for one row more: then all rows are guessed anew.
+    fn widen<K: Mix>(&mut self, alloc: Global, rows: &[Row<K>]) -> Result<(), AllocError> {
+        if rows.len() < self.rows.len() / 2 {
+            return Ok(());
+        }
+        let many = self.rows.len().saturating_mul(2).max(FEW);
+        self.rows = Vec::from_elem(alloc, 0, many)?;
+        for (place, row) in rows.iter().enumerate() {
+            self.put(row.key.mix(), place);
         }
         Ok(())
     }
@@ -208,7 +208,8 @@ impl<K: Ord + Mix + Copy + Drop> PlacesByKey<K> {
         ensures { OnOk result (AddsPlace K.cmp key place self.old self.new) }
     {
         let places = Places::one(alloc, place)?;
-        self.guesses.add(alloc)?;
+        self.guesses.widen(alloc, &self.rows)?;
+        self.guesses.put(key.mix(), self.rows.len());
         put_row(&mut self.rows, &mut self.index, Row { key, places })?;
         Ok(())
     }
