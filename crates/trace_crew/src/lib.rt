@@ -3,17 +3,16 @@
 //! Each worker walks its texts in order, posts the segments of each whole text into a queue of eight
 //! places, and at last that it ends; a text with a fault is listed and none of it is posted. The owner,
 //! in the thread that called [`crew`], takes until both have ended. It alone holds the node: it joins
-//! each segment as it comes. Where it finds the queue empty it brings the index of the pairs up to what
-//! was joined; it makes an answer at the end, and on the way where it shows one on the board: once a
-//! million events are joined, and then where three times as much was joined since the last showing as
-//! before it. What was taken is just the segments of each worker's texts in that worker's order, and
-//! the node is the join of them, whatever the order among the workers was.
+//! each segment as it comes. It makes an answer at the end, and on the way where it finds the queue empty
+//! and shows one on the board: once a million events are joined, and then where three times as much was
+//! joined since the last showing as before it. What was taken is just the segments of each worker's texts
+//! in that worker's order, and the node is the join of them, whatever the order among the workers was.
 //!
 //! Cost: reading goes at the speed of two threads, joining at that of one. The workers move the events
 //! of each segment to where they stand in what a node knows, so the owner moves no more than a pointer
 //! for a segment that none before it touches, unless a board shows what the node knows (below); at most
-//! eight wait in the queue. The last answer, for which all wait, costs what is new to the index and one
-//! pass over all messages. The board shares what the node knows and its answer, so showing them costs
+//! eight wait in the queue. The last answer, for which all wait, costs a look at each call and one pass over
+//! all messages, or what is new to the index, where an answer came before. The board shares what the node knows and its answer, so showing them costs
 //! nothing at the end. Before it costs an answer, and a copy of all that is known, which the next segment
 //! takes: all of these together at most a third more than the last of them.
 //!

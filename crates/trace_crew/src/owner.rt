@@ -88,16 +88,13 @@ impl<'s, 'a> Hall<'s, 'a> {
     }
 
     /// While nothing waits to be taken: makes the answer to all that was joined, and shows it, where that
-    /// is due. Else only the index of the pairs takes in what was joined, so the last answer, for which
-    /// all wait, has less that is new to it. A refused publish is passed over: the next one shows all that
-    /// this would have shown.
+    /// is due. A refused publish is passed over: the next one shows all that this would have shown. Nothing
+    /// is prepared for the last answer: its pairs are made in one pass, in less time than an index follows.
     pub fn rest<R: Wait>(&mut self, rt: &R)
         ensures kept { IsKept self.old.node self.new.node }
         ensures refused { self.new.refused.items ≡ self.old.refused.items }
     {
         if !self.is_due() {
-            // (without memory for it now, the next answer takes it in)
-            let _ = self.node.prepare();
             return;
         }
         if self.node.catch_up().is_ok() && self.board.publish(rt, &self.node).is_ok() {
