@@ -6,7 +6,7 @@ use Rattle.std.specs.Str.{bytes_eq}
 use Rattle.std.proofs.lemmas.Bool.{cases_eq, false≢true}
 use Rattle.mpi_model.specs.declared.told.Told.{Told}
 use Rattle.dumpi_calls.specs.Outcomes.{first_number, groups_from, told_at, told_from, told_of}
-use Rattle.dumpi_calls.specs.Skims.{number_or, number_with, seen_with, told_with, unseen, with_told}
+use Rattle.dumpi_calls.specs.Skims.{EndsFields, number_or, number_with, seen_with, told_with, unseen, with_told}
 use Rattle.dumpi_calls.specs.declared.skim.Seen.{Seen}
 use Rattle.dumpi_text.specs.Items.{field_item, fields_front, many_front, next_front, with_first}
 use Rattle.dumpi_text.specs.Stamps.{◌>>=◌}
@@ -145,12 +145,12 @@ unfolding field_item number_front integer_front
 no_error t = refl
 
 -- the five fields that dumpi2ascii writes, of which the second and the third tell
-pub usual_fields : (text a0 t2 a2 t3 a3 more : List ℕ) (n0 n2 n3 : Num) → 5 ≤ length text
+five_fields : (text a0 t2 a2 t3 a3 more : List ℕ) (n0 n2 n3 : Num) → 5 ≤ length text
     → field_item (after_spaces text) ≡ Some (record { word = codes "bytes"; number = n0 }, a0) → a0 ≡ codes ", cancelled=0, " ++ t2
     → field_item (after_spaces t2) ≡ Some (record { word = codes "source"; number = n2 }, a2) → a2 ≡ codes ", " ++ t3
     → field_item (after_spaces t3) ≡ Some (record { word = codes "tag"; number = n3 }, a3) → a3 ≡ codes ", error=0}" ++ more
     → with_told unseen (fields_front text) ≡ Some (told_from (Some nought) (Some n2), more)
-usual_fields text a0 t2 a2 t3 a3 more n0 n2 n3 long e0 c0 e2 c2 e3 c3 =
+five_fields text a0 t2 a2 t3 a3 more n0 n2 n3 long e0 c0 e2 c2 e3 c3 =
     let count = length text in
     let first : Seen = record { cancelled = Some nought; source = None } in
     let both : Seen = record { cancelled = Some nought; source = Some n2 } in
@@ -162,6 +162,39 @@ usual_fields text a0 t2 a2 t3 a3 more n0 n2 n3 long e0 c0 e2 c2 e3 c3 =
     ∙ one_more count 2 (32 ∷ t2) first both (record { word = codes "source"; number = n2 }) a2 (32 ∷ t3) (omega arith) e2 (comma_follows a2 t3 c2) refl
     ∙ one_more count 3 (32 ∷ t3) both both (record { word = codes "tag"; number = n3 }) a3 (32 ∷ t4) (omega arith) e3 (comma_follows a3 t4 c3) refl
     ∙ the_last count 4 (32 ∷ t4) both both (record { word = codes "error"; number = nought }) (125 ∷ more) more (omega arith) (no_error more) (brace_follows (125 ∷ more) more refl) refl
+
+-- the same without the last
+four_fields : (text a0 t2 a2 t3 a3 more : List ℕ) (n0 n2 n3 : Num) → 5 ≤ length text
+    → field_item (after_spaces text) ≡ Some (record { word = codes "bytes"; number = n0 }, a0) → a0 ≡ codes ", cancelled=0, " ++ t2
+    → field_item (after_spaces t2) ≡ Some (record { word = codes "source"; number = n2 }, a2) → a2 ≡ codes ", " ++ t3
+    → field_item (after_spaces t3) ≡ Some (record { word = codes "tag"; number = n3 }, a3) → a3 ≡ 125 ∷ more
+    → with_told unseen (fields_front text) ≡ Some (told_from (Some nought) (Some n2), more)
+four_fields text a0 t2 a2 t3 a3 more n0 n2 n3 long e0 c0 e2 c2 e3 closes =
+    let count = length text in
+    let first : Seen = record { cancelled = Some nought; source = None } in
+    let both : Seen = record { cancelled = Some nought; source = Some n2 } in
+    let t1 : List ℕ = codes "cancelled=0, " ++ t2 in
+    ap (with_told unseen) (whole_count text)
+    ∙ one_more count 0 text unseen unseen (record { word = codes "bytes"; number = n0 }) a0 (32 ∷ t1) (omega arith) e0 (comma_follows a0 t1 c0) refl
+    ∙ one_more count 1 (32 ∷ t1) unseen first (record { word = codes "cancelled"; number = nought }) (44 ∷ 32 ∷ t2) (32 ∷ t2) (omega arith) (not_cancelled t2) (comma_follows (44 ∷ 32 ∷ t2) t2 refl) refl
+    ∙ one_more count 2 (32 ∷ t2) first both (record { word = codes "source"; number = n2 }) a2 (32 ∷ t3) (omega arith) e2 (comma_follows a2 t3 c2) refl
+    ∙ the_last count 3 (32 ∷ t3) both both (record { word = codes "tag"; number = n3 }) a3 more (omega arith) e3 (brace_follows a3 more closes) refl
+
+-- the first four fields, as they stand in the text, and how they end
+pub usual_fields : (text t0 a0 t2 a2 t3 a3 more : List ℕ) (n0 n2 n3 : Num)
+    → text ≡ codes "bytes=" ++ t0 → number_front (after_spaces t0) ≡ Some (n0, a0)
+    → a0 ≡ codes ", cancelled=0, source=" ++ t2 → number_front (after_spaces t2) ≡ Some (n2, a2)
+    → a2 ≡ codes ", tag=" ++ t3 → number_front (after_spaces t3) ≡ Some (n3, a3) → EndsFields a3 more
+    → with_told unseen (fields_front text) ≡ Some (told_from (Some nought) (Some n2), more)
+usual_fields text t0 a0 t2 a2 t3 a3 more n0 n2 n3 p0 e0 c0 e2 c2 e3 ends =
+    let long : 5 ≤ length text = omega (arith, word_there (codes "bytes=") text t0 p0) in
+    let bytes = ap (λ (t : List ℕ). field_item (after_spaces t)) p0 ∙ field_read (codes "bytes") t0 a0 n0 (omega arith) refl e0 in
+    let source = field_read (codes "source") t2 a2 n2 (omega arith) refl e2 in
+    let tag = field_read (codes "tag") t3 a3 n3 (omega arith) refl e3 in
+    elim ends [
+      | inl closes ↦ four_fields text a0 (codes "source=" ++ t2) a2 (codes "tag=" ++ t3) a3 more n0 n2 n3 long bytes c0 source c2 tag closes
+      | inr error ↦ five_fields text a0 (codes "source=" ++ t2) a2 (codes "tag=" ++ t3) a3 more n0 n2 n3 long bytes c0 source c2 tag error
+    ]
 
 -- the three fields of other traces, of which the second tells
 pub short_fields : (text a0 t1 a1 t2 a2 more : List ℕ) (n0 n1 n2 : Num) → 5 ≤ length text

@@ -137,3 +137,12 @@ module _ (text : List ℕ) (count number : ℕ) (some : 0 < count) (few : count 
         };
         means = bracketed_read (take count text) has_digits all fits ∙ ap told (ap pos (sym is) ∙ sym value_is);
       }
+
+-- the world's communicator
+pub world_told : (text rest : List ℕ) → text ≡ codes "2 (MPI_COMM_WORLD)\n" ++ rest → EndsNumber (record { value = pos 2; name = CommWorld }) text rest
+unfolding name_of
+world_told text rest is = record {
+  value = codes "2 (MPI_COMM_WORLD)";
+  line = record { whole = is; short = omega arith; inside = refl; starts = refl; ends = refl };
+  means = value_read (codes "2") (codes " (MPI_COMM_WORLD)") CommWorld (omega arith) refl (omega arith) refl refl;
+}

@@ -1,5 +1,5 @@
 -- What lists tell, item by item: of a group's fields of one name the first counts.
-use Rattle.std.specs.Prelude.{◌≡◌, ℕ, ℤ, List, ◌++◌, map, Option, Some, None, codes, option_map, if◌then◌else◌}
+use Rattle.std.specs.Prelude.{◌≡◌, ◌⊎◌, ℕ, ℤ, List, ◌∷◌, ◌++◌, map, Option, Some, None, codes, option_map, if◌then◌else◌}
 use Rattle.std.specs.Str.{bytes_eq}
 use Rattle.mpi_model.specs.declared.told.Told.{Told}
 use Rattle.dumpi_text.specs.Bytes.{closing_brace}
@@ -15,6 +15,10 @@ use Rattle.dumpi_calls.specs.declared.skim.Seen.{Seen}
 -- A text begins with the field of this word and this number, and then comes the rest.
 abbrev pub HasField : List ℕ → List ℕ → Num → List ℕ → Type 0
 HasField text word number rest = field_item text ≡ Some (record { word = word; number = number }, rest)
+
+-- A group ends here, or behind one field more, which says that there was no error, and then comes the rest.
+abbrev pub EndsFields : List ℕ → List ℕ → Type 0
+EndsFields text rest = (text ≡ closing_brace ∷ rest) ⊎ (text ≡ codes ", error=0}" ++ rest)
 
 -- the number of the first field of a name, with one field more
 abbrev pub number_with : List ℕ → Option Num → Field → Option Num

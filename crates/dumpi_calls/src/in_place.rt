@@ -13,7 +13,8 @@ ghost use Rattle.dumpi_text.specs.declared.texts.TheConstants.{MOST_USUAL_LINES}
 use crate::envelope::{Part, receive_envelope, send_envelope};
 use crate::function::Function;
 use crate::lines::{
-    moved_front, number_front, passed_front, requests_front, small_of, status_front, statuses_front,
+    comm_front, datatype_front, moved_front, number_front, passed_front, request_front,
+    requests_front, small_of, status_front, statuses_front,
 };
 use crate::parameter::Parameter;
 use crate::reading::{asked_tag_of, comm_of, dest_of, request_of, root_of, source_of};
@@ -96,15 +97,10 @@ fn send_front(text: &[u8]) -> Option<(SendEnvelope, &[u8])>
     ensures { IfSome result (λ x. TellsSend x.0 text.now x.1.now) }
 {
     let (count, rest) = number_front(b"int", b"int count=", Parameter::Count, text)?;
-    let (datatype, rest) = number_front(
-        b"MPI_Datatype",
-        b"MPI_Datatype datatype=",
-        Parameter::Datatype,
-        rest,
-    )?;
+    let (datatype, rest) = datatype_front(rest)?;
     let (dest, rest) = number_front(b"int", b"int dest=", Parameter::Dest, rest)?;
     let (tag, rest) = number_front(b"int", b"int tag=", Parameter::Tag, rest)?;
-    let (comm, rest) = number_front(b"MPI_Comm", b"MPI_Comm comm=", Parameter::Comm, rest)?;
+    let (comm, rest) = comm_front(rest)?;
     let elements = small_of(count)?;
     let peer = dest_of(dest)?;
     let asked = small_of(tag)?;
@@ -117,15 +113,10 @@ fn receive_front(text: &[u8]) -> Option<(ReceiveEnvelope, &[u8])>
     ensures { IfSome result (λ x. TellsReceive x.0 text.now x.1.now) }
 {
     let (count, rest) = number_front(b"int", b"int count=", Parameter::Count, text)?;
-    let (datatype, rest) = number_front(
-        b"MPI_Datatype",
-        b"MPI_Datatype datatype=",
-        Parameter::Datatype,
-        rest,
-    )?;
+    let (datatype, rest) = datatype_front(rest)?;
     let (source, rest) = number_front(b"int", b"int source=", Parameter::Source, rest)?;
     let (tag, rest) = number_front(b"int", b"int tag=", Parameter::Tag, rest)?;
-    let (comm, rest) = number_front(b"MPI_Comm", b"MPI_Comm comm=", Parameter::Comm, rest)?;
+    let (comm, rest) = comm_front(rest)?;
     let elements = small_of(count)?;
     let peer = source_of(source)?;
     let asked = asked_tag_of(tag)?;
@@ -154,12 +145,7 @@ fn isend_lines(mode: Mode, text: &[u8]) -> Option<(Call, Outs, u64, &[u8])>
     let Some((envelope, rest)) = send_front(text) else {
         return None;
     };
-    let (request, rest) = number_front(
-        b"MPI_Request",
-        b"MPI_Request request=",
-        Parameter::Request,
-        rest,
-    )?;
+    let (request, rest) = request_front(rest)?;
     let outs = posted(request);
     Some((Call::Isend(mode, envelope), outs, 6, rest))
 }
@@ -188,12 +174,7 @@ fn irecv_lines(text: &[u8]) -> Option<(Call, Outs, u64, &[u8])>
     let Some((envelope, rest)) = receive_front(text) else {
         return None;
     };
-    let (request, rest) = number_front(
-        b"MPI_Request",
-        b"MPI_Request request=",
-        Parameter::Request,
-        rest,
-    )?;
+    let (request, rest) = request_front(rest)?;
     let outs = posted(request);
     Some((Call::Irecv(envelope), outs, 6, rest))
 }
@@ -204,12 +185,7 @@ fn wait_lines(text: &[u8]) -> Option<(Call, Outs, u64, &[u8])>
     ensures says { IfSome result (λ x. TellsCall Function.Wait x.0 x.1 x.2 text.now x.3.now) }
     ensures few { IfSome result (λ x. x.2 ≤ 14) }
 {
-    let (request, rest) = number_front(
-        b"MPI_Request",
-        b"MPI_Request request=",
-        Parameter::Request,
-        text,
-    )?;
+    let (request, rest) = request_front(text)?;
     let Some((told, lines, rest)) = status_front(rest) else {
         return None;
     };
@@ -244,7 +220,7 @@ fn group_lines(kind: Kind, text: &[u8]) -> Option<(Call, Outs, u64, &[u8])>
     ensures few { IfSome result (λ x. x.2 ≤ 14) }
 {
     let (passed, rest) = moved_front(kind, text);
-    let (comm, rest) = number_front(b"MPI_Comm", b"MPI_Comm comm=", Parameter::Comm, rest)?;
+    let (comm, rest) = comm_front(rest)?;
     let group = comm_of(comm)?;
     let collective = Collective::new(kind, None, group)?;
     Some((
@@ -263,7 +239,7 @@ fn rooted_lines(kind: Kind, text: &[u8]) -> Option<(Call, Outs, u64, &[u8])>
 {
     let (passed, rest) = moved_front(kind, text);
     let (root, rest) = number_front(b"int", b"int root=", Parameter::Root, rest)?;
-    let (comm, rest) = number_front(b"MPI_Comm", b"MPI_Comm comm=", Parameter::Comm, rest)?;
+    let (comm, rest) = comm_front(rest)?;
     let rank = root_of(root)?;
     let group = comm_of(comm)?;
     let collective = Collective::new(kind, rank, group)?;

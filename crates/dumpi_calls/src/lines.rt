@@ -1,15 +1,15 @@
 //! Parameter lines as dumpi2ascii writes them, read where they stand in front of a text: what they tell, and what follows
 //! them. What these functions don't answer for is read line by line.
 
-ghost use Rattle.std.specs.Prelude.{◌≡◌, ◌≤◌, ◌<◌, ◌^◌, IfSome, length, true};
-ghost use Rattle.dumpi_calls.specs.InPlace.{PassesLines, TellsNumber, TellsRequests, TellsStatus, TellsStatuses, is_unread};
+ghost use Rattle.std.specs.Prelude.{◌≡◌, ◌≤◌, ◌<◌, ◌++◌, ◌^◌, IfSome, length, true};
+ghost use Rattle.dumpi_calls.specs.InPlace.{EndsNumber, PassesLines, TellsNumber, TellsRequests, TellsStatus, TellsStatuses, is_unread};
 ghost use Rattle.dumpi_calls.specs.Outcomes.{groups_from, told_at};
 ghost use Rattle.dumpi_calls.specs.Readings.{name_of, non_negative};
 ghost use Rattle.dumpi_text.specs.Usual.{before_value, is_word};
 ghost use Rattle.dumpi_text.specs.Value.{value_of};
 
 use crate::function::is;
-use crate::number_lines::number_line;
+use crate::number_lines::{bracketed_line, double_line, number_line, plain_line, world_line};
 use crate::outcome::{sources_in, tolds};
 use crate::parameter::Parameter;
 use crate::quick::quick_number;
@@ -35,7 +35,54 @@ fn any_number_front<'a>(
     Some((number, rest))
 }
 
-/// The same, by what stands before the number: its line is read in one pass where dumpi2ascii wrote it.
+/// The same, by what stands before the number, and by what follows that: its line is read in one pass where dumpi2ascii wrote
+/// it.
+#[inline(never)]
+fn noted_front<'a>(
+    kind: &[u8],
+    start: &[u8],
+    parameter: Parameter,
+    text: &'a [u8],
+    behind: &'a [u8],
+) -> Option<(Num, &'a [u8])>
+    requires kind { is_word kind.now ≡ true }
+    requires start { start.now ≡ before_value kind.now (name_of parameter) }
+    requires short { length start.now ≤ 100 }
+    requires behind { text.now ≡ start.now ++ behind.now }
+    ensures { IfSome result (λ x. TellsNumber parameter x.0 text.now x.1.now) }
+{
+    parameter_lines();
+    match number_line(behind) {
+        Some((number, rest)) => Some((number, rest)),
+        None => any_number_front(kind, parameter, text),
+    }
+}
+
+/// The same, where a quick look at what follows `behind` may have told it.
+#[inline(always)]
+fn front_by<'a>(
+    kind: &[u8],
+    start: &[u8],
+    parameter: Parameter,
+    text: &'a [u8],
+    behind: &'a [u8],
+    quick: Option<(Num, &'a [u8])>,
+) -> Option<(Num, &'a [u8])>
+    requires kind { is_word kind.now ≡ true }
+    requires start { start.now ≡ before_value kind.now (name_of parameter) }
+    requires short { length start.now ≤ 100 }
+    requires behind { text.now ≡ start.now ++ behind.now }
+    requires quick { IfSome quick (λ x. EndsNumber x.0 behind.now x.1.now) }
+    ensures { IfSome result (λ x. TellsNumber parameter x.0 text.now x.1.now) }
+{
+    parameter_lines();
+    match quick {
+        Some((number, rest)) => Some((number, rest)),
+        None => noted_front(kind, start, parameter, text, behind),
+    }
+}
+
+/// The same, by what stands before the number.
 #[inline(always)]
 pub fn number_front<'a>(
     kind: &[u8],
@@ -48,12 +95,55 @@ pub fn number_front<'a>(
     requires short { length start.now ≤ 100 }
     ensures { IfSome result (λ x. TellsNumber parameter x.0 text.now x.1.now) }
 {
-    parameter_lines();
     let behind = strip(start, text)?;
-    match number_line(behind) {
-        Some((number, rest)) => Some((number, rest)),
-        None => any_number_front(kind, parameter, text),
-    }
+    front_by(kind, start, parameter, text, behind, plain_line(behind))
+}
+
+/// The datatype that the line in front of a text tells, and what follows the line.
+#[inline(always)]
+pub fn datatype_front(text: &[u8]) -> Option<(Num, &[u8])>
+    ensures { IfSome result (λ x. TellsNumber Parameter.Datatype x.0 text.now x.1.now) }
+{
+    let start = b"MPI_Datatype datatype=";
+    let behind = strip(start, text)?;
+    let quick = double_line(behind);
+    front_by(
+        b"MPI_Datatype",
+        start,
+        Parameter::Datatype,
+        text,
+        behind,
+        quick,
+    )
+}
+
+/// The request that the line in front of a text tells, and what follows the line.
+#[inline(always)]
+pub fn request_front(text: &[u8]) -> Option<(Num, &[u8])>
+    ensures { IfSome result (λ x. TellsNumber Parameter.Request x.0 text.now x.1.now) }
+{
+    let start = b"MPI_Request request=";
+    let behind = strip(start, text)?;
+    let quick = bracketed_line(behind);
+    front_by(
+        b"MPI_Request",
+        start,
+        Parameter::Request,
+        text,
+        behind,
+        quick,
+    )
+}
+
+/// The communicator that the line in front of a text tells, and what follows the line.
+#[inline(always)]
+pub fn comm_front(text: &[u8]) -> Option<(Num, &[u8])>
+    ensures { IfSome result (λ x. TellsNumber Parameter.Comm x.0 text.now x.1.now) }
+{
+    let start = b"MPI_Comm comm=";
+    let behind = strip(start, text)?;
+    let quick = world_line(behind);
+    front_by(b"MPI_Comm", start, Parameter::Comm, text, behind, quick)
 }
 
 /// A count or a tag of a send.

@@ -1,7 +1,7 @@
 //! Numbers as dumpi2ascii writes them at the end of a line, each read in one pass with its line feed. What these functions
 //! don't answer for is read as any value is.
 
-ghost use Rattle.std.specs.Prelude.{◌≡◌, ◌∷◌, IfSome};
+ghost use Rattle.std.specs.Prelude.{◌≡◌, ◌∷◌, ◌++◌, List, ℕ, IfSome};
 ghost use Rattle.dumpi_calls.specs.InPlace.{EndsNote, EndsNumber};
 ghost use Rattle.dumpi_text.specs.Bytes.{minus, opening_bracket};
 
@@ -93,6 +93,66 @@ fn bracket_line(text: &[u8]) -> Option<(Num, &[u8])>
         name: NumName::Other,
     };
     Some((number, rest))
+}
+
+/// The number of digits that this end of a line follows, and what comes behind that.
+#[inline(always)]
+fn digits_before<'a>(end: &[u8], text: &'a [u8]) -> Option<(Num, &'a [u8])>
+    requires { (rest : List ℕ) → EndsNote NumName.Other (end.now ++ rest) rest }
+    ensures { IfSome result (λ x. EndsNumber x.0 text.now x.1.now) }
+{
+    let (value, count) = digits_front(text);
+    if count == 0 || count > MOST_DIGITS {
+        return None;
+    }
+    let rest = strip(end, &text[count..])?;
+    let number = Num {
+        value: value as i64,
+        name: NumName::Other,
+    };
+    Some((number, rest))
+}
+
+/// The number of digits that a line feed ends, and what follows that. Small enough to be inlined: where the next line begins
+/// then stays in a register.
+#[inline(always)]
+pub fn plain_line(text: &[u8]) -> Option<(Num, &[u8])>
+    ensures { IfSome result (λ x. EndsNumber x.0 text.now x.1.now) }
+{
+    digits_before(b"\n", text)
+}
+
+/// The number of digits with the note of doubles and a line feed, and what follows that.
+#[inline(always)]
+pub fn double_line(text: &[u8]) -> Option<(Num, &[u8])>
+    ensures { IfSome result (λ x. EndsNumber x.0 text.now x.1.now) }
+{
+    digits_before(b" (MPI_DOUBLE)\n", text)
+}
+
+/// The number of digits in brackets that a line feed ends, and what follows that.
+#[inline(always)]
+pub fn bracketed_line(text: &[u8]) -> Option<(Num, &[u8])>
+    ensures { IfSome result (λ x. EndsNumber x.0 text.now x.1.now) }
+{
+    match text {
+        [b'[', rest @ ..] => bracket_line(rest),
+        _ => None,
+    }
+}
+
+/// The number of the world's communicator with its note and a line feed, and what follows that.
+#[inline(always)]
+#[tactic(auto, using(crate::proofs::NumberLines::world_told))]
+pub fn world_line(text: &[u8]) -> Option<(Num, &[u8])>
+    ensures { IfSome result (λ x. EndsNumber x.0 text.now x.1.now) }
+{
+    let rest = strip(b"2 (MPI_COMM_WORLD)\n", text)?;
+    let world = Num {
+        value: 2,
+        name: NumName::CommWorld,
+    };
+    Some((world, rest))
 }
 
 /// The number that fills the rest of a line in front of a text, and what follows the line.

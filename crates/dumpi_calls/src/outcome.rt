@@ -233,7 +233,7 @@ fn tolds_of_text(alloc: Global, requests: &[i64], text: &[u8]) -> Result<Sources
 pub fn sources_in(alloc: Global, requests: &[i64], text: &[u8]) -> Result<Sources, AllocError>
     ensures { IfOk result (λ s. s ≡ tolds_from (groups_from (value_of text.now)) 0 requests.now) }
 {
-    match quick_statuses(alloc, text) {
+    match quick_statuses(alloc, requests.len(), text) {
         Ok(told) => {
             if told.len() == requests.len() {
                 Ok(Sources::from_vec(told))

@@ -5,7 +5,7 @@ ghost use Rattle.std.specs.Prelude.{◌≡◌, ◌<◌, ◌≤◌, ◌∷◌, �
 ghost use Rattle.std.specs.List.{list_all};
 ghost use Rattle.std.specs.Option.{option_map};
 ghost use Rattle.dumpi_calls.specs.Outcomes.{groups_from, told_at, told_of};
-ghost use Rattle.dumpi_calls.specs.Skims.{HasField, groups_front, number_with, seen_with, told_with, tolds_with, unseen, with_told};
+ghost use Rattle.dumpi_calls.specs.Skims.{EndsFields, HasField, groups_front, number_with, seen_with, told_with, tolds_with, unseen, with_told};
 ghost use Rattle.dumpi_text.specs.Bytes.{closing_brace, equals, opening_bracket};
 ghost use Rattle.dumpi_text.specs.Items.{field_item, fields_front, group_item, next_front};
 ghost use Rattle.dumpi_text.specs.Number.{note_front, number_front, number_item};
@@ -53,6 +53,7 @@ pub fn ends_number(text: &[u8]) -> bool
 }
 
 /// The number in front, where it is digits that a `,` or a `}` ends, and what follows it.
+#[inline(always)]
 pub fn split_number(text: &[u8]) -> Option<(Num, &[u8])>
     ensures number { IfSome result (λ x. number_front (after_spaces text.now) ≡ Some (x.0, x.1.now)) }
     ensures item { IfSome result (λ x. number_item text.now ≡ Some (x.0, x.1.now)) }
@@ -104,15 +105,27 @@ const NOUGHT: Num = Num {
     name: NumName::Other,
 };
 
-/// What the fields of a group tell, where they are the five that dumpi2ascii writes and nothing was cancelled, and what
-/// follows its `}`.
+/// What follows the `}` that closes a group, behind the last of its fields or behind one more, which says that there was no
+/// error.
+#[inline(always)]
+fn end_front(text: &[u8]) -> Option<&[u8]>
+    ensures { IfSome result (λ more. EndsFields text.now more.now) }
+{
+    match strip_byte(b'}', text) {
+        Some(rest) => Some(rest),
+        None => strip(b", error=0}", text),
+    }
+}
+
+/// What the fields of a group tell, where they are the five that dumpi2ascii writes, or all but the last, and nothing was
+/// cancelled, and what follows its `}`.
 fn usual_front(text: &[u8]) -> Option<(Told, &[u8])>
     ensures { IfSome result (λ x. with_told unseen (fields_front text.now) ≡ Some (x.0, x.1.now)) }
 {
-    let (_, rest) = field_named(b"bytes", text)?;
-    let (source, rest) = field_named(b"source", strip(b", cancelled=0, ", rest)?)?;
-    let (_, rest) = field_named(b"tag", strip(b", ", rest)?)?;
-    let rest = strip(b", error=0}", rest)?;
+    let (_, rest) = split_number(strip(b"bytes=", text)?)?;
+    let (source, rest) = split_number(strip(b", cancelled=0, source=", rest)?)?;
+    let (_, rest) = split_number(strip(b", tag=", rest)?)?;
+    let rest = end_front(rest)?;
     Some((told_from(Some(NOUGHT), Some(source)), rest))
 }
 
@@ -244,12 +257,13 @@ fn told_group(text: &[u8]) -> Option<(Told, &[u8])>
     }
 }
 
-/// What each group of a list tells, and what follows the list's `}`; `BadValue` is no answer.
+/// What each group of a list tells, and what follows the list's `}`; `BadValue` is no answer. There is room for so many at
+/// first.
 #[tactic(auto, using(crate::proofs::GroupByGroup::one_more, crate::proofs::GroupByGroup::the_last))]
-fn tolds_front(alloc: Global, list: &[u8]) -> Result<(Vec<Told>, &[u8]), ValueFault>
+fn tolds_front(alloc: Global, room: usize, list: &[u8]) -> Result<(Vec<Told>, &[u8]), ValueFault>
     ensures { IfOk result (λ x. tolds_with [] (groups_front list.now) ≡ Some (x.0.items, x.1.now)) }
 {
-    let mut tolds = Vec::new(alloc);
+    let mut tolds = Vec::with_capacity(alloc, room)?;
     let mut left = list;
     for _ in 0..list.len() {
         match told_group(skip_spaces(left)) {
@@ -285,10 +299,10 @@ fn counted_groups(text: &[u8]) -> Option<&[u8]>
 }
 
 /// What each group of a list tells that nothing follows; `BadValue` is no answer.
-fn tolds_in(alloc: Global, list: &[u8]) -> Result<Vec<Told>, ValueFault>
+fn tolds_in(alloc: Global, room: usize, list: &[u8]) -> Result<Vec<Told>, ValueFault>
     ensures { IfOk result (λ tolds. tolds_with [] (groups_front list.now) ≡ Some (tolds.items, [])) }
 {
-    let (tolds, rest) = tolds_front(alloc, list)?;
+    let (tolds, rest) = tolds_front(alloc, room, list)?;
     if rest.is_empty() {
         Ok(tolds)
     } else {
@@ -296,16 +310,16 @@ fn tolds_in(alloc: Global, list: &[u8]) -> Result<Vec<Told>, ValueFault>
     }
 }
 
-/// What each group of the text of statuses tells; `BadValue` is no answer.
+/// What each group of the text of statuses tells, of which there are about so many; `BadValue` is no answer.
 #[tactic(auto, using(crate::proofs::GroupByGroup::tolds_value))]
-pub fn quick_statuses(alloc: Global, text: &[u8]) -> Result<Vec<Told>, ValueFault>
+pub fn quick_statuses(alloc: Global, about: usize, text: &[u8]) -> Result<Vec<Told>, ValueFault>
     ensures { IfOk result (λ tolds. map told_of (groups_from (value_of text.now)) ≡ tolds.items) }
 {
     match strip_byte(b'[', text) {
         None => Err(ValueFault::BadValue),
         Some(counted) => match counted_groups(counted) {
             None => Err(ValueFault::BadValue),
-            Some(list) => tolds_in(alloc, list),
+            Some(list) => tolds_in(alloc, about, list),
         },
     }
 }

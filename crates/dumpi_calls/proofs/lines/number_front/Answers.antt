@@ -1,7 +1,0 @@
-use Rattle.dumpi_calls.proofs.InPlace.{number_behind}
-use Rattle.dumpi_calls.proofs.lines.number_front.Goals as goal
-
-pub returns-in-Some : goal.returns-in-Some
-returns-in-Some c =
-    number_behind c.args.parameter c.args.kind.now c.args.start.now c.args.text.now c.in_ok-behind.behind.now c.in-Some.rest.now c.in-Some.number c.parameter_lines.ensures
-    c.requires.kind c.requires.start c.requires.short c.in_ok-behind.ensures.whole c.in-Some.ensures
