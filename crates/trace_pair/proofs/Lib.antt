@@ -1,3 +1,4 @@
+pub mod Aheads
 pub mod Obeyed
 pub mod Fitting
 pub mod Certain

@@ -1,5 +1,5 @@
 -- All messages in their order, what takes each, and the places of those that wait.
-use Rattle.std.specs.Prelude.{◌≡◌, ◌<◌, ◌==◌, ◌++◌, ℕ, Bool, true, false, cond, Option, Some, None, IfSome, List, [], ◌∷◌, filter, length, map, replicate, slice_get, slice_set, if◌then◌else◌}
+use Rattle.std.specs.Prelude.{◌≡◌, ◌<◌, ◌==◌, ◌++◌, ℕ, Bool, true, false, cond, Option, Some, None, IfSome, List, [], ◌∷◌, filter, length, map, replicate, slice_get, slice_index_or, slice_set, ◌+◌, if◌then◌else◌}
 use Rattle.std.specs.Borrow.{Bor}
 use Rattle.std.specs.declared.cmp.Ordering.{Ordering}
 use Rattle.std.specs.Ordering.{is_eq}
@@ -170,3 +170,7 @@ taker_in (Some taker) = taker
 -- what takes the message at a place
 abbrev pub taker_at : Takings → ℕ → Option Taker
 taker_at t place = taker_in (slice_get t.takers place)
+
+-- this is what takes the messages from a place on, as far as it goes
+abbrev pub AreAhead : Takings → ℕ → List (Option Taker) → Type 0
+AreAhead t from takers = (i : ℕ) → i < length takers → slice_index_or takers i None ≡ taker_at t (from + i)

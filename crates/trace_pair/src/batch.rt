@@ -25,6 +25,7 @@ ghost use Rattle.trace_pair.specs.Pairing.{receive_of};
 ghost use Rattle.trace_pair.specs.Table.{sends_of, receives_of};
 ghost use Rattle.trace_pair.specs.Waiting.{ArePlain};
 
+use crate::ahead::Ahead;
 use crate::couples::receive_by;
 use crate::ranked_ends::RankedEnds;
 use crate::ranked_receives::RankedReceives;
@@ -58,11 +59,24 @@ impl<'a> Batch<'a> {
         self.messages.into_places_near(alloc)
     }
 
+    /// What takes each message, to be asked from the first on.
+    pub(crate) fn ahead(&self, alloc: Global) -> Ahead<'_, 'a>
+        ensures { result ≡ self.now.messages }
+    {
+        Ahead::new(alloc, &self.messages)
+    }
+
     /// The receive that takes the message at a place.
-    pub(crate) fn receive_of(&self, place: usize, m: &Message) -> Option<Receive>
+    pub(crate) fn receive_of(
+        &self,
+        ahead: &Ahead<'_, 'a>,
+        place: usize,
+        m: &Message,
+    ) -> Option<Receive>
+        requires { ahead.now ≡ self.now.messages }
         ensures { IsTakerAt self.now place m.now result }
     {
-        match self.messages.taker_at(place) {
+        match ahead.taker_at(place) {
             Some(taker) => Some(receive_by(m, taker)),
             None => None,
         }

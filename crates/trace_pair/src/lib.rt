@@ -14,8 +14,8 @@
 //! makes one, by a pass over all messages.
 //!
 //! - [`pair`]: a pair
-//! - [`scratch`]: the pairing from scratch; [`batch`]: its pass over all receives; [`sends`]: all
-//!   messages, where they stand; [`takings`]: with what takes each; [`taken_by`]: in little memory;
+//! - [`scratch`]: the pairing from scratch; [`batch`]: its pass over all receives; [`sends`]: all messages, where they
+//!   stand; [`takings`]: with what takes each; [`ahead`]: of a few, read together; [`taken_by`]: in little memory;
 //!   [`places`], [`by_key`]: where those that wait stand; [`ends`]: the ends of receives, and whether
 //!   some of them may take a message; [`ranked_ends`], [`ranked_receives`]: none where their ranks come before
 //! - [`rules`]: whether names are one, and a message is its receiver's own; [`reach`]: which messages come after which
@@ -34,6 +34,7 @@
 //! Its tests are the runs of `tests/runs.txt`.
 #![tactic(auto)]
 
+mod ahead;
 mod batch;
 mod by_key;
 mod by_receive;

@@ -9,6 +9,7 @@ ghost use Rattle.trace_pair.specs.Reach.{AreReachesOf};
 ghost use Rattle.trace_pair.specs.Settled.{IsTableOf, PostponesAt, PutsPairAt};
 ghost use Rattle.trace_pair.specs.Table.{table_of};
 
+use crate::ahead::Ahead;
 use crate::batch::Batch;
 use crate::matched::Matched;
 use crate::pair::{Pair, make_pair};
@@ -96,19 +97,21 @@ impl Rows {
     }
 
     /// Adds what the message at a place is.
-    fn add_settled(
+    fn add_settled<'a>(
         &mut self,
-        batch: &Batch,
+        batch: &Batch<'a>,
+        ahead: &Ahead<'_, 'a>,
         reaches: &Reaches,
         place: usize,
         m: &Message,
     ) -> Result<(), AllocError>
+        requires { ahead.now ≡ batch.now.messages }
         ensures pairs { OnOk result (PutsPairAt (comes_after reaches.now) batch.now place m.now
             self.old.pairs self.new.pairs) }
         ensures postponed { OnOk result (PostponesAt (comes_after reaches.now) batch.now place m.now
             self.old.postponed self.new.postponed) }
     {
-        match batch.receive_of(place, m) {
+        match batch.receive_of(ahead, place, m) {
             Some(receive) => self.put(make_pair(m, &receive))?,
             None => {
                 if batch.does_open_fit(reaches, m) {
@@ -129,8 +132,10 @@ impl Rows {
     {
         let messages = batch.messages();
         let mut rows = Rows::with_room(alloc, messages.len())?;
+        let mut ahead = batch.ahead(alloc);
         for place in 0..messages.len() {
-            rows.add_settled(batch, reaches, place, messages.at(place))?;
+            ahead.read(place)?;
+            rows.add_settled(batch, &ahead, reaches, place, messages.at(place))?;
         }
         Ok(rows)
     }

@@ -11,6 +11,7 @@ use Rattle.trace_pair.proofs.rows.Rows.of_batch.Given as goal
 
 abbrev pub invariant-loop-place : goal.invariant-loop-place
 invariant-loop-place l = record {
+  ahead : l.ahead ≡ l.batch.messages;
   pairs : (ms : List Message) (qs : List Receive) → Settles (comes_after l.reaches) ms qs l.batch → l.rows.pairs ≡ filter_map (λ m. option_map (pair_of m) (receive_of (comes_after l.reaches) ms qs m)) (take l.place l.messages);
   postponed : (ms : List Message) (qs : List Receive) → Settles (comes_after l.reaches) ms qs l.batch → l.rows.postponed ≡ filter_map (postponed_name (comes_after l.reaches) ms qs) (take l.place l.messages);
 }
