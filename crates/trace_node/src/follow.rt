@@ -56,17 +56,6 @@ fn is_unchanged(know: &Knowledge, reaches: &[Reach], rank: u32) -> bool
     }
 }
 
-/// Whether the rank's readable prefix is longer or shorter by more than a quarter than it was. Whatever
-/// is said here, the index is right. As more is known a prefix only grows, until a place below it is
-/// contradicted, and then it only shrinks: so of the passes over a rank's calls that are made for this,
-/// all that grow cost five times the longest at most, and all that shrink three times.
-fn is_far(know: &Knowledge, reaches: &[Reach], rank: u32) -> bool {
-    match reaches.get(rank as usize) {
-        Some(reach) => reach.prefix.abs_diff(know.prefix(rank)) > reach.prefix / 4,
-        None => true,
-    }
-}
-
 impl Followed {
     /// All that is known, from nothing.
     fn of_all(alloc: Global, layout: &Layout, know: &Knowledge) -> Result<Followed, AllocError>
@@ -134,24 +123,6 @@ impl Followed {
         }
         Ok(())
     }
-
-    /// Follows the ranks of which much has changed, and leaves the others as they are.
-    fn follow_far(
-        &mut self,
-        alloc: Global,
-        layout: &Layout,
-        know: &Knowledge,
-    ) -> Result<(), AllocError>
-        requires { IsFollowing layout.now know.now self.old }
-        ensures { OnOk result (IsFollowing layout.now know.now self.new) }
-    {
-        for rank in 0..layout.ranks() {
-            if is_far(know, &self.reaches, rank) {
-                self.follow_rank(alloc, layout, know, rank)?;
-            }
-        }
-        Ok(())
-    }
 }
 
 /// The index of all that is known, from an older one, where it is kept.
@@ -169,23 +140,5 @@ pub(crate) fn caught_up(
         return Followed::of_all(alloc, layout, know);
     };
     followed.follow_all(alloc, layout, know)?;
-    Ok(followed)
-}
-
-/// An index for when all that is known is asked for: an older one, where it is kept, that follows the
-/// ranks of which much has changed; else that of all that is known.
-pub(crate) fn prepared(
-    alloc: Global,
-    layout: &Layout,
-    know: &Knowledge,
-    before: Option<Followed>,
-) -> Result<Followed, AllocError>
-    requires { IfSome before (IsFollowing layout.now know.now) }
-    ensures { IfOk result (λ f. IsFollowing layout.now know.now f) }
-{
-    let Some(mut followed) = before else {
-        return Followed::of_all(alloc, layout, know);
-    };
-    followed.follow_far(alloc, layout, know)?;
     Ok(followed)
 }

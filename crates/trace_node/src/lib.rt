@@ -12,8 +12,7 @@
 //!
 //! Who takes many segments can have them held without an answer ([`Node::hold`]), and ask for one when
 //! it is wanted ([`Node::catch_up`]): then the ranks that changed since they were followed cost their
-//! events once, and the answer its one pass. [`Node::prepare`] follows them before: called as segments
-//! come, it leaves less for then, and costs no more than some eight such passes over a rank's events.
+//! events once, and the answer its one pass.
 //!
 //! Where there is no memory for an answer, the knowledge is kept and the node is stale until
 //! [`Node::catch_up`] or [`Node::refresh`]: it loses no fact.

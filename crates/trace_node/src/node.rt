@@ -11,7 +11,7 @@ ghost use Rattle.trace_node.specs.Node.{HasStranger, IsWithin, held, held_with};
 
 use crate::answer::{Answer, answer_of, reading_of, walls_of};
 use crate::fault::{NodeFault, Stale};
-use crate::follow::{Followed, caught_up, prepared};
+use crate::follow::{Followed, caught_up};
 use crate::shared::{SharedAnswer, SharedKnowledge};
 use crate::strangers::has_stranger;
 use mpi_model::Layout;
@@ -223,20 +223,6 @@ impl<'a> Node<'a> {
         if was_stale || self.catch_up().is_err() {
             return Err(NodeFault::Stale);
         }
-        Ok(())
-    }
-
-    /// Brings the index of the pairs up to what is known, and makes no answer: who holds many segments
-    /// and calls this as they come has less to do when the answer is asked for. It costs little when
-    /// there is little new: a rank is followed only where its readable prefix has changed by more than a
-    /// quarter since it was, so that all the passes over its calls cost no more than some eight times the
-    /// longest, however often this is called. Where there is no memory for it, the index isn't kept.
-    pub fn prepare(&mut self) -> Result<(), AllocError>
-        ensures { self.new ≡ self.old }
-    {
-        let before = self.followed.take();
-        let followed = prepared(self.alloc, self.layout, self.know.get(), before)?;
-        put(&mut self.followed, Some(followed));
         Ok(())
     }
 
