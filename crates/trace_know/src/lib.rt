@@ -14,7 +14,8 @@
 //! The readable prefix of a rank is one halving, and so is a cell. A walk over all cells takes no memory.
 //!
 //! - [`cell`]: what is known of one place
-//! - [`segment`]: events of one rank at consecutive places; [`ready`]: such whose events stand as cells
+//! - [`segment`]: events of one rank at consecutive places; [`ready`]: such whose events stand as cells; [`ready_piece`]: so
+//!   of a whole text
 //! - [`run`]: cells of one rank without a gap; [`boxed`]: a run in memory of its own; [`runs`]: such
 //!   runs in their order; [`run_list`]: the list that they stand in, [`chunks`]: what it is cut into;
 //!   [`copies`]: of runs; [`patches`]: joins of whole lists of runs
