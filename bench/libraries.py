@@ -5,7 +5,8 @@ Texts:
 
     calls FILE..                   what the text of each trace costs alone, a walk with a Tally, and a walk with a Collect
     crew FOLDER..                  a crew on a trace of bench/make_trace.py, beside one thread that does what report does:
-                                   the best of five runs each, on two of the machine's processors
+                                   the least, the middle and the greatest of 41 runs each, in turn, on two of the machine's
+                                   processors and on all
 
 What is known, and pairs:
 
@@ -96,13 +97,18 @@ def calls(program, files):
 
 
 def crew(program, folders):
-    def two():
-        os.sched_setaffinity(0, sorted(os.sched_getaffinity(0))[:2])
-
     for folder in folders:
-        for what in ("alone", "crew"):
-            turns = [output(program, what, "layout.json", "manifest.json", cwd=folder, preexec_fn=two) for _ in range(5)]
-            print(f"{folder} {what}: {min(turns, key=lambda it: float(it.split()[0])).strip()}")
+        for count in (2, None):
+            processors = sorted(os.sched_getaffinity(0))[:count]
+            turns = {"alone": [], "crew": []}
+            for _ in range(41):
+                for what, told in turns.items():
+                    told.append(output(program, what, "layout.json", "manifest.json", cwd=folder,
+                                       preexec_fn=lambda: os.sched_setaffinity(0, processors)).strip())
+            for what, told in turns.items():
+                told.sort(key=lambda it: float(it.split()[0]))
+                for word, place in (("least", 0), ("middle", 20), ("greatest", 40)):
+                    print(f"{folder} on {len(processors)}, {what}, {word}: {told[place]}")
 
 
 def takes(program, _words):
