@@ -9,7 +9,7 @@ use Rattle.command_runs.specs.FileNames.{shown_name}
 use Rattle.text_layouts.specs.declared.fault.MadeFault.{MadeFault}
 use Rattle.text_layouts.specs.declared.fault.MadeFault.TheVariants as mades
 use Rattle.init_runs.specs.declared.fault.InitFault.{InitFault}
-use Rattle.init_runs.specs.declared.fault.InitFault.TheVariants.{Memory, Text, NoCall, TooMany, Twice, Made, There, NotWritten, Half, OneName, Write}
+use Rattle.init_runs.specs.declared.fault.InitFault.TheVariants.{Memory, Text, NoCall, TooMany, Twice, Made, There, SpareThere, NotWritten, Half, OneName, Write}
 
 -- two ranks, and what is said of them
 abbrev pub ranks_text : ℕ → ℕ → List ℕ → List ℕ
@@ -37,6 +37,7 @@ init_fault_text TooMany = codes "more than 1024 texts, which are more ranks than
 init_fault_text (Twice path) = shown_name (string_bytes path) ++ codes " is of the rank of a text before it, by the digits of its name"
 init_fault_text (Made fault) = made_fault_text fault
 init_fault_text (There path) = shown_name (string_bytes path) ++ codes " is there already: --force writes over it"
+init_fault_text (SpareThere path) = shown_name (string_bytes path) ++ codes " can not be written while there is a file of its name with .new behind it"
 init_fault_text (NotWritten path) = shown_name (string_bytes path) ++ codes " can not be written"
 init_fault_text (Half path) = shown_name (string_bytes path) ++ codes " can not be written, and a part of what was written is left"
 init_fault_text OneName = codes "the layout and the manifest need names of their own"
@@ -56,6 +57,7 @@ abbrev pub IsPutFault : List ℕ → List ℕ → PutFault → InitFault → Typ
 IsPutFault layout manifest puts.Memory fault = fault ≡ Memory
 IsPutFault layout manifest puts.OneName fault = fault ≡ OneName
 IsPutFault layout manifest (puts.There of) (There path) = string_bytes path ≡ name_of of layout manifest
+IsPutFault layout manifest (puts.SpareThere of) (SpareThere path) = string_bytes path ≡ name_of of layout manifest
 IsPutFault layout manifest (puts.Failed of) (NotWritten path) = string_bytes path ≡ name_of of layout manifest
 IsPutFault layout manifest (puts.Half of) (Half path) = string_bytes path ≡ name_of of layout manifest
 IsPutFault layout manifest _ _ = ⊥

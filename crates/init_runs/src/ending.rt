@@ -1,9 +1,12 @@
 //! How the program ends where it is given texts alone.
 
-ghost use Rattle.std.specs.Prelude.{◌≡◌, ◌≢◌, IfOk, string_bytes};
-ghost use Rattle.command_line.specs.Program.{texts_of};
+ghost use Rattle.std.specs.Prelude.{◌≡◌, ◌≢◌, IfErr, IfOk, OnOk, string_bytes};
+ghost use Rattle.mpi_model.specs.Failures.{HasFailed};
+ghost use Rattle.layout_files.specs.Stores.{Goes, LeavesNothing, Same};
+ghost use Rattle.command_line.specs.Program.{texts_of, wish_of};
+ghost use Rattle.command_runs.specs.Endings.{output_of};
 ghost use Rattle.init_runs.specs.Advice.{IsInitShown};
-ghost use Rattle.init_runs.specs.Endings.{EndsOver, EndsTexts};
+ghost use Rattle.init_runs.specs.Endings.{EndsInit, EndsOver, EndsTexts, PutsBoth, RanInit, RefusesPutting, layout_as, manifest_as};
 ghost use Rattle.init_runs.specs.Faults.{init_fault_line_of};
 
 use crate::advice::shown_init_fault;
@@ -12,10 +15,11 @@ use crate::made_files::{LAYOUT_NAME, MANIFEST_NAME, MadeFiles};
 use crate::prepared::{Prepared, prepare};
 use command_line::{Verb, Wanted};
 use command_runs::{Ending, Opener, Watcher, ending_after, run_with};
-use layout_files::{NewFile, Store, add_both, replace_both};
+use layout_files::{NewFile, PutFault, Store, add_both, replace_both};
 use mpi_model::{Sends, Write, write_all};
 use std::alloc::{AllocError, Global};
 use std::io::Eprint;
+use text_layouts::Made;
 
 /// The ending after such a fault.
 fn ending_of_fault(alloc: Global, fault: &InitFault) -> Result<Ending, AllocError>
@@ -130,26 +134,28 @@ fn over_texts<R: Eprint, O: Opener, V: Watcher, W: Write>(
 /// Keeps both files under their wanted names: over files that are there only where that is wanted.
 fn keep<S: Store>(
     alloc: Global,
-    prepared: &Prepared,
+    made: &Made,
     wanted: Wanted<'_>,
     store: &mut S,
-) -> Result<(), InitFault> {
+) -> Result<(), PutFault>
+    ensures ok { OnOk result (Goes (PutsBoth wanted.entry.force (layout_as (wish_of wanted.entry) made.now) (manifest_as (wish_of wanted.entry) made.now))
+        (S.files store.old) (S.files store.new)) }
+    ensures err { IfErr result (λ fault. LeavesNothing fault → Goes Same (S.files store.old) (S.files store.new)) }
+    ensures cause { IfErr result (RefusesPutting (wish_of wanted.entry) (S.files store.old)
+        (HasFailed (S.failures store.old) (S.failures store.new))) }
+{
     let layout = NewFile {
         name: wanted.layout,
-        bytes: &prepared.made.layout_file,
+        bytes: &made.layout_file,
     };
     let manifest = NewFile {
         name: wanted.manifest,
-        bytes: &prepared.made.manifest_file,
+        bytes: &made.manifest_file,
     };
-    let kept = if wanted.force {
+    if wanted.force {
         replace_both(alloc, store, layout, manifest)
     } else {
         add_both(store, layout, manifest)
-    };
-    match kept {
-        Ok(()) => Ok(()),
-        Err(fault) => Err(put_fault(alloc, fault, wanted.layout, wanted.manifest)?),
     }
 }
 
@@ -161,9 +167,18 @@ fn init<O: Opener, S: Store, W: Write>(
     files: &mut O,
     store: &mut S,
     out: &mut W,
-) -> Result<(), InitFault> {
+) -> Result<(), InitFault>
+    ensures { RanInit (O.file files.old) (texts_of texts.now) (wish_of wanted.entry) (S.files store.old) (S.files store.new)
+        (HasFailed (S.failures store.old) (S.failures store.new)) (output_of W.written W.failures out.old)
+        (output_of W.written W.failures out.new) result }
+{
     let prepared = prepare(alloc, wanted.sends, texts, files)?;
-    keep(alloc, &prepared, wanted, store)?;
+    // (what a fault names, before anything is kept)
+    let layout = wanted.layout.to_string(alloc)?;
+    let manifest = wanted.manifest.to_string(alloc)?;
+    if let Err(fault) = keep(alloc, &prepared.made, wanted, store) {
+        return Err(put_fault(fault, layout, manifest));
+    }
     match write_all(out, &prepared.notes) {
         Ok(()) => Ok(()),
         Err(_) => Err(InitFault::Write),
@@ -178,7 +193,11 @@ pub fn ending_of_init<O: Opener, S: Store, W: Write>(
     files: &mut O,
     store: &mut S,
     out: &mut W,
-) -> Result<Ending, AllocError> {
+) -> Result<Ending, AllocError>
+    ensures { IfOk result (EndsInit (O.file files.old) (texts_of texts.now) (wish_of wanted.entry) (S.files store.old) (S.files store.new)
+        (HasFailed (S.failures store.old) (S.failures store.new)) (output_of W.written W.failures out.old)
+        (output_of W.written W.failures out.new)) }
+{
     match init(alloc, texts, wanted, files, store, out) {
         Ok(()) => Ok(Ending {
             status: 0,

@@ -28,6 +28,8 @@ pub(crate) enum InitFault {
     Made(MadeFault),
     /// A file of this name is there.
     There { path: String },
+    /// The file of this name is to be replaced, and one of its name with `.new` behind it is there.
+    SpareThere { path: String },
     /// The file couldn't be written; no other was.
     NotWritten { path: String },
     /// The file couldn't be written, and what was written of the other couldn't be taken away.
@@ -65,6 +67,9 @@ const NO_CALL: &str = " has lines and no MPI call: it is no trace text";
 const TWICE: &str = " is of the rank of a text before it, by the digits of its name";
 
 const THERE: &str = " is there already: --force writes over it";
+
+const SPARE_THERE: &str =
+    " can not be written while there is a file of its name with .new behind it";
 
 const NOT_WRITTEN: &str = " can not be written";
 
@@ -140,6 +145,7 @@ impl fmt::Display for InitFault {
             InitFault::Twice { path } => put_file(f, path, TWICE),
             InitFault::Made(fault) => put_made(f, fault),
             InitFault::There { path } => put_file(f, path, THERE),
+            InitFault::SpareThere { path } => put_file(f, path, SPARE_THERE),
             InitFault::NotWritten { path } => put_file(f, path, NOT_WRITTEN),
             InitFault::Half { path } => put_file(f, path, HALF),
             InitFault::OneName => write!(f, "the layout and the manifest need names of their own"),
@@ -156,8 +162,8 @@ pub(crate) fn init_fault_line(alloc: Global, fault: &InitFault) -> Result<String
 }
 
 /// The name of one of two files.
-fn name_of<'a>(which: Which, layout: &'a str, manifest: &'a str) -> &'a str
-    ensures { result.now ≡ name_of which layout.now manifest.now }
+fn name_of(which: Which, layout: String, manifest: String) -> String
+    ensures { string_bytes result ≡ name_of which (string_bytes layout) (string_bytes manifest) }
 {
     match which {
         Which::First => layout,
@@ -166,25 +172,23 @@ fn name_of<'a>(which: Which, layout: &'a str, manifest: &'a str) -> &'a str
 }
 
 /// Why the files of these names aren't kept.
-pub(crate) fn put_fault(
-    alloc: Global,
-    fault: PutFault,
-    layout: &str,
-    manifest: &str,
-) -> Result<InitFault, AllocError>
-    ensures { IfOk result (IsPutFault layout.now manifest.now fault) }
+pub(crate) fn put_fault(fault: PutFault, layout: String, manifest: String) -> InitFault
+    ensures { IsPutFault (string_bytes layout) (string_bytes manifest) fault result }
 {
-    Ok(match fault {
+    match fault {
         PutFault::Memory => InitFault::Memory,
         PutFault::OneName => InitFault::OneName,
         PutFault::There(which) => InitFault::There {
-            path: name_of(which, layout, manifest).to_string(alloc)?,
+            path: name_of(which, layout, manifest),
+        },
+        PutFault::SpareThere(which) => InitFault::SpareThere {
+            path: name_of(which, layout, manifest),
         },
         PutFault::Failed(which) => InitFault::NotWritten {
-            path: name_of(which, layout, manifest).to_string(alloc)?,
+            path: name_of(which, layout, manifest),
         },
         PutFault::Half(which) => InitFault::Half {
-            path: name_of(which, layout, manifest).to_string(alloc)?,
+            path: name_of(which, layout, manifest),
         },
-    })
+    }
 }

@@ -1,10 +1,13 @@
 -- Files that are kept and taken away again.
-use Rattle.std.proofs.Common.{◌≡◌, ◌≢◌, ◌∙◌, ◌⊎◌, ℕ, List, Option, Some, None, inl, inr, ap, sym, subst}
+use Rattle.std.proofs.Common.{◌≡◌, ◌≢◌, ◌∙◌, ◌⊎◌, ◌+◌, ◌-◌, ◌^◌, ◌≤◌, min, arith, ℕ, List, Option, Some, None, inl, inr, ap, sym, subst}
 use Rattle.std.specs.Str.{bytes_eq}
+use Rattle.std.proofs.Math.Nat.{le-min, min-le_left, min-le_right}
 use Rattle.std.proofs.lemmas.Bool.{cases_Bool, false≢true}
 use Rattle.std.proofs.lemmas.Slice.Eq.{bytes_eq-Decides}
-use Rattle.layout_files.specs.Stores.{Adds, AddsBoth, AreDistinct, Files, Goes, HasBoth, Moves, Removes, RemovesBoth, Same}
-use Rattle.layout_files.specs.declared.store.NewFile.{NewFile}
+use Rattle.mpi_model.specs.Failures.{HasFailed}
+use Rattle.layout_files.specs.Stores.{Adds, AddsBoth, AreDistinct, File, Files, Goes, HasBoth, Moves, RefusesAdding, RefusesReplacing, Removes, RemovesBoth, Same, fault_of_spares}
+use Rattle.layout_files.specs.declared.store.PutFault.{PutFault}
+use Rattle.layout_files.specs.declared.store.PutFault.TheVariants as puts
 
 -- one change, and then another
 abbrev pub Then : (Files → Files → Type 0) → (Files → Files → Type 0) → Files → Files → Type 0
@@ -49,17 +52,17 @@ taken_back path bytes old one two now a b c =
     (both_go (Then (Adds path bytes) Same) (Removes path) old two now (both_go (Adds path bytes) Same old one two a b) c)
 
 -- two files that were kept and taken away again
-gone_at : (one other : NewFile) (old two three now : Files) → AddsBoth one other old two → Same two three → RemovesBoth one.name.now other.name.now three now → (name : List ℕ)
-    → name ≡ one.name.now ⊎ name ≢ one.name.now → name ≡ other.name.now ⊎ name ≢ other.name.now → now name ≡ old name
+gone_at : (one other : File) (old two three now : Files) → AddsBoth one other old two → Same two three → RemovesBoth one.name other.name three now → (name : List ℕ)
+    → name ≡ one.name ⊎ name ≢ one.name → name ≡ other.name ⊎ name ≢ other.name → now name ≡ old name
 gone_at one other old two three now adds same removes name (inl e) other_or = subst (λ (n : List ℕ). now n ≡ old n) (sym e) (removes.absent.0 ∙ sym adds.none_was.0)
 gone_at one other old two three now adds same removes name (inr n) (inl e) = subst (λ (n : List ℕ). now n ≡ old n) (sym e) (removes.absent.1 ∙ sym adds.none_was.1)
 gone_at one other old two three now adds same removes name (inr n) (inr m) = removes.others name n m ∙ same name ∙ adds.both.others name n m
 
-pub both_taken_back : (one other : NewFile) (old two three now : Option Files) → Goes (AddsBoth one other) old two → Goes Same two three → Goes (RemovesBoth one.name.now other.name.now) three now → Goes Same old now
+pub both_taken_back : (one other : File) (old two three now : Option Files) → Goes (AddsBoth one other) old two → Goes Same two three → Goes (RemovesBoth one.name other.name) three now → Goes Same old now
 both_taken_back one other old two three now a b c =
-    goes_weaker (Then (Then (AddsBoth one other) Same) (RemovesBoth one.name.now other.name.now)) Same old now
-    (λ before after h. λ name. gone_at one other before h.1.0 h.0 after h.1.1 h.1.2 h.2 name (same_name name one.name.now) (same_name name other.name.now))
-    (both_go (Then (AddsBoth one other) Same) (RemovesBoth one.name.now other.name.now) old three now (both_go (AddsBoth one other) Same old two three a b) c)
+    goes_weaker (Then (Then (AddsBoth one other) Same) (RemovesBoth one.name other.name)) Same old now
+    (λ before after h. λ name. gone_at one other before h.1.0 h.0 after h.1.1 h.1.2 h.2 name (same_name name one.name) (same_name name other.name))
+    (both_go (Then (AddsBoth one other) Same) (RemovesBoth one.name other.name) old three now (both_go (AddsBoth one other) Same old two three a b) c)
 
 -- two files under spare names that got their own
 
@@ -67,36 +70,53 @@ flipped : {one other : List ℕ} → one ≢ other → other ≢ one
 flipped h = λ e. h (sym e)
 
 -- what no name but those of the two files tells
-spare_at : (a b : List ℕ) (spare other_spare : NewFile) (old mid two now : Files) → AreDistinct a b spare.name.now other_spare.name.now
-    → AddsBoth spare other_spare old mid → Moves spare.name.now a mid two → Moves other_spare.name.now b two now
-    → (name : List ℕ) → name ≢ a → name ≢ b → name ≡ spare.name.now ⊎ name ≢ spare.name.now → name ≡ other_spare.name.now ⊎ name ≢ other_spare.name.now → now name ≡ old name
+spare_at : (a b : List ℕ) (spare other_spare : File) (old mid two now : Files) → AreDistinct a b spare.name other_spare.name
+    → AddsBoth spare other_spare old mid → Moves spare.name a mid two → Moves other_spare.name b two now
+    → (name : List ℕ) → name ≢ a → name ≢ b → name ≡ spare.name ⊎ name ≢ spare.name → name ≡ other_spare.name ⊎ name ≢ other_spare.name → now name ≡ old name
 spare_at a b spare other_spare old mid two now apart adds first second name n m (inl e) other_or =
     subst (λ (k : List ℕ). now k ≡ old k) (sym e)
-    (second.others spare.name.now apart.third (flipped apart.second.0) ∙ first.absent (flipped apart.first.1) ∙ sym adds.none_was.0)
+    (second.others spare.name apart.third (flipped apart.second.0) ∙ first.absent (flipped apart.first.1) ∙ sym adds.none_was.0)
 spare_at a b spare other_spare old mid two now apart adds first second name n m (inr k) (inl e) =
     subst (λ (k : List ℕ). now k ≡ old k) (sym e) (second.absent (flipped apart.second.1) ∙ sym adds.none_was.1)
 spare_at a b spare other_spare old mid two now apart adds first second name n m (inr k) (inr l) =
     second.others name l m ∙ first.others name k n ∙ adds.both.others name k l
 
-pub replaced_now : (one other spare other_spare : NewFile) → spare.bytes.now ≡ one.bytes.now → other_spare.bytes.now ≡ other.bytes.now
-    → AreDistinct one.name.now other.name.now spare.name.now other_spare.name.now → (old mid two now : Files)
-    → AddsBoth spare other_spare old mid → Moves spare.name.now one.name.now mid two → Moves other_spare.name.now other.name.now two now
+pub replaced_now : (one other spare other_spare : File) → spare.bytes ≡ one.bytes → other_spare.bytes ≡ other.bytes
+    → AreDistinct one.name other.name spare.name other_spare.name → (old mid two now : Files)
+    → AddsBoth spare other_spare old mid → Moves spare.name one.name mid two → Moves other_spare.name other.name two now
     → HasBoth one other old now
 replaced_now one other spare other_spare same same' apart old mid two now adds first second = record {
-  one_there = second.others one.name.now apart.first.2 apart.first.0 ∙ first.there ∙ adds.both.one_there ∙ ap Some same;
-  other_there = second.there ∙ first.others other_spare.name.now (flipped apart.third) (flipped apart.first.2) ∙ adds.both.other_there ∙ ap Some same';
-  others = λ name n m. spare_at one.name.now other.name.now spare other_spare old mid two now apart adds first second name n m
-      (same_name name spare.name.now) (same_name name other_spare.name.now);
+  one_there = second.others one.name apart.first.2 apart.first.0 ∙ first.there ∙ adds.both.one_there ∙ ap Some same;
+  other_there = second.there ∙ first.others other_spare.name (flipped apart.third) (flipped apart.first.2) ∙ adds.both.other_there ∙ ap Some same';
+  others = λ name n m. spare_at one.name other.name spare other_spare old mid two now apart adds first second name n m
+      (same_name name spare.name) (same_name name other_spare.name);
 }
 
-pub replaced : (one other spare other_spare : NewFile) → spare.bytes.now ≡ one.bytes.now → other_spare.bytes.now ≡ other.bytes.now
-    → AreDistinct one.name.now other.name.now spare.name.now other_spare.name.now → (old mid two now : Option Files)
-    → Goes (AddsBoth spare other_spare) old mid → Goes (Moves spare.name.now one.name.now) mid two → Goes (Moves other_spare.name.now other.name.now) two now
+pub replaced : (one other spare other_spare : File) → spare.bytes ≡ one.bytes → other_spare.bytes ≡ other.bytes
+    → AreDistinct one.name other.name spare.name other_spare.name → (old mid two now : Option Files)
+    → Goes (AddsBoth spare other_spare) old mid → Goes (Moves spare.name one.name) mid two → Goes (Moves other_spare.name other.name) two now
     → Goes (HasBoth one other) old now
 replaced one other spare other_spare same same' apart old mid two now adds first second =
     let Adding : Files → Files → Type 0 = AddsBoth spare other_spare in
-    let First : Files → Files → Type 0 = Moves spare.name.now one.name.now in
-    let Second : Files → Files → Type 0 = Moves other_spare.name.now other.name.now in
+    let First : Files → Files → Type 0 = Moves spare.name one.name in
+    let Second : Files → Files → Type 0 = Moves other_spare.name other.name in
     goes_weaker (Then (Then Adding First) Second) (HasBoth one other) old now
     (λ before after h. replaced_now one other spare other_spare same same' apart before h.1.0 h.0 after h.1.1 h.1.2 h.2)
     (both_go (Then Adding First) Second old two now (both_go Adding First old mid two adds first) second)
+
+-- a failure after some that were counted before
+pub has_failed : (old mid now : ℕ) → old ≤ mid → HasFailed mid now → HasFailed old now
+has_failed old mid now le failed =
+    let more : min (old + 1) (2 ^ 64 - 1) ≤ min (mid + 1) (2 ^ 64 - 1) =
+    le-min (grind (arith, min-le_left (old + 1) (2 ^ 64 - 1))) (min-le_right (old + 1) (2 ^ 64 - 1)) in
+    grind (arith, more, failed)
+
+-- spare files that aren't added
+pub spares_refused : (one other spare other_spare : List ℕ) (files : Option Files) (failed : Type 0) (fault : PutFault) → AreDistinct one other spare other_spare
+    → RefusesAdding spare other_spare files failed fault → RefusesReplacing one other spare other_spare files failed (fault_of_spares fault)
+spares_refused one other spare other_spare files failed puts.Memory apart h = tt
+spares_refused one other spare other_spare files failed puts.OneName apart h = λ _. apart.third h
+spares_refused one other spare other_spare files failed (puts.There which) apart h = h
+spares_refused one other spare other_spare files failed (puts.SpareThere which) apart h = absurd h
+spares_refused one other spare other_spare files failed (puts.Failed which) apart h = h
+spares_refused one other spare other_spare files failed (puts.Half which) apart h = h
