@@ -1,6 +1,5 @@
 -- Lists that grow by one.
-use Rattle.std.proofs.Common.{◌≡◌, ◌<◌, ◌++◌, ◌∷◌, [], ℕ, List, Option, Some, String, Global, get_or, length, map, option_map, string_bytes, subst, ap, ap₂, sym, ◌∙◌, refl}
-use Rattle.std.specs.Prelude.{Contains}
+use Rattle.std.proofs.Common.{◌≡◌, ◌<◌, ◌≤◌, ◌++◌, ◌∷◌, [], ℕ, List, Option, Some, String, Global, get_or, length, map, option_map, string_bytes, subst, ap, ap₂, sym, ◌∙◌, refl}
 use Rattle.std.proofs.lemmas.List.{length-map}
 use Rattle.std.proofs.lemmas.Option.{get_or_from_slice_get, slice_get-get_or, slice_get-map, slice_get_within}
 use Rattle.text_layouts.specs.Names.{IsByDigits, IsTwice, number_of, numbers_of}
@@ -40,7 +39,6 @@ twice_within names first second h =
 pub name_at : (names : List (String Global)) (k : ℕ) (name : String Global) → k < length names → name ≡ get_or names k name → slice_get (map string_bytes names) k ≡ Some (string_bytes name)
 name_at names k name lt is = slice_get-map string_bytes names k ∙ ap (option_map string_bytes) (slice_get-get_or names k name lt ∙ ap Some (sym is))
 
-pub contains_at : (names : List (String Global)) (k : ℕ) (name : String Global) → k < length names → name ≡ get_or names k name → Contains (map string_bytes names) (string_bytes name)
-contains_at names k name lt is =
-    let at = name_at names k name lt is in
-    (k, slice_get_within (map string_bytes names) k (string_bytes name) at, get_or_from_slice_get (map string_bytes names) k (string_bytes name) (string_bytes name) at)
+-- how many names there are
+pub names_within : (names : List (String Global)) (words : List (List ℕ)) (most : ℕ) → map string_bytes names ≡ words → length names ≤ most → length words ≤ most
+names_within names words most is le = subst (λ (ws : List (List ℕ)). length ws ≤ most) is (subst (λ (n : ℕ). n ≤ most) (sym (length-map names string_bytes)) le)

@@ -1,5 +1,5 @@
 -- What holds of a reader's text holds of the file where it is told; and texts, one more.
-use Rattle.std.proofs.Common.{◌≡◌, ◌++◌, ◌∷◌, [], ℕ, List, Option, Some, None, ap, refl, subst, true}
+use Rattle.std.proofs.Common.{◌≡◌, ◌++◌, ◌∷◌, [], ℕ, List, Option, Some, None, ap, refl, subst, true, false}
 use Rattle.dumpi_calls.specs.declared.collect.Memory.{Memory as NoMemory}
 use Rattle.dumpi_calls.specs.declared.fault.WalkFault.{WalkFault}
 use Rattle.dumpi_calls.specs.declared.walking.Walked.{Walked}
@@ -8,9 +8,10 @@ use Rattle.text_layouts.specs.Texts.{IsReadFrom, StopsIn}
 use Rattle.command_runs.specs.Files.{StandsAtFirst}
 use Rattle.init_runs.specs.Texts.{AllSay, HasNoCall, Says, StopsSo, is_no_text}
 
-pub said : (file left : Option (List ℕ)) (rank : RankCalls) (walked : Walked) → StandsAtFirst file left → IsReadFrom left rank walked → Says file rank walked.calls
-said None left rank walked stands read = tt
-said (Some bytes) left rank walked stands read = (walked, subst (λ (t : Option (List ℕ)). IsReadFrom t rank walked) stands read, refl)
+pub said : (file left : Option (List ℕ)) (rank : RankCalls) (walked : Walked) → StandsAtFirst file left → IsReadFrom left rank walked → is_no_text walked ≡ false
+    → Says file rank walked.calls
+said None left rank walked stands read is = tt
+said (Some bytes) left rank walked stands read is = (walked, subst (λ (t : Option (List ℕ)). IsReadFrom t rank walked) stands read, is, refl)
 
 pub refused : (file left : Option (List ℕ)) (fault : WalkFault NoMemory) → StandsAtFirst file left → StopsIn left fault → StopsSo file fault
 refused None left fault stands stops = tt

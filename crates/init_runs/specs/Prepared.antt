@@ -1,5 +1,5 @@
 -- The layout and the manifest that are made of texts.
-use Rattle.std.specs.Prelude.{◌≡◌, ◌<◌, ◌⊎◌, ◌++◌, ℕ, Bool, true, false, List, [], Option, Some, codes, length, map, slice_get, string_bytes}
+use Rattle.std.specs.Prelude.{◌≡◌, ◌<◌, ◌≤◌, ◌⊎◌, ◌++◌, ℕ, Bool, true, false, List, [], Option, Some, codes, length, map, slice_get, string_bytes}
 use Rattle.mpi_model.specs.Layouts.{Holds}
 use Rattle.mpi_model.specs.declared.layout.Sends.{Sends}
 use Rattle.mpi_model.specs.declared.layout.TheConstants.{MOST_RANKS}
@@ -43,11 +43,11 @@ pub record IsMadeOf (file : List ℕ → Option (List ℕ)) (sends : Sends) (wor
 
 -- ---- why nothing is made
 
--- More texts than a layout can have ranks, or two texts of one rank by the digits of their names.
+-- More texts than a layout can have ranks, else two texts of one rank by the digits of their names.
 abbrev pub RefusesNames : List (List ℕ) → InitFault → Type 0
 RefusesNames words Memory = Unit {0}
 RefusesNames words TooMany = MOST_RANKS < length words
-RefusesNames words (Twice path) = (one other : ℕ) × IsTwice (numbers_of words) one other × (slice_get words other ≡ Some (string_bytes path))
+RefusesNames words (Twice path) = (length words ≤ MOST_RANKS) × (one other : ℕ) × IsTwice (numbers_of words) one other × (slice_get words other ≡ Some (string_bytes path))
 RefusesNames words _ = ⊥
 
 -- What the texts of these ranks say makes no layout.
@@ -55,10 +55,10 @@ abbrev pub RefusesMade : (List ℕ → Option (List ℕ)) → Sends → List (Li
 RefusesMade file sends names (NotMade fault) = (ranks : List RankCalls) × AllSay file names ranks × RefusesMaking sends names ranks fault
 RefusesMade file sends names _ = ⊥
 
--- Why nothing is made of the texts that these words name: their names, one of the texts, or what they say together.
+-- Why nothing is made of the texts that these words name: their names, then one of the texts, then what they say together.
 abbrev pub RefusesWords : (List ℕ → Option (List ℕ)) → Sends → List (List ℕ) → InitFault → Type 0
 RefusesWords file sends words fault = RefusesNames words fault
-    ⊎ ((names : List (List ℕ)) × IsByRank words names × (RefusesOne file names fault ⊎ RefusesMade file sends names fault))
+    ⊎ ((names : List (List ℕ)) × IsByRank words names × (length words ≤ MOST_RANKS) × (RefusesOne file names fault ⊎ RefusesMade file sends names fault))
 
 -- ---- what is said of it
 

@@ -1,5 +1,5 @@
 -- What the texts of all ranks say, and why one is refused.
-use Rattle.std.specs.Prelude.{◌≡◌, ◌⊎◌, ◌&&◌, ◌==◌, ℕ, Bool, true, List, [], ◌∷◌, Contains, Option, Some, None, String, nat_lt}
+use Rattle.std.specs.Prelude.{◌≡◌, ◌⊎◌, ◌&&◌, ◌==◌, ℕ, Bool, true, false, List, [], ◌∷◌, Option, Some, None, String, nat_lt, slice_get, take}
 use Rattle.std.specs.declared.alloc.Global.{Global}
 use Rattle.dumpi_calls.specs.declared.collect.Memory.{Memory as NoMemory}
 use Rattle.dumpi_calls.specs.declared.fault.WalkFault.{WalkFault}
@@ -12,10 +12,14 @@ use Rattle.command_runs.specs.declared.fault.RunFault.TheVariants as runs
 use Rattle.init_runs.specs.declared.fault.InitFault.{InitFault}
 use Rattle.init_runs.specs.declared.fault.InitFault.TheVariants.{Memory, Text, NoCall}
 
--- Where its bytes are told, a text says this of communicators, and has so many calls.
+-- a text that has lines and no call is none
+abbrev pub is_no_text : Walked → Bool
+is_no_text walked = walked.calls == 0 && nat_lt 0 walked.skipped
+
+-- Where its bytes are told, a text is one, says this of communicators, and has so many calls.
 abbrev pub Says : Option (List ℕ) → RankCalls → ℕ → Type 0
 Says None rank count = Unit {0}
-Says (Some text) rank count = (walked : Walked) × IsReadFrom (Some text) rank walked × (walked.calls ≡ count)
+Says (Some text) rank count = (walked : Walked) × IsReadFrom (Some text) rank walked × (is_no_text walked ≡ false) × (walked.calls ≡ count)
 
 -- The texts of these files say this, each of its rank.
 abbrev pub AllSay : (List ℕ → Option (List ℕ)) → List (List ℕ) → List RankCalls → Type 0
@@ -34,10 +38,6 @@ abbrev pub RefusesRead : List ℕ → Option (List ℕ) → RunFault → Type 0
 RefusesRead name text fault = ((path : String Global) × (fault ≡ runs.File path) × IsNamed path name × (text ≡ None))
     ⊎ ((walk : WalkFault NoMemory) × IsWalkFault name walk fault × StopsSo text walk)
 
--- a text that has lines and no call is none
-abbrev pub is_no_text : Walked → Bool
-is_no_text walked = walked.calls == 0 && nat_lt 0 walked.skipped
-
 -- where its bytes are told, a text has lines and no call
 abbrev pub HasNoCall : Option (List ℕ) → Type 0
 HasNoCall None = Unit {0}
@@ -50,6 +50,15 @@ RefusesText name text (Text fault) = RefusesRead name text fault
 RefusesText name text (NoCall path) = IsNamed path name × HasNoCall text
 RefusesText name text _ = ⊥
 
--- one of these texts is refused, or memory was wanting
+-- The first of these texts that isn't read is refused so: those before it say something.
+pub record IsFirstRefused (file : List ℕ → Option (List ℕ)) (names : List (List ℕ)) (fault : InitFault) : Type 0 where
+  pub place : ℕ
+  pub name : List ℕ
+  pub there : slice_get names place ≡ Some name
+  pub ranks : List RankCalls
+  pub before : AllSay file (take place names) ranks
+  pub refused : RefusesText name (file name) fault
+
+-- the first of these texts that isn't read is refused, or memory was wanting
 abbrev pub RefusesOne : (List ℕ → Option (List ℕ)) → List (List ℕ) → InitFault → Type 0
-RefusesOne file names fault = (fault ≡ Memory) ⊎ ((name : List ℕ) × Contains names name × RefusesText name (file name) fault)
+RefusesOne file names fault = (fault ≡ Memory) ⊎ IsFirstRefused file names fault

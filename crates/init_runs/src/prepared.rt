@@ -1,6 +1,6 @@
 //! From the words that name texts to a layout and a manifest, and what is said of them.
 
-ghost use Rattle.std.specs.Prelude.{◌≡◌, ◌<◌, ◌≤◌, IfErr, IfOk, length, map, string_bytes};
+ghost use Rattle.std.specs.Prelude.{◌≡◌, ◌<◌, ◌≤◌, IfErr, IfOk, OnOk, length, map, string_bytes};
 ghost use Rattle.std.specs.List.{All};
 ghost use Rattle.mpi_model.specs.declared.layout.TheConstants.{MOST_RANKS};
 ghost use Rattle.command_line.specs.Program.{texts_of};
@@ -49,6 +49,7 @@ fn in_order(alloc: Global, names: &[String], places: &[usize]) -> Result<Vec<Str
 fn by_rank(alloc: Global, words: &[&str]) -> Result<(Vec<String>, bool), InitFault>
     ensures ok { IfOk result (λ read. IsByRank (texts_of words.now) (map string_bytes read.0.items)) }
     ensures few { IfOk result (λ read. length read.0.items ≤ MOST_RANKS) }
+    ensures words { OnOk result (length (texts_of words.now) ≤ MOST_RANKS) }
     ensures err { IfErr result (RefusesNames (texts_of words.now)) }
 {
     if words.len() > MOST_RANKS as usize {

@@ -1,5 +1,5 @@
 -- Why no layout is made of the calls of all ranks.
-use Rattle.std.specs.Prelude.{◌≡◌, ◌<◌, ◌≤◌, ◌⊎◌, ℕ, List, Some, length}
+use Rattle.std.specs.Prelude.{◌≡◌, ◌<◌, ◌≤◌, ◌⊎◌, ℕ, List, Some, None, length}
 use Rattle.json.specs.Json.{Json}
 use Rattle.mpi_model.specs.Communicators.{Communicator}
 use Rattle.mpi_model.specs.Layouts.{fault_of}
@@ -52,11 +52,15 @@ pub record RefusesComms (sends : Sends) (ranks : List RankCalls) (fault : MadeFa
   pub comms : List Communicator
   pub why : RefusesLayout (length ranks) (world_of ranks) comms fault ⊎ RefusesLayoutFile (layout_value (parts_of (length ranks) (world_of ranks) sends comms)) fault
 
--- Why no layout is made: the size or the number of the world, the communicators, or the manifest.
+-- No two ranks tell different things of MPI_COMM_WORLD: neither of its size nor of its number.
+abbrev pub TellsOneWorld : List RankCalls → Type 0
+TellsOneWorld ranks = (size_fault ranks ≡ None) × (world_fault ranks ≡ None)
+
+-- Why no layout is made: the size of the world, then its number, then the communicators, and then the manifest.
 abbrev pub RefusesMaking : Sends → List (List ℕ) → List RankCalls → MadeFault → Type 0
 RefusesMaking sends files ranks faults.Memory = Unit {0}
 RefusesMaking sends files ranks (faults.Size rank size) = size_fault ranks ≡ Some (rank, size)
-RefusesMaking sends files ranks (faults.World first second) = world_fault ranks ≡ Some (derives.World first second)
+RefusesMaking sends files ranks (faults.World first second) = (size_fault ranks ≡ None) × (world_fault ranks ≡ Some (derives.World first second))
 RefusesMaking sends files ranks (faults.Layout fault) = RefusesComms sends ranks (faults.Layout fault)
-RefusesMaking sends files ranks faults.LayoutFile = RefusesComms sends ranks faults.LayoutFile
-RefusesMaking sends files ranks faults.ManifestFile = LONGEST_FILE < length (line_of (manifest_value files))
+RefusesMaking sends files ranks faults.LayoutFile = TellsOneWorld ranks × RefusesComms sends ranks faults.LayoutFile
+RefusesMaking sends files ranks faults.ManifestFile = TellsOneWorld ranks × (LONGEST_FILE < length (line_of (manifest_value files)))

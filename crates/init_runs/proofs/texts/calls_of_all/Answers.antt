@@ -1,8 +1,8 @@
 use Rattle.std.proofs.Common.{rules, arith, ◌≡◌, ◌∙◌, ◌+◌, ◌<◌, ◌++◌, ◌∷◌, [], ℕ, List, String, Global, inr, ap, sym, subst, length, map, take, string_bytes}
-use Rattle.std.proofs.lemmas.List.{take_more}
+use Rattle.std.proofs.lemmas.List.{take-map, take_more}
 use Rattle.comm_makings.specs.declared.calls.RankCalls.{RankCalls}
 use Rattle.init_runs.specs.Texts.{AllSay, RefusesText, Says}
-use Rattle.init_runs.proofs.Ordered.{contains_at, map_push}
+use Rattle.init_runs.proofs.Ordered.{map_push, name_at}
 use Rattle.init_runs.proofs.Reading.{say_more}
 use Rattle.init_runs.proofs.texts.calls_of_all.Goals as goal
 
@@ -11,11 +11,14 @@ returns-in-Err-clause-err g c =
     let file = g.O.Opener.file c.args.files.now in
     let lt : c.loop-path.path-index < length c.args.texts.now = omega arith in
     let refuses : RefusesText c.as_str.result.now (file c.as_str.result.now) c.in-Err.fault = rw c.loop-path.invariant.files at c.in-Err.ensures.err in
-    inr (
-      string_bytes c.path-item.result,
-      contains_at c.args.texts.now c.loop-path.path-index c.path-item.result lt c.path-item.is,
-      subst (λ (n : List ℕ). RefusesText n (file n) c.in-Err.fault) c.as_str.ensures.value refuses,
-    )
+    inr (record {
+      place = c.loop-path.path-index;
+      name = string_bytes c.path-item.result;
+      there = name_at c.args.texts.now c.loop-path.path-index c.path-item.result lt c.path-item.is;
+      ranks = c.loop-path.ranks.items;
+      before = subst (λ (ns : List (List ℕ)). AllSay file ns c.loop-path.ranks.items) (sym (take-map string_bytes c.loop-path.path-index c.args.texts.now)) c.loop-path.invariant.say;
+      refused = subst (λ (n : List ℕ). RefusesText n (file n) c.in-Err.fault) c.as_str.ensures.value refuses;
+    })
 
 pub loop-path-preserved : goal.loop-path-preserved
 loop-path-preserved g c =
