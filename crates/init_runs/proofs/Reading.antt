@@ -1,5 +1,5 @@
 -- What holds of a reader's text holds of the file where it is told; and texts, one more.
-use Rattle.std.proofs.Common.{◌≡◌, ◌++◌, ◌∷◌, [], ℕ, List, Option, Some, None, ap, refl, subst, true, false}
+use Rattle.std.proofs.Common.{◌≡◌, ◌++◌, ◌∷◌, ◌+◌, [], arith, min, ℕ, List, Option, Some, None, ap, refl, subst, true, false}
 use Rattle.dumpi_calls.specs.declared.collect.Memory.{Memory as NoMemory}
 use Rattle.dumpi_calls.specs.declared.fault.WalkFault.{WalkFault}
 use Rattle.dumpi_calls.specs.declared.walking.Walked.{Walked}
@@ -21,8 +21,13 @@ pub has_no_call : (file left : Option (List ℕ)) (rank : RankCalls) (walked : W
 has_no_call None left rank walked stands read none = tt
 has_no_call (Some bytes) left rank walked stands read none = (rank, walked, subst (λ (t : Option (List ℕ)). IsReadFrom t rank walked) stands read, none)
 
-pub say_more : (file : List ℕ → Option (List ℕ)) (names : List (List ℕ)) (name : List ℕ) (ranks : List RankCalls) (rank : RankCalls) (count : ℕ)
-    → AllSay file names ranks → Says (file name) rank count → AllSay file (names ++ name ∷ []) (ranks ++ rank ∷ [])
-say_more file [] name ranks rank count are says = (rank, [], (count, says), refl, ap (λ (rs : List RankCalls). rs ++ rank ∷ []) are)
-say_more file (n ∷ ns) name ranks rank count are says =
-    (are.0, are.1 ++ rank ∷ [], are.2, say_more file ns name are.1 rank count are.3 says, ap (λ (rs : List RankCalls). rs ++ rank ∷ []) are.4)
+pub say_more : (file : List ℕ → Option (List ℕ)) (names : List (List ℕ)) (name : List ℕ) (ranks : List RankCalls) (rank : RankCalls) (calls count : ℕ)
+    → AllSay file names ranks calls → Says (file name) rank count → AllSay file (names ++ name ∷ []) (ranks ++ rank ∷ []) (calls + count)
+say_more file [] name ranks rank calls count are says =
+    (rank, [], count, 0, says, (refl, refl), ap (λ (rs : List RankCalls). rs ++ rank ∷ []) are.0, grind (arith, are.1))
+say_more file (n ∷ ns) name ranks rank calls count are says =
+    (are.0, are.1 ++ rank ∷ [], are.2, are.3 + count, are.4, say_more file ns name are.1 rank are.3 count are.5 says, ap (λ (rs : List RankCalls). rs ++ rank ∷ []) are.6, grind (arith, are.7))
+
+-- counts that end at the greatest number
+pub counted : (most total count : ℕ) → min (min total most + count) most ≡ min (total + count) most
+counted most total count = grind (arith)

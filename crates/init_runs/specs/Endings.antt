@@ -1,6 +1,6 @@
 -- How the program ends over texts alone.
 use Rattle.std.specs.Prelude.{◌≡◌, ◌≢◌, ◌⊎◌, ◌++◌, ℕ, Bool, true, false, List, [], Option, Some, Result, Ok, Err, IfErr, OnOk, codes, string_bytes}
-use Rattle.std.specs.Io.KnownBytes.{Keeps}
+use Rattle.std.specs.Io.KnownBytes.{Appends, Keeps}
 use Rattle.mpi_model.specs.Failures.{HasFailed}
 use Rattle.mpi_model.specs.declared.layout.Sends.{Sends}
 use Rattle.mpi_model.specs.declared.layout.Sends.TheVariants.{Wait}
@@ -9,7 +9,7 @@ use Rattle.layout_files.specs.declared.store.PutFault.{PutFault}
 use Rattle.command_line.specs.Program.{Wish}
 use Rattle.command_line.specs.declared.Verb.{Verb}
 use Rattle.command_runs.specs.Endings.{IsEndedBy, Output}
-use Rattle.command_runs.specs.Replays.{Writes, WritesFront}
+use Rattle.command_runs.specs.Replays.{AppendsFront, Writes}
 use Rattle.command_runs.specs.Verbs.{IsOutputOf, RefusesVerb}
 use Rattle.command_runs.specs.declared.ending.Ending.{Ending}
 use Rattle.command_runs.specs.declared.fault.RunFault.{RunFault}
@@ -18,7 +18,7 @@ use Rattle.text_layouts.specs.declared.made.Made.{Made}
 use Rattle.init_runs.specs.Advice.{IsInitShown}
 use Rattle.init_runs.specs.Faults.{IsPutFault, init_fault_line_of}
 use Rattle.init_runs.specs.MadeFiles.{with_made}
-use Rattle.init_runs.specs.Prepared.{AreNotes, IsMadeOf, RefusesWords}
+use Rattle.init_runs.specs.Prepared.{IsMadeOf, RefusesWords, notes_of}
 use Rattle.init_runs.specs.declared.fault.InitFault.{InitFault}
 use Rattle.init_runs.specs.declared.fault.InitFault.TheVariants as faults
 
@@ -87,14 +87,14 @@ pub record IsUnkept (wish : Wish) (old new : Option Files) (failed : Type 0) (fa
 -- How `init` ran over the texts that these words name, in a store of these files: both files are kept and the notes of them
 -- written; or nothing was made, or what was made isn't kept, and nothing written; or only a front of the notes is.
 abbrev pub RanInit : (List ℕ → Option (List ℕ)) → List (List ℕ) → Wish → Option Files → Option Files → Type 0 → Output → Output → Result (Unit {0}) InitFault → Type 0
-RanInit file words wish old new failed before after (Ok done) = (made : Made) × IsMadeOf file wish.sends words made
-    × Goes (PutsBoth wish.force (layout_as wish made) (manifest_as wish made)) old new × Writes (AreNotes made) before.bytes after.bytes
+RanInit file words wish old new failed before after (Ok done) = (made : Made) × (is : IsMadeOf file wish.sends words made)
+    × Goes (PutsBoth wish.force (layout_as wish made) (manifest_as wish made)) old new × Appends before.bytes after.bytes (notes_of made is)
 RanInit file words wish old new failed before after (Err fault) =
     (RefusesWords file wish.sends words fault × Goes Same old new × Keeps before.bytes after.bytes)
     ⊎ (((made : Made) × IsMadeOf file wish.sends words made × IsUnkept wish old new failed fault × Keeps before.bytes after.bytes)
-    ⊎ ((fault ≡ faults.Write) × ((made : Made) × IsMadeOf file wish.sends words made
+    ⊎ ((fault ≡ faults.Write) × ((made : Made) × (is : IsMadeOf file wish.sends words made)
     × Goes (PutsBoth wish.force (layout_as wish made) (manifest_as wish made)) old new
-    × WritesFront (AreNotes made) before.bytes after.bytes × HasFailed before.failures after.failures)))
+    × AppendsFront before.bytes after.bytes (notes_of made is) × HasFailed before.failures after.failures)))
 
 -- the ending after such a run of `init`
 abbrev pub IsEndedInit : Result (Unit {0}) InitFault → Ending → Type 0

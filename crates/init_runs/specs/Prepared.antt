@@ -1,5 +1,5 @@
 -- The layout and the manifest that are made of texts.
-use Rattle.std.specs.Prelude.{◌≡◌, ◌<◌, ◌≤◌, ◌⊎◌, ◌++◌, ℕ, Bool, true, false, List, [], Option, Some, codes, length, map, slice_get, string_bytes}
+use Rattle.std.specs.Prelude.{◌≡◌, ◌<◌, ◌≤◌, ◌⊎◌, ◌++◌, ℕ, Bool, true, false, List, [], Option, Some, ◌-◌, ◌^◌, codes, length, map, min, slice_get, string_bytes}
 use Rattle.mpi_model.specs.Layouts.{Holds}
 use Rattle.mpi_model.specs.declared.layout.Sends.{Sends}
 use Rattle.mpi_model.specs.declared.layout.TheConstants.{MOST_RANKS}
@@ -26,16 +26,23 @@ IsOrdered names orders.Words ordered = ordered ≡ names
 IsOrdered names (orders.Digits places) ordered = AreAt names places.items ordered
 IsOrdered names (orders.Twice first second) ordered = ⊥
 
--- the names by rank: by the digits at their ends, or else in the order of the words
-abbrev pub IsByRank : List (List ℕ) → List (List ℕ) → Type 0
-IsByRank words names = (order : Order) × IsOrder (numbers_of words) order × IsOrdered words order names
+-- the digits at the ends of the names tell which is of which rank
+abbrev pub tells_ranks : Order → Bool
+tells_ranks (orders.Digits places) = true
+tells_ranks _ = false
+
+-- the names by rank: by the digits at their ends, where those tell it, or else in the order of the words
+abbrev pub IsByRank : List (List ℕ) → Bool → List (List ℕ) → Type 0
+IsByRank words by_digits names = (order : Order) × IsOrder (numbers_of words) order × IsOrdered words order names × (by_digits ≡ tells_ranks order)
 
 -- A layout and a manifest are made of the texts that these words name.
 pub record IsMadeOf (file : List ℕ → Option (List ℕ)) (sends : Sends) (words : List (List ℕ)) (made : Made) : Type 0 where
+  pub by_digits : Bool
   pub names : List (List ℕ)
-  pub by_rank : IsByRank words names
+  pub by_rank : IsByRank words by_digits names
   pub ranks : List RankCalls
-  pub say : AllSay file names ranks
+  pub calls : ℕ
+  pub say : AllSay file names ranks calls
   pub world : made.derived.world ≡ world_of ranks
   pub layout : Holds (length ranks) made.derived.world sends made.derived.comms.items made.layout
   pub layout_file : IsFile (made_layout (length ranks) sends made.derived) made.layout_file.items
@@ -52,13 +59,13 @@ RefusesNames words _ = ⊥
 
 -- What the texts of these ranks say makes no layout.
 abbrev pub RefusesMade : (List ℕ → Option (List ℕ)) → Sends → List (List ℕ) → InitFault → Type 0
-RefusesMade file sends names (NotMade fault) = (ranks : List RankCalls) × AllSay file names ranks × RefusesMaking sends names ranks fault
+RefusesMade file sends names (NotMade fault) = (ranks : List RankCalls) × ((calls : ℕ) × AllSay file names ranks calls) × RefusesMaking sends names ranks fault
 RefusesMade file sends names _ = ⊥
 
 -- Why nothing is made of the texts that these words name: their names, then one of the texts, then what they say together.
 abbrev pub RefusesWords : (List ℕ → Option (List ℕ)) → Sends → List (List ℕ) → InitFault → Type 0
 RefusesWords file sends words fault = RefusesNames words fault
-    ⊎ ((names : List (List ℕ)) × IsByRank words names × (length words ≤ MOST_RANKS) × (RefusesOne file names fault ⊎ RefusesMade file sends names fault))
+    ⊎ ((names : List (List ℕ)) × ((by_digits : Bool) × IsByRank words by_digits names) × (length words ≤ MOST_RANKS) × (RefusesOne file names fault ⊎ RefusesMade file sends names fault))
 
 -- ---- what is said of it
 
@@ -71,7 +78,10 @@ digits_text false = []
 abbrev pub made_notes : Bool → ℕ → ℕ → Made → List ℕ
 made_notes by_digits ranks calls made = digits_text by_digits ++ notes_text ranks calls made.derived.comms.items made.derived.left_out.items
 
--- The notes say this of what was made.
-abbrev pub AreNotes : Made → List ℕ → Type 0
-AreNotes made notes = (by_digits : Bool) × (ranks calls : ℕ)
-    × (notes ≡ made_notes by_digits ranks calls made)
+-- what is said of what was made, whose calls are counted up to 2^64 - 1
+abbrev pub notes_of : {file : List ℕ → Option (List ℕ)} {sends : Sends} {words : List (List ℕ)} (made : Made) → IsMadeOf file sends words made → List ℕ
+notes_of made is = made_notes is.by_digits (length is.ranks) (min is.calls (2 ^ 64 - 1)) made
+
+-- Both are made of the texts that these words name, and this is said of them.
+abbrev pub IsPrepared : (List ℕ → Option (List ℕ)) → Sends → List (List ℕ) → Made → List ℕ → Type 0
+IsPrepared file sends words made notes = (is : IsMadeOf file sends words made) × (notes ≡ notes_of made is)

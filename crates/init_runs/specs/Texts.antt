@@ -1,5 +1,5 @@
 -- What the texts of all ranks say, and why one is refused.
-use Rattle.std.specs.Prelude.{◌≡◌, ◌⊎◌, ◌&&◌, ◌==◌, ℕ, Bool, true, false, List, [], ◌∷◌, Option, Some, None, String, nat_lt, slice_get, take}
+use Rattle.std.specs.Prelude.{◌≡◌, ◌⊎◌, ◌&&◌, ◌==◌, ◌+◌, ℕ, Bool, true, false, List, [], ◌∷◌, Option, Some, None, String, nat_lt, slice_get, take}
 use Rattle.std.specs.declared.alloc.Global.{Global}
 use Rattle.dumpi_calls.specs.declared.collect.Memory.{Memory as NoMemory}
 use Rattle.dumpi_calls.specs.declared.fault.WalkFault.{WalkFault}
@@ -21,10 +21,11 @@ abbrev pub Says : Option (List ℕ) → RankCalls → ℕ → Type 0
 Says None rank count = Unit {0}
 Says (Some text) rank count = (walked : Walked) × IsReadFrom (Some text) rank walked × (is_no_text walked ≡ false) × (walked.calls ≡ count)
 
--- The texts of these files say this, each of its rank.
-abbrev pub AllSay : (List ℕ → Option (List ℕ)) → List (List ℕ) → List RankCalls → Type 0
-AllSay file [] ranks = ranks ≡ []
-AllSay file (name ∷ names) ranks = (rank : RankCalls) × (rest : List RankCalls) × ((count : ℕ) × Says (file name) rank count) × AllSay file names rest × (ranks ≡ rank ∷ rest)
+-- The texts of these files say this, each of its rank, and have so many calls together.
+abbrev pub AllSay : (List ℕ → Option (List ℕ)) → List (List ℕ) → List RankCalls → ℕ → Type 0
+AllSay file [] ranks calls = (ranks ≡ []) × (calls ≡ 0)
+AllSay file (name ∷ names) ranks calls = (rank : RankCalls) × (rest : List RankCalls) × (count more : ℕ) × Says (file name) rank count
+    × AllSay file names rest more × (ranks ≡ rank ∷ rest) × (calls ≡ count + more)
 
 -- ---- why a text is refused
 
@@ -56,7 +57,8 @@ pub record IsFirstRefused (file : List ℕ → Option (List ℕ)) (names : List 
   pub name : List ℕ
   pub there : slice_get names place ≡ Some name
   pub ranks : List RankCalls
-  pub before : AllSay file (take place names) ranks
+  pub calls : ℕ
+  pub before : AllSay file (take place names) ranks calls
   pub refused : RefusesText name (file name) fault
 
 -- the first of these texts that isn't read is refused, or memory was wanting

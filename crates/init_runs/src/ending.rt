@@ -8,6 +8,7 @@ ghost use Rattle.command_runs.specs.Endings.{output_of};
 ghost use Rattle.init_runs.specs.Advice.{IsInitShown};
 ghost use Rattle.init_runs.specs.Endings.{EndsInit, EndsOver, EndsTexts, PutsBoth, RanInit, RefusesPutting, layout_as, manifest_as};
 ghost use Rattle.init_runs.specs.Faults.{init_fault_line_of};
+ghost use Rattle.init_runs.specs.declared.fault.InitFault.TheVariants.{Memory};
 
 use crate::advice::shown_init_fault;
 use crate::fault::{InitFault, init_fault_line, put_fault};
@@ -159,6 +160,17 @@ fn keep<S: Store>(
     }
 }
 
+/// Copies of the names of both files, for a fault to keep.
+fn names_of(alloc: Global, wanted: Wanted<'_>) -> Result<(String, String), InitFault>
+    ensures layout { IfOk result (λ names. string_bytes names.0 ≡ wanted.entry.layout.now) }
+    ensures manifest { IfOk result (λ names. string_bytes names.1 ≡ wanted.entry.manifest.now) }
+    ensures err { IfErr result (λ fault. fault ≡ Memory) }
+{
+    let layout = wanted.layout.to_string(alloc)?;
+    let manifest = wanted.manifest.to_string(alloc)?;
+    Ok((layout, manifest))
+}
+
 /// Makes both files of the texts, keeps them, and prints what was found.
 fn init<O: Opener, S: Store, W: Write>(
     alloc: Global,
@@ -174,8 +186,10 @@ fn init<O: Opener, S: Store, W: Write>(
 {
     let prepared = prepare(alloc, wanted.sends, texts, files)?;
     // (what a fault names, before anything is kept)
-    let layout = wanted.layout.to_string(alloc)?;
-    let manifest = wanted.manifest.to_string(alloc)?;
+    let (layout, manifest) = match names_of(alloc, wanted) {
+        Ok(names) => names,
+        Err(fault) => return Err(fault),
+    };
     if let Err(fault) = keep(alloc, &prepared.made, wanted, store) {
         return Err(put_fault(fault, layout, manifest));
     }

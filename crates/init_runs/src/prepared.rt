@@ -4,10 +4,10 @@ ghost use Rattle.std.specs.Prelude.{◌≡◌, ◌<◌, ◌≤◌, IfErr, IfOk, 
 ghost use Rattle.std.specs.List.{All};
 ghost use Rattle.mpi_model.specs.declared.layout.TheConstants.{MOST_RANKS};
 ghost use Rattle.command_line.specs.Program.{texts_of};
-ghost use Rattle.init_runs.specs.Prepared.{AreAt, AreNotes, IsByRank, IsMadeOf, RefusesNames, RefusesWords, made_notes};
+ghost use Rattle.init_runs.specs.Prepared.{AreAt, IsByRank, IsPrepared, RefusesNames, RefusesWords, made_notes};
 
 use crate::fault::InitFault;
-use crate::texts::{AllCalls, calls_of_all};
+use crate::texts::calls_of_all;
 use call_words::Text;
 use command_runs::Opener;
 use mpi_model::{MOST_RANKS, Sends};
@@ -47,7 +47,7 @@ fn in_order(alloc: Global, names: &[String], places: &[usize]) -> Result<Vec<Str
 
 /// The texts by rank, and whether the digits of their names say so.
 fn by_rank(alloc: Global, words: &[&str]) -> Result<(Vec<String>, bool), InitFault>
-    ensures ok { IfOk result (λ read. IsByRank (texts_of words.now) (map string_bytes read.0.items)) }
+    ensures ok { IfOk result (λ read. IsByRank (texts_of words.now) read.1 (map string_bytes read.0.items)) }
     ensures few { IfOk result (λ read. length read.0.items ≤ MOST_RANKS) }
     ensures words { OnOk result (length (texts_of words.now) ≤ MOST_RANKS) }
     ensures err { IfErr result (RefusesNames (texts_of words.now)) }
@@ -66,20 +66,14 @@ fn by_rank(alloc: Global, words: &[&str]) -> Result<(Vec<String>, bool), InitFau
 }
 
 /// What is said of the texts and of what they made.
-fn notes_of(
-    alloc: Global,
-    by_digits: bool,
-    ranks: u32,
-    calls: u64,
-    made: &Made,
-) -> Result<Vec<u8>, AllocError>
-    ensures { IfOk result (λ notes. notes.items ≡ made_notes by_digits ranks calls made.now) }
+fn notes_of(alloc: Global, by_digits: bool, calls: u64, made: &Made) -> Result<Vec<u8>, AllocError>
+    ensures { IfOk result (λ notes. notes.items ≡ made_notes by_digits made.now.layout.ranks calls made.now) }
 {
     let mut out = Text::new(alloc);
     if by_digits {
         out.put(b"ranks by the digits at the ends of the names\n");
     }
-    put_notes(&mut out, ranks, calls, &made.derived);
+    put_notes(&mut out, made.layout.ranks(), calls, &made.derived);
     out.into_bytes()
 }
 
@@ -91,17 +85,16 @@ pub(crate) fn prepare<O: Opener>(
     words: &[&str],
     files: &mut O,
 ) -> Result<Prepared, InitFault>
-    ensures made { IfOk result (λ p. IsMadeOf (O.file files.old) sends (texts_of words.now) p.made) }
-    ensures notes { IfOk result (λ p. AreNotes p.made p.notes.items) }
+    ensures made { IfOk result (λ p. IsPrepared (O.file files.old) sends (texts_of words.now) p.made p.notes.items) }
     ensures err { IfErr result (RefusesWords (O.file files.old) sends (texts_of words.now)) }
     ensures same { O.file files.new ≡ O.file files.old }
 {
     let (texts, by_digits) = by_rank(alloc, words)?;
-    let AllCalls { ranks, calls } = calls_of_all(alloc, &texts, files)?;
-    let made = match made_of(alloc, sends, &texts, &ranks) {
+    let all = calls_of_all(alloc, &texts, files)?;
+    let made = match made_of(alloc, sends, &texts, &all.ranks) {
         Ok(made) => made,
         Err(fault) => return Err(InitFault::Made(fault)),
     };
-    let notes = notes_of(alloc, by_digits, ranks.len() as u32, calls, &made)?;
+    let notes = notes_of(alloc, by_digits, all.calls, &made)?;
     Ok(Prepared { made, notes })
 }

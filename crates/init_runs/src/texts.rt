@@ -1,6 +1,6 @@
 //! The texts of all ranks, as what their calls say of communicators.
 
-ghost use Rattle.std.specs.Prelude.{◌≡◌, IfErr, IfOk, map, string_bytes};
+ghost use Rattle.std.specs.Prelude.{◌≡◌, ◌-◌, ◌^◌, IfErr, IfOk, map, min, string_bytes, ℕ};
 ghost use Rattle.init_runs.specs.Texts.{AllSay, RefusesOne, RefusesText, Says, is_no_text};
 
 use crate::fault::InitFault;
@@ -15,7 +15,7 @@ use text_layouts::rank_calls_of;
 pub(crate) struct AllCalls {
     /// What each rank's text says of communicators.
     pub(crate) ranks: Vec<RankCalls>,
-    /// How many calls they have together.
+    /// How many calls they have together, up to 2^64 - 1.
     pub(crate) calls: u64,
 }
 
@@ -65,7 +65,8 @@ pub(crate) fn calls_of_all<O: Opener>(
     texts: &[String],
     files: &mut O,
 ) -> Result<AllCalls, InitFault>
-    ensures ok { IfOk result (λ all. AllSay (O.file files.old) (map string_bytes texts.now) all.ranks.items) }
+    ensures ok { IfOk result (λ all. (calls : ℕ) × AllSay (O.file files.old) (map string_bytes texts.now) all.ranks.items calls
+        × (all.calls ≡ min calls (2 ^ 64 - 1))) }
     ensures err { IfErr result (RefusesOne (O.file files.old) (map string_bytes texts.now)) }
     ensures same { O.file files.new ≡ O.file files.old }
 {

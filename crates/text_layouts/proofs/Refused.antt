@@ -59,7 +59,7 @@ by_file sends files ranks n world comms fault n_is world_is size number h =
 
 pub by_manifest : (sends : Sends) (files : List (List ℕ)) (ranks : List RankCalls) (fault : MadeFault) → size_fault ranks ≡ None → world_fault ranks ≡ None → RefusesManifestFile (manifest_value files) fault → RefusesMaking sends files ranks fault
 by_manifest sends files ranks faults.Memory size number h = tt
-by_manifest sends files ranks (faults.Size rank size) size number h = absurd h
+by_manifest sends files ranks (faults.Size rank other) size number h = absurd h
 by_manifest sends files ranks (faults.World first second) size number h = absurd h
 by_manifest sends files ranks (faults.Layout fault) size number h = absurd h
 by_manifest sends files ranks faults.LayoutFile size number h = absurd h

@@ -24,7 +24,7 @@ returns g c =
     IfOk-weaker c.run_prepared.result _ _
     (λ e h. inr (
       c.in-Ok.prepared.made,
-      c.in-Ok.ensures.made,
+      c.in-Ok.ensures.made.0,
       subst (λ (f : List ℕ → Option (List ℕ)). EndsOver f c.args.verb c.in-Ok.prepared.made g.W.Write.written c.args.out.now c.run_prepared.new.out e)
           c.prepare.ensures.same h,
     )) c.run_prepared.ensures

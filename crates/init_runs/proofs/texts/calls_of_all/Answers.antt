@@ -1,9 +1,9 @@
-use Rattle.std.proofs.Common.{rules, arith, ◌≡◌, ◌∙◌, ◌+◌, ◌<◌, ◌++◌, ◌∷◌, [], ℕ, List, String, Global, inr, ap, sym, subst, length, map, take, string_bytes}
+use Rattle.std.proofs.Common.{rules, arith, ◌≡◌, ◌∙◌, ◌+◌, ◌-◌, ◌^◌, ◌<◌, ◌++◌, ◌∷◌, [], ℕ, List, String, Global, inr, ap, sym, subst, length, map, min, take, string_bytes}
 use Rattle.std.proofs.lemmas.List.{take-map, take_more}
 use Rattle.comm_makings.specs.declared.calls.RankCalls.{RankCalls}
 use Rattle.init_runs.specs.Texts.{AllSay, RefusesText, Says}
 use Rattle.init_runs.proofs.Ordered.{map_push, name_at}
-use Rattle.init_runs.proofs.Reading.{say_more}
+use Rattle.init_runs.proofs.Reading.{counted, say_more}
 use Rattle.init_runs.proofs.texts.calls_of_all.Goals as goal
 
 pub returns-in-Err-clause-err : goal.returns-in-Err-clause-err
@@ -16,7 +16,8 @@ returns-in-Err-clause-err g c =
       name = string_bytes c.path-item.result;
       there = name_at c.args.texts.now c.loop-path.path-index c.path-item.result lt c.path-item.is;
       ranks = c.loop-path.ranks.items;
-      before = subst (λ (ns : List (List ℕ)). AllSay file ns c.loop-path.ranks.items) (sym (take-map string_bytes c.loop-path.path-index c.args.texts.now)) c.loop-path.invariant.say;
+      calls = c.loop-path.invariant.say.0;
+      before = subst (λ (ns : List (List ℕ)). AllSay file ns c.loop-path.ranks.items c.loop-path.invariant.say.0) (sym (take-map string_bytes c.loop-path.path-index c.args.texts.now)) c.loop-path.invariant.say.1;
       refused = subst (λ (n : List ℕ). RefusesText n (file n) c.in-Err.fault) c.as_str.ensures.value refuses;
     })
 
@@ -32,9 +33,13 @@ loop-path-preserved g c =
     let says : Says (file c.as_str.result.now) c.in-Ok.read.0 c.in-Ok.read.1 = rw c.loop-path.invariant.files at c.in-Ok.ensures.ok in
     let said : Says (file (string_bytes item)) c.in-Ok.read.0 c.in-Ok.read.1 =
     subst (λ (n : List ℕ). Says (file n) c.in-Ok.read.0 c.in-Ok.read.1) c.as_str.ensures.value says in
+    let total = c.loop-path.invariant.say.0 in
+    let count = c.in-Ok.read.1 in
+    let more_say : AllSay file (map string_bytes (take (i + 1) texts)) c.push.new.self.items (total + count) =
+    subst (λ (ns : List (List ℕ)). AllSay file ns c.push.new.self.items (total + count)) (sym more)
+    (subst (λ (rs : List RankCalls). AllSay file (map string_bytes (take i texts) ++ string_bytes item ∷ []) rs (total + count)) (sym c.in_ok-push.ensures.items)
+    (say_more file (map string_bytes (take i texts)) (string_bytes item) c.loop-path.ranks.items c.in-Ok.read.0 total count c.loop-path.invariant.say.1 said)) in
     record {
       files = c.calls_of.ensures.same ∙ c.loop-path.invariant.files;
-      say = subst (λ (ns : List (List ℕ)). AllSay file ns c.push.new.self.items) (sym more)
-          (subst (λ (rs : List RankCalls). AllSay file (map string_bytes (take i texts) ++ string_bytes item ∷ []) rs) (sym c.in_ok-push.ensures.items)
-          (say_more file (map string_bytes (take i texts)) (string_bytes item) c.loop-path.ranks.items c.in-Ok.read.0 c.in-Ok.read.1 c.loop-path.invariant.say said));
+      say = (total + count, more_say, c.saturating_add-calls.ensures ∙ ap (λ (k : ℕ). min (k + count) (2 ^ 64 - 1)) c.loop-path.invariant.say.2 ∙ counted (2 ^ 64 - 1) total count);
     }
