@@ -1,5 +1,5 @@
 -- How the program ends over texts alone.
-use Rattle.std.specs.Prelude.{◌≡◌, ◌≢◌, ◌⊎◌, ◌++◌, ℕ, Bool, true, false, List, [], Option, Some, Result, Ok, Err, IfErr, OnOk, codes, string_bytes}
+use Rattle.std.specs.Prelude.{◌≡◌, ◌≢◌, ◌⊎◌, ◌++◌, ℕ, Bool, true, false, List, [], Option, Some, Result, Ok, Err, IfErr, OnOk, codes, string_bytes, Contains, None}
 use Rattle.std.specs.Io.KnownBytes.{Appends, Keeps}
 use Rattle.mpi_model.specs.Failures.{HasFailed}
 use Rattle.mpi_model.specs.declared.layout.Sends.{Sends}
@@ -43,10 +43,15 @@ pub record EndsOver {W : Type 0} (file : List ℕ → Option (List ℕ)) (verb :
   pub refused : IfErr ran (λ fault. (fault ≡ runs.Write) ⊎ RefusesVerb (files_of file made) verb layout_name manifest_name fault)
   pub nothing : IfErr ran (λ fault. (fault ≡ runs.Write) ⊎ Keeps (written old) (written new))
 
+-- One of these words names a text that nothing tells, since it comes through a pipe.
+abbrev pub NamesPiped : (List ℕ → Option (List ℕ)) → List (List ℕ) → InitFault → Type 0
+NamesPiped file words (faults.Piped path) = Contains words (string_bytes path) × (file (string_bytes path) ≡ None)
+NamesPiped file words _ = ⊥
+
 -- The texts that these words name are refused, and the program ends with what the verb shows of the fault.
 abbrev pub EndsRefused : (List ℕ → Option (List ℕ)) → Verb → Sends → List (List ℕ) → Ending → Type 0
 EndsRefused file verb sends words e = (fault : InitFault) × (e.status ≡ 1)
-    × IsInitShown file verb fault (string_bytes e.errors) × RefusesWords file sends words fault
+    × IsInitShown file verb fault (string_bytes e.errors) × (NamesPiped file words fault ⊎ RefusesWords file sends words fault)
 
 -- A verb over texts ends so: they are refused and nothing is written, or it ran over what was made of them.
 abbrev pub EndsTexts : {W : Type 0} → (List ℕ → Option (List ℕ)) → Verb → List (List ℕ) → (W → Option (List ℕ)) → W → W → Ending → Type 0

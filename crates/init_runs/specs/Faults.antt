@@ -9,7 +9,7 @@ use Rattle.command_runs.specs.FileNames.{shown_name}
 use Rattle.text_layouts.specs.declared.fault.MadeFault.{MadeFault}
 use Rattle.text_layouts.specs.declared.fault.MadeFault.TheVariants as mades
 use Rattle.init_runs.specs.declared.fault.InitFault.{InitFault}
-use Rattle.init_runs.specs.declared.fault.InitFault.TheVariants.{Memory, Text, NoCall, TooMany, Twice, Made, There, SpareThere, NotWritten, Half, OneName, Write}
+use Rattle.init_runs.specs.declared.fault.InitFault.TheVariants.{Memory, Text, NoCall, Piped, TooMany, Twice, Made, There, SpareThere, NotWritten, Half, OneName, Write}
 
 -- two ranks, and what is said of them
 abbrev pub ranks_text : ℕ → ℕ → List ℕ → List ℕ
@@ -33,6 +33,7 @@ abbrev pub init_fault_text : InitFault → List ℕ
 init_fault_text Memory = codes "Memory"
 init_fault_text (Text fault) = fault_text fault
 init_fault_text (NoCall path) = shown_name (string_bytes path) ++ codes " has lines and no MPI call: it is no trace text"
+init_fault_text (Piped path) = shown_name (string_bytes path) ++ codes " comes through a pipe, and each text is read twice: keep it in a file"
 init_fault_text TooMany = codes "more than 1024 texts, which are more ranks than a layout can have"
 init_fault_text (Twice path) = shown_name (string_bytes path) ++ codes " is of the rank of a text before it, by the digits of its name"
 init_fault_text (Made fault) = made_fault_text fault

@@ -1,6 +1,6 @@
 //! How the program ends where it is given texts alone.
 
-ghost use Rattle.std.specs.Prelude.{◌≡◌, ◌≢◌, IfErr, IfOk, OnOk, string_bytes};
+ghost use Rattle.std.specs.Prelude.{◌≡◌, ◌≢◌, Contains, IfErr, IfOk, IfSome, None, OnOk, string_bytes};
 ghost use Rattle.mpi_model.specs.Failures.{HasFailed};
 ghost use Rattle.layout_files.specs.Stores.{Goes, LeavesNothing, Same};
 ghost use Rattle.command_line.specs.Program.{texts_of, wish_of};
@@ -111,6 +111,19 @@ fn no_cluster(alloc: Global) -> Result<Ending, AllocError> {
     })
 }
 
+/// The first of the texts that comes through a pipe: it could be read for the layout, and not once more for the verb.
+fn piped_of<'a, O: Opener>(texts: &[&'a str], files: &O) -> Option<&'a str>
+    ensures among { IfSome result (λ path. Contains (texts_of texts.now) path.now) }
+    ensures untold { IfSome result (λ path. O.file files.now path.now ≡ None) }
+{
+    for path in texts {
+        if files.length(path).is_none() && files.reason(path).is_none() {
+            return Some(*path);
+        }
+    }
+    None
+}
+
 /// Makes the layout and the manifest of the texts, shows what was found, and runs the verb.
 fn over_texts<R: Eprint, O: Opener, V: Watcher, W: Write>(
     rt: &R,
@@ -124,6 +137,10 @@ fn over_texts<R: Eprint, O: Opener, V: Watcher, W: Write>(
     requires alone { verb ≢ Verb.Cluster }
     ensures { IfOk result (EndsTexts (O.file files.old) verb (texts_of texts.now) W.written out.old out.new) }
 {
+    if let Some(path) = piped_of(texts, files) {
+        let path = path.to_string(alloc)?;
+        return ending_shown(alloc, verb, &InitFault::Piped { path }, files);
+    }
     let prepared = match prepare(alloc, Sends::Wait, texts, files) {
         Ok(prepared) => prepared,
         Err(fault) => return ending_shown(alloc, verb, &fault, files),

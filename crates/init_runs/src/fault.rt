@@ -20,6 +20,8 @@ pub(crate) enum InitFault {
     Text(RunFault),
     /// The text has lines, and no call among them.
     NoCall { path: String },
+    /// The text comes through a pipe, and a verb reads each text twice.
+    Piped { path: String },
     /// More texts than a layout can have ranks.
     TooMany,
     /// A text before this one is of the same rank, by the digits at the ends of their names.
@@ -63,6 +65,8 @@ impl<T: Drop> From<AllocFailed<T>> for InitFault {
 }
 
 const NO_CALL: &str = " has lines and no MPI call: it is no trace text";
+
+const PIPED: &str = " comes through a pipe, and each text is read twice: keep it in a file";
 
 const TWICE: &str = " is of the rank of a text before it, by the digits of its name";
 
@@ -138,6 +142,7 @@ impl fmt::Display for InitFault {
             InitFault::Memory => write!(f, "Memory"),
             InitFault::Text(fault) => write!(f, "{fault}"),
             InitFault::NoCall { path } => put_file(f, path, NO_CALL),
+            InitFault::Piped { path } => put_file(f, path, PIPED),
             InitFault::TooMany => write!(
                 f,
                 "more than 1024 texts, which are more ranks than a layout can have"

@@ -54,6 +54,12 @@ impl<'a, O: Opener> Opener for MadeFiles<'a, O> {
     }
 
     fn length(&self, path: &str) -> Option<u64> {
+        if path == LAYOUT_NAME {
+            return Some(self.layout.len() as u64);
+        }
+        if path == MANIFEST_NAME {
+            return Some(self.manifest.len() as u64);
+        }
         self.files.length(path)
     }
 

@@ -13,7 +13,7 @@ returns-in-Err g c =
         c.in-Err.fault,
         status,
         subst (λ (f : List ℕ → Option (List ℕ)). IsInitShown f c.args.verb c.in-Err.fault (string_bytes e.errors)) c.prepare.ensures.same shown,
-        c.in-Err.ensures.err,
+        inr c.in-Err.ensures.err,
       ),
       keeps_same (g.W.Write.written c.args.out.now),
     ))
