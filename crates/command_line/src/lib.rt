@@ -273,8 +273,8 @@ Example: mpimatch explain r0.txt r1.txt
 Example: mpimatch explain layout.json manifest.json
 
 FILE... are a LAYOUT and a MANIFEST, or the texts of all ranks, rank 0 first, of which both are then
-made as init makes them, but not written. They are texts where a line of the first one, among its first
-4,096 bytes, begins with MPI_, as no line of JSON does. What comes through a pipe is not looked at.
+made as init makes them, but not written. They are texts where the first one that isn't empty has a line
+among its first 4,096 bytes that begins with MPI_, as no line of JSON does. None may come by a pipe.
 
 LAYOUT has the ranks and communicators of the run, in one JSON text:
   {"ranks":2,"world":2,"sends":"wait","comms":[{"id":2,"members":[0,1]}]}

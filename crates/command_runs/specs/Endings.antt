@@ -10,6 +10,7 @@ use Rattle.command_line.specs.declared.Verb.TheVariants as verbs
 use Rattle.command_runs.specs.Advice.{IsShown}
 use Rattle.command_runs.specs.FaultLines.{fault_line_of}
 use Rattle.command_runs.specs.FileNames.{shown_name}
+use Rattle.command_runs.specs.Files.{IsLength}
 use Rattle.command_runs.specs.Looks.{BeginsAsText}
 use Rattle.command_runs.specs.Replays.{Writes}
 use Rattle.command_runs.specs.Verbs.{IsOutputOf, RefusesVerb}
@@ -27,10 +28,10 @@ Ask words request = request_in (subcommand_of program words) ≡ Some request
 abbrev pub AskOver : List Text → Verb → Text → Text → Type 0
 AskOver words verb layout manifest = Ask words (pair verb layout manifest) ⊎ Ask words (files verb (layout ∷ manifest ∷ []))
 
--- The first of these files begins as the text of a trace.
+-- The first of these files that isn't empty begins as the text of a trace.
 abbrev pub BeginsWithText : (List ℕ → Option (List ℕ)) → List Text → Type 0
 BeginsWithText file [] = ⊥
-BeginsWithText file (first ∷ names) = BeginsAsText (file first)
+BeginsWithText file (first ∷ names) = BeginsAsText (file first) ⊎ (IsLength (file first) 0 × BeginsWithText file names)
 
 -- The words ask for a verb over files that are no layout and manifest: they aren't two.
 abbrev pub AskStrange : List Text → List Text → Type 0

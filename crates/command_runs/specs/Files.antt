@@ -10,6 +10,11 @@ abbrev pub StandsAtFirst : Option (List ℕ) → Option (List ℕ) → Type 0
 StandsAtFirst None left = Unit {0}
 StandsAtFirst (Some bytes) left = left ≡ Some bytes
 
+-- The file has so many bytes, where they are told.
+abbrev pub IsLength : Option (List ℕ) → ℕ → Type 0
+IsLength None count = Unit {0}
+IsLength (Some bytes) count = count ≡ length bytes
+
 -- These are the bytes of the file, where they are told.
 abbrev pub IsFile : Option (List ℕ) → List ℕ → Type 0
 IsFile None bytes = Unit {0}

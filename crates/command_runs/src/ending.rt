@@ -4,6 +4,7 @@ ghost use Rattle.std.specs.Prelude.{◌≡◌, ◌≢◌, ◌∷◌, [], IfOk, I
 ghost use Rattle.command_line.specs.Program.{texts_of};
 ghost use Rattle.command_runs.specs.Endings.{BeginsWithText, EndsCluster, EndsFor, IsEndedBy, Turns, TurnsFiles, TurnsPair, first_name, strange_line};
 ghost use Rattle.command_runs.specs.FaultLines.{fault_line_of};
+ghost use Rattle.command_runs.specs.Files.{IsLength};
 
 use crate::advice::shown_fault;
 use crate::cluster::run_cluster;
@@ -37,7 +38,7 @@ pub enum Turn<'a> {
         layout: &'a str,
         manifest: &'a str,
     },
-    /// A verb over the texts of all ranks, the first of which begins as one.
+    /// A verb over the texts of all ranks, the first of which that isn't empty begins as one.
     Texts {
         verb: Verb,
         texts: Vec<&'a str>,
@@ -53,8 +54,8 @@ pub enum Turn<'a> {
 /// help or the version was asked for, 1 for a refused input, with its fault line, and 2 for a
 /// mistake in the words. What takes more than files is left to do: a cluster, and what is made of texts.
 ///
-/// Where a verb takes a layout and a manifest or texts, its words are texts if the first file begins as
-/// one, and else a layout and a manifest if they are two, and else mistaken.
+/// Where a verb takes a layout and a manifest or texts, its words are texts if the first file that isn't
+/// empty begins as one, and else a layout and a manifest if they are two, and else mistaken.
 pub fn ending_of<'a, O: Opener, V: Watcher, W: Write>(
     alloc: Global,
     words: &'a [&'a str],
@@ -137,15 +138,27 @@ fn two_of<'a>(names: &[&'a str]) -> Option<(&'a str, &'a str)>
     }
 }
 
-/// Whether the names are those of texts: the first one tells it.
+/// Whether the file is there, and has no byte: a rank that was killed may leave such a text.
+fn is_empty<O: Opener>(path: &str, files: &O) -> bool
+    ensures { IsTrue result → IsLength (O.file files.now path.now) 0 }
+{
+    files.length(path) == Some(0)
+}
+
+/// Whether the names are those of texts: the first one of a file that isn't empty tells it.
 fn are_texts<O: Opener>(names: &[&str], files: &mut O) -> bool
     ensures told { IsTrue result → BeginsWithText (O.file files.old) (texts_of names.now) }
     ensures same { O.file files.new ≡ O.file files.old }
 {
-    match names {
-        [first, ..] => begins_as_text(first, files),
-        [] => false,
+    for name in names {
+        if begins_as_text(name, files) {
+            return true;
+        }
+        if !is_empty(name, files) {
+            return false;
+        }
     }
+    false
 }
 
 /// The name of the first of some files.

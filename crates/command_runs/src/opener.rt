@@ -1,7 +1,7 @@
 //! Where the files of a run come from.
 
-ghost use Rattle.std.specs.Prelude.{◌≡◌, ℕ, IfOk, List, None, Option};
-ghost use Rattle.command_runs.specs.Files.{StandsAtFirst};
+ghost use Rattle.std.specs.Prelude.{◌≡◌, ℕ, IfOk, IfSome, List, None, Option};
+ghost use Rattle.command_runs.specs.Files.{IsLength, StandsAtFirst};
 
 use crate::reason::Reason;
 use mpi_model::{Device, Read};
@@ -33,11 +33,12 @@ pub trait Opener: Drop {
         ensures absent { result ≡ Err OpenFault.File → file self.old path.now ≡ None }
         ensures same { file self.new ≡ file self.old };
 
-    /// How many bytes the file of a name has now, where that can be told: a pipe has no length, and can't be read twice. A
-    /// file whose bytes are told has one. It is for who watches a run, for the room that a piece's events get and for which
-    /// files are read twice, and nothing that a run answers hangs on it.
+    /// How many bytes the file of a name has now, where that can be told: a pipe has no length, and can't be read twice. It is
+    /// for who watches a run, for the room that a piece's events get, for which files are read twice, and for which words name
+    /// texts; nothing else that a run answers hangs on it.
     fn length(&self, path: &str) -> Option<u64>
-        ensures { result ≡ None → file self.now path.now ≡ None };
+        ensures some { IfSome result (IsLength (file self.now path.now)) }
+        ensures none { result ≡ None → file self.now path.now ≡ None };
 
     /// Why no file of a name can be read now, where the system says so. It is for a person who reads why a run was refused, and
     /// nothing else that a run answers hangs on it.
