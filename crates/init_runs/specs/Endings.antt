@@ -43,7 +43,7 @@ pub record EndsOver {W : Type 0} (file : List ℕ → Option (List ℕ)) (verb :
   pub refused : IfErr ran (λ fault. (fault ≡ runs.Write) ⊎ RefusesVerb (files_of file made) verb layout_name manifest_name fault)
   pub nothing : IfErr ran (λ fault. (fault ≡ runs.Write) ⊎ Keeps (written old) (written new))
 
--- One of these words names a text that nothing tells, since it comes through a pipe.
+-- One of these words names a text that nothing tells: it is no file that can be read twice.
 abbrev pub NamesPiped : (List ℕ → Option (List ℕ)) → List (List ℕ) → InitFault → Type 0
 NamesPiped file words (faults.Piped path) = Contains words (string_bytes path) × (file (string_bytes path) ≡ None)
 NamesPiped file words _ = ⊥

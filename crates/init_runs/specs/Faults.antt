@@ -33,7 +33,7 @@ abbrev pub init_fault_text : InitFault → List ℕ
 init_fault_text Memory = codes "Memory"
 init_fault_text (Text fault) = fault_text fault
 init_fault_text (NoCall path) = shown_name (string_bytes path) ++ codes " has lines and no MPI call: it is no trace text"
-init_fault_text (Piped path) = shown_name (string_bytes path) ++ codes " comes through a pipe, and each text is read twice: keep it in a file"
+init_fault_text (Piped path) = shown_name (string_bytes path) ++ codes " is a pipe or a device, and each text is read twice: keep it in a file"
 init_fault_text TooMany = codes "more than 1024 texts, which are more ranks than a layout can have"
 init_fault_text (Twice path) = shown_name (string_bytes path) ++ codes " is of the rank of a text before it, by the digits of its name"
 init_fault_text (Made fault) = made_fault_text fault

@@ -111,7 +111,7 @@ fn no_cluster(alloc: Global) -> Result<Ending, AllocError> {
     })
 }
 
-/// The first of the texts that comes through a pipe: it could be read for the layout, and not once more for the verb.
+/// The first of the texts that is a pipe or a device: it could be read for the layout, and not once more for the verb.
 fn piped_of<'a, O: Opener>(texts: &[&'a str], files: &O) -> Option<&'a str>
     ensures among { IfSome result (λ path. Contains (texts_of texts.now) path.now) }
     ensures untold { IfSome result (λ path. O.file files.now path.now ≡ None) }

@@ -20,7 +20,7 @@ pub(crate) enum InitFault {
     Text(RunFault),
     /// The text has lines, and no call among them.
     NoCall { path: String },
-    /// The text comes through a pipe, and a verb reads each text twice.
+    /// The text is no file that can be read twice, as a verb reads each.
     Piped { path: String },
     /// More texts than a layout can have ranks.
     TooMany,
@@ -66,7 +66,7 @@ impl<T: Drop> From<AllocFailed<T>> for InitFault {
 
 const NO_CALL: &str = " has lines and no MPI call: it is no trace text";
 
-const PIPED: &str = " comes through a pipe, and each text is read twice: keep it in a file";
+const PIPED: &str = " is a pipe or a device, and each text is read twice: keep it in a file";
 
 const TWICE: &str = " is of the rank of a text before it, by the digits of its name";
 
