@@ -1,5 +1,5 @@
 -- How the program ends over texts alone.
-use Rattle.std.specs.Prelude.{◌≡◌, ◌≢◌, ◌⊎◌, ◌++◌, ℕ, Bool, true, false, List, [], Option, Some, Result, Ok, Err, IfErr, OnOk, codes, string_bytes, Contains, None}
+use Rattle.std.specs.Prelude.{◌≡◌, ◌⊎◌, ℕ, Bool, true, false, List, [], Option, Result, Ok, Err, IfErr, OnOk, codes, string_bytes, Contains, None}
 use Rattle.std.specs.Io.KnownBytes.{Appends, Keeps}
 use Rattle.mpi_model.specs.Failures.{HasFailed}
 use Rattle.mpi_model.specs.declared.layout.Sends.{Sends}

@@ -1,4 +1,4 @@
-use Rattle.std.proofs.Common.{◌≡◌, ℕ, List, Option, inl, inr, string_bytes, subst}
+use Rattle.std.proofs.Common.{ℕ, List, Option, inl, inr, string_bytes, subst}
 use Rattle.std.proofs.lemmas.Result.{IfOk-weaker}
 use Rattle.init_runs.specs.Advice.{IsInitShown}
 use Rattle.init_runs.specs.Endings.{EndsOver}
@@ -7,7 +7,7 @@ use Rattle.init_runs.proofs.ending.over_texts.Goals as goal
 
 pub returns-in-Err : goal.returns-in-Err
 returns-in-Err g c =
-    if_both c.ending_shown.result _ _ _
+    if_both c.ending_shown-in-Err.result _ _ _
     (λ e status shown. inl (
       (
         c.in-Err.fault,
@@ -17,7 +17,7 @@ returns-in-Err g c =
       ),
       keeps_same (g.W.Write.written c.args.out.now),
     ))
-    c.ending_shown.ensures.status c.ending_shown.ensures.shown
+    c.ending_shown-in-Err.ensures.status c.ending_shown-in-Err.ensures.shown
 
 pub returns : goal.returns
 returns g c =

@@ -1,9 +1,7 @@
-use Rattle.std.proofs.Common.{rules, ◌≡◌, ◌∙◌, ◌<◌, ℕ, List, Option, Some, String, Global, ap, get_or, length, map, string_bytes, subst, sym}
-use Rattle.std.specs.List.{slice_get}
-use Rattle.text_layouts.specs.Names.{IsByDigits, IsOrder, IsTwice, numbers_of}
+use Rattle.std.proofs.Common.{◌<◌, ℕ, List, String, Global, get_or, length, map, string_bytes, subst, sym}
+use Rattle.text_layouts.specs.Names.{IsByDigits, IsOrder, numbers_of}
 use Rattle.text_layouts.specs.declared.order.Order.{Order}
-use Rattle.text_layouts.specs.declared.order.Order.TheVariants as orders
-use Rattle.init_runs.proofs.Ordered.{name_at, placed, twice_within}
+use Rattle.init_runs.proofs.Ordered.{placed}
 use Rattle.init_runs.proofs.prepared.by_rank.Goals as goal
 
 pub in_order-requires : goal.in_order-requires

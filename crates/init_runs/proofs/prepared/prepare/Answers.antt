@@ -1,10 +1,10 @@
-use Rattle.std.proofs.Common.{◌≡◌, ◌∙◌, ◌-◌, ◌^◌, ℕ, List, String, Global, ap, ap₂, inr, length, map, min, string_bytes, subst, sym}
+use Rattle.std.proofs.Common.{◌≡◌, ◌∙◌, ℕ, List, String, Global, ap, ap₂, inr, length, map, string_bytes, subst}
 use Rattle.mpi_model.specs.Layouts.{Holds}
 use Rattle.comm_makings.specs.World.{world_of}
 use Rattle.comm_makings.specs.declared.calls.RankCalls.{RankCalls}
 use Rattle.layout_files.specs.Values.{manifest_value}
 use Rattle.text_layouts.specs.Making.{IsFile, RefusesMaking, made_layout}
-use Rattle.init_runs.specs.Prepared.{IsMadeOf, made_notes}
+use Rattle.init_runs.specs.Prepared.{made_notes}
 use Rattle.init_runs.specs.Texts.{AllSay}
 use Rattle.init_runs.proofs.prepared.prepare.Goals as goal
 

@@ -1,4 +1,4 @@
-use Rattle.std.proofs.Common.{rules, ◌≡◌, inl, refl}
+use Rattle.std.proofs.Common.{rules, inl, refl}
 use Rattle.init_runs.proofs.texts.calls_of.Goals as goal
 
 pub returns-in-Err-File-clause-err : goal.returns-in-Err-File-clause-err

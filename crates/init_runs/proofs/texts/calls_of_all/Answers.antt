@@ -1,4 +1,4 @@
-use Rattle.std.proofs.Common.{rules, arith, ◌≡◌, ◌∙◌, ◌+◌, ◌-◌, ◌^◌, ◌<◌, ◌++◌, ◌∷◌, [], ℕ, List, String, Global, inr, ap, sym, subst, length, map, min, take, string_bytes}
+use Rattle.std.proofs.Common.{arith, ◌≡◌, ◌∙◌, ◌+◌, ◌-◌, ◌^◌, ◌<◌, ◌++◌, ◌∷◌, [], ℕ, List, String, Global, inr, ap, sym, subst, length, map, min, take, string_bytes}
 use Rattle.std.proofs.lemmas.List.{take-map, take_more}
 use Rattle.comm_makings.specs.declared.calls.RankCalls.{RankCalls}
 use Rattle.init_runs.specs.Texts.{AllSay, RefusesText, Says}
