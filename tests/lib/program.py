@@ -4,8 +4,11 @@ import importlib.util
 import json
 import os
 import pathlib
+import pickle
 import subprocess
 import sys
+import tempfile
+import traceback
 
 LIB = pathlib.Path(__file__).resolve().parent
 TESTS = LIB.parent
@@ -27,18 +30,81 @@ MOST_HEAVY = (LONGEST - COUNT - RUN) // (2 * (CELL + EVENT + 4) + 12 * REQUESTS)
 class Checks:
     """Counts checks, shows each that fails, and ends a script with the line `N passed, M failed`."""
 
-    def __init__(self):
+    def __init__(self, show=print):
         self.passed = self.failed = 0
+        self.show = show
 
     def told(self, name, ok, why=""):
         self.passed, self.failed = (self.passed + 1, self.failed) if ok else (self.passed, self.failed + 1)
         if not ok:
-            print(f"FAILED: {name}: {why[:2000]}")
+            self.show(f"FAILED: {name}: {why[:2000]}")
 
     def end(self):
         """Prints the counts, and gives the status of the script: it fails where a check failed or none ran."""
         print(f"{self.passed} passed, {self.failed} failed")
         return 0 if self.passed and not self.failed else 1
+
+
+def do_one(work, item, room):
+    """What the work of an item counted, showed and answered."""
+    shown = []
+    checks = Checks(shown.append)
+    try:
+        answer = work(checks, item, room)
+    except Exception:
+        checks.told(f"{item!r:.200}", False, traceback.format_exc())
+        answer = None
+    return checks.passed, checks.failed, shown, answer
+
+
+def do_some(items, work, lay_out, queue, out):
+    """Does the work of one item after another, as their numbers come from the queue, in a folder of its own."""
+    found = {}
+    with tempfile.TemporaryDirectory(prefix="checks-") as folder:
+        room = pathlib.Path(folder)
+        room.chmod(0o755)
+        if lay_out:
+            lay_out(room)
+        while number := os.read(queue, 4):
+            at = int.from_bytes(number, "little")
+            found[at] = do_one(work, items[at], room)
+        os.chdir(TOP)
+    with open(out, "wb") as file:
+        pickle.dump(found, file)
+
+
+def by_workers(checks, items, work, lay_out=None):
+    """Calls `work(checks, item, room)` of each item, by as many processes as there are processors, and gives what it answered,
+    in the order of the items. The room is a folder of each process, in which `lay_out(room)` may put files first."""
+    items, found, workers = list(items), {}, []
+    sys.stdout.flush()
+    with tempfile.TemporaryDirectory(prefix="workers-") as folder, open(f"{folder}/queue", "wb+") as queue:
+        queue.write(b"".join(at.to_bytes(4, "little") for at in range(len(items))))
+        queue.seek(0)
+        for at in range(min(len(items), len(os.sched_getaffinity(0)))):
+            out = f"{folder}/{at}"
+            worker = os.fork()
+            if not worker:
+                status = 1
+                try:
+                    do_some(items, work, lay_out, queue.fileno(), out)
+                    status = 0
+                except BaseException:
+                    traceback.print_exc()
+                finally:
+                    # (the parent's open files and folders are its own)
+                    os._exit(status)
+            workers.append((worker, out))
+        for worker, out in workers:
+            if os.waitstatus_to_exitcode(os.waitpid(worker, 0)[1]) == 0:
+                with open(out, "rb") as file:
+                    found |= pickle.load(file)
+    for at, item in enumerate(items):
+        passed, failed, shown, _ = found.setdefault(at, (0, 1, [f"FAILED: {item!r:.200}: the process that was at it ended"], None))
+        checks.passed, checks.failed = checks.passed + passed, checks.failed + failed
+        for line in shown:
+            checks.show(line)
+    return [found[at][3] for at in range(len(items))]
 
 
 def found_program():
