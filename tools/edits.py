@@ -177,3 +177,12 @@ def sources_of(name):
     """The text of each source file of a crate, by its path in the crate."""
     home = TOP / "crates" / name
     return {str(it.relative_to(home)): it.read_text() for it in sorted(home.glob("src/**/*.rt"))}
+
+
+def standing(names):
+    """Of each edit of these crates its crate, its name, and why it can't be put into the sources as they are; empty where it can."""
+    for name in names:
+        texts = sources_of(name)
+        for path in edit_files(name):
+            edit = read_edit(path, texts)
+            yield name, edit.name, edit.fault

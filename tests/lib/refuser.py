@@ -37,10 +37,10 @@ def compiled(room):
 
 
 class Refuser:
-    """Runs the program, with one request refused, in the folder of a case."""
+    """Runs the program, with one request refused by a compiled library, in the folder of a case; what it notes lies in a room."""
 
-    def __init__(self, program, room):
-        self.program, self.library, self.room, self.runs = program, compiled(room), room, 0
+    def __init__(self, program, library, room):
+        self.program, self.library, self.room, self.runs = program, library, room, 0
         with open(room / "seen", "wb+") as file:
             file.truncate(HEAD.size + 8 * STACK)
             self.seen = mmap.mmap(file.fileno(), 0)
@@ -88,12 +88,12 @@ class Sweep:
     def __init__(self, checks, refuser):
         self.checks, self.refuser, self.refused = checks, refuser, Counter()
 
-    def over(self, case, kind, how, wanted, numbers=None, note=None):
+    def over(self, case, kind, how, wanted, numbers=None, note=None, share=(0, 1)):
         """Refuses the requests of these numbers (None: each) until a run meets none, and looks how each run ends. `wanted` tells
         by the case, the run without a refusal and the one with it, how that may end, with words below a fault's line or
-        without; `note` gets the latter."""
+        without; `note` gets the latter. Of a share (K, N) every Nth of the numbers is refused, from the Kth on."""
         whole, wrong = self.refuser.run(case, kind), []
-        for at in numbers(whole) if numbers else itertools.count(1):
+        for at in itertools.islice(numbers(whole) if numbers else itertools.count(1), share[0], None, share[1]):
             ran = self.refuser.run(case, kind, at, how)
             if not ran.refused:
                 break
@@ -104,7 +104,8 @@ class Sweep:
                 wrong.append(f"{kind} {at} {ran.file} {ran.moved}: came {ended(ran)}, wanted {wanted(case, whole, ran)}")
         if not ran.refused and ended(ran) != ended(whole):
             wrong.append(f"none of {kind}: came {ended(ran)}, wanted {ended(whole)}")
-        self.checks.told(f"{case.name}: {kind} {how}", not wrong, f"{len(wrong)} of them: {wrong[:1]}")
+        of = f", {share[0] + 1} of {share[1]}" if share[1] > 1 else ""
+        self.checks.told(f"{case.name}: {kind} {how}{of}", not wrong, f"{len(wrong)} of them: {wrong[:1]}")
 
 
 def folders(room):
