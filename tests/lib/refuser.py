@@ -7,10 +7,9 @@ import re
 import shutil
 import struct
 import subprocess
-import sys
 from collections import Counter, namedtuple
 
-from program import CASES, LIB, TOP
+from program import CASES, LIB, TOP, is_alone
 
 SECONDS, STACK = 120, 4096
 HEAD = struct.Struct("5Q256sQ")
@@ -22,8 +21,24 @@ Ran = namedtuple("Ran", "status out err met before refused file moved stack base
 Case = namedtuple("Case", "name words room")
 
 
+def refusable(checks, program, room):
+    """The program and tests/lib/refuse.c as a library that is laid before it; neither where this machine can't do that. A
+    program without a loader takes no library: then the one beside it does, which is the same but for its C library."""
+    if is_alone(program):
+        program = program.with_name(f"{program.name}-dynamic")
+    try:
+        subprocess.run([program, "--version"], capture_output=True, check=True)
+    except (OSError, subprocess.CalledProcessError) as error:
+        checks.leave_out(f"{program} doesn't start here, so nothing was refused: {error}")
+        return None, None
+    library = compiled(room)
+    if not library:
+        checks.leave_out("no C compiler is here that makes tests/lib/refuse.c (cc, gcc or clang), so nothing was refused")
+    return library and program, library
+
+
 def compiled(room):
-    """tests/lib/refuse.c as a library, by a C compiler of the machine or by the kit's."""
+    """tests/lib/refuse.c as a library, by a C compiler of the machine or by the kit's; None without one."""
     library = room / "refuse.so"
     kit = []
     if shutil.which("rt"):
@@ -33,7 +48,7 @@ def compiled(room):
         words = [compiler, "-O1", "-fno-omit-frame-pointer", "-fno-builtin", "-shared", "-fPIC", "-nostdlib", "-o", library, LIB / "refuse.c"]
         if subprocess.run(words, capture_output=True, check=False).returncode == 0:
             return library
-    sys.exit("no C compiler is here that makes tests/lib/refuse.c")
+    return None
 
 
 class Refuser:
