@@ -143,10 +143,11 @@ def is_alone(program):
     return LOADER not in [struct.unpack_from("<I", file, table + at * size)[0] for at in range(count)]
 
 
-def script(name):
-    """A script of tests/run, as a module."""
-    loader = importlib.machinery.SourceFileLoader(name, str(TESTS / "run" / name))
+def script(name, folder=TESTS / "run"):
+    """A script of tests/run, or of another folder, as a module."""
+    loader = importlib.machinery.SourceFileLoader(name, str(folder / name))
     module = importlib.util.module_from_spec(importlib.util.spec_from_loader(name, loader))
+    sys.modules[name] = module
     loader.exec_module(module)
     return module
 
