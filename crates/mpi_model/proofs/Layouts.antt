@@ -95,6 +95,6 @@ pub record Clear (given : List Communicator) : Type 0 where
 
 pub clear : (ranks world : ℕ) (given : List Communicator) → comm_fault ranks world given ≡ None → Clear given
 clear ranks world given n =
-    let first = or_false (has_clash_of a_communicator given) (has_clash_of Window given || has_clash_of File given) (passes ranks world given n).clear in
-    let others = or_false (has_clash_of Window given) (has_clash_of File given) first.1 in
-    record { communicators = first.0; windows = others.0; files = others.1 }
+    let last = or_false (has_clash_of a_communicator given || has_clash_of Window given) (has_clash_of File given) (passes ranks world given n).clear in
+    let others = or_false (has_clash_of a_communicator given) (has_clash_of Window given) last.0 in
+    record { communicators = others.0; windows = others.1; files = last.1 }

@@ -88,7 +88,7 @@ abbrev pub of_file : Row
 of_file = other objects.File File true true
 
 -- the table
-abbrev pub row : Kind → Row
+unfoldable pub row : Kind → Row
 row kinds.Barrier = both (codes "MPI_Barrier") (codes "MPI_Ibarrier") all_to_all
 row kinds.Bcast = both (codes "MPI_Bcast") (codes "MPI_Ibcast") one_to_all
 row kinds.Scatter = both (codes "MPI_Scatter") (codes "MPI_Iscatter") one_to_all
@@ -165,7 +165,7 @@ row kinds.WinSetInfo = blocking (codes "MPI_Win_set_info") of_window
 row kinds.FileSetInfo = blocking (codes "MPI_File_set_info") of_file
 
 -- the number of a kind: its code in a frame
-abbrev pub kind_number : Kind → ℕ
+unfoldable pub kind_number : Kind → ℕ
 kind_number kinds.Barrier = 0
 kind_number kinds.Bcast = 1
 kind_number kinds.Scatter = 2
@@ -242,7 +242,7 @@ kind_number kinds.WinSetInfo = 72
 kind_number kinds.FileSetInfo = 73
 
 -- all kinds, in the order of their numbers
-abbrev pub all_kinds : List Kind
+unfoldable pub all_kinds : List Kind
 all_kinds = kinds.Barrier ∷ kinds.Bcast ∷ kinds.Scatter ∷ kinds.Gather ∷ kinds.Reduce ∷ kinds.Allreduce ∷ kinds.Allgather ∷ kinds.Alltoall ∷ kinds.Scan ∷ kinds.Exscan ∷ kinds.ReduceScatterBlock ∷ kinds.ReduceScatter ∷ kinds.Allgatherv ∷ kinds.Alltoallv ∷ kinds.Alltoallw ∷ kinds.Gatherv ∷ kinds.Scatterv ∷ kinds.CommSplit ∷ kinds.CommSplitType ∷ kinds.DistGraphCreate ∷ kinds.CommDup ∷ kinds.CommDupWithInfo ∷ kinds.CommCreate ∷ kinds.CommFree ∷ kinds.CommDisconnect ∷ kinds.CartCreate ∷ kinds.GraphCreate ∷ kinds.DistGraphCreateAdjacent ∷ kinds.CartSub ∷ kinds.IntercommCreate ∷ kinds.CommSpawn ∷ kinds.CommSpawnMultiple ∷ kinds.CommAccept ∷ kinds.CommConnect ∷ kinds.WinCreate ∷ kinds.WinAllocate ∷ kinds.WinAllocateShared ∷ kinds.WinCreateDynamic ∷ kinds.FileOpen ∷ kinds.NeighborAllgather ∷ kinds.NeighborAllgatherv ∷ kinds.NeighborAlltoall ∷ kinds.NeighborAlltoallv ∷ kinds.NeighborAlltoallw ∷ kinds.WinFence ∷ kinds.WinFree ∷ kinds.FileClose ∷ kinds.FileSetView ∷ kinds.FileSetSize ∷ kinds.FilePreallocate ∷ kinds.FileSync ∷ kinds.FileSetAtomicity ∷ kinds.FileSeekShared ∷ kinds.FileReadAll ∷ kinds.FileReadAtAll ∷ kinds.FileReadOrdered ∷ kinds.FileWriteAll ∷ kinds.FileWriteAtAll ∷ kinds.FileWriteOrdered ∷ kinds.FileReadAllBegin ∷ kinds.FileReadAtAllBegin ∷ kinds.FileReadOrderedBegin ∷ kinds.FileWriteAllBegin ∷ kinds.FileWriteAtAllBegin ∷ kinds.FileWriteOrderedBegin ∷ kinds.FileReadAllEnd ∷ kinds.FileReadAtAllEnd ∷ kinds.FileReadOrderedEnd ∷ kinds.FileWriteAllEnd ∷ kinds.FileWriteAtAllEnd ∷ kinds.FileWriteOrderedEnd ∷ kinds.CommSetInfo ∷ kinds.WinSetInfo ∷ kinds.FileSetInfo ∷ []
 
 -- the kind of a number

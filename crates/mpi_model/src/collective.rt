@@ -102,7 +102,7 @@ impl Collective {
     pub fn same(self, other: Collective) -> bool
         ensures { IsTrue result ↔ (self ≡ other) }
     {
-        self.kind == other.kind && self.root == other.root && self.comm == other.comm
+        self.kind.same(other.kind) && self.root == other.root && self.comm == other.comm
     }
 }
 

@@ -1,13 +1,19 @@
 //! The kinds of collective calls: one table, which all crates read.
 
-ghost use Rattle.std.specs.Prelude.{◌≡◌, ◌↔◌, IsTrue, SomeIff, option_map, slice_get, true};
-ghost use Rattle.mpi_model.specs.Kinds.{row, has_nonblocking, has_root, is_function, kind_number, kind_of, function_name, short_name};
+ghost use Rattle.std.specs.Prelude.{◌≡◌, ◌↔◌, IsTrue, SomeIff, nat_eq, option_map, true};
+ghost use Rattle.std.proofs.Common.{rules};
+ghost use Rattle.std.specs.Cmp.Rules.{comparing};
+ghost use Rattle.std.specs.Ordering.{on};
+ghost use Rattle.mpi_model.specs.Kinds.{all_kinds, row, has_nonblocking, has_root, is_function, kind_number, kind_of, function_name, short_name};
 
-use crate::kind::table::KINDS;
+use crate::kind::table::{KINDS, ROWS};
 use crate::object::Object;
 use std::marker::Model;
 
+mod laws;
 mod table;
+
+pub use laws::each_kind;
 
 /// From which members of its group a collective call brings data to which (MPI 4.0, 6.2.2).
 #[derive(Clone, Copy, Debug, PartialEq, Eq)]
@@ -23,7 +29,7 @@ pub enum Category {
 
 /// The kind of a collective call: MPI forbids a member of its group to leave one out, whatever it
 /// is for. Its blocking and its nonblocking call do the same (MPI 4.0, 6.12).
-#[derive(Clone, Copy, Debug, PartialEq, Eq)]
+#[derive(Clone, Copy, Debug)]
 pub enum Kind {
     // (MPI 4.0, chapter 6)
     Barrier,
@@ -129,7 +135,6 @@ pub enum ObjectParameter {
 /// What is to be known of a kind.
 #[derive(Clone, Copy, Debug)]
 pub struct KindRow {
-    pub kind: Kind,
     /// The name of its blocking function.
     pub function: &'static [u8],
     /// The name of its nonblocking function, where there is one.
@@ -148,17 +153,25 @@ pub struct KindRow {
     pub has_long_form: bool,
 }
 
-/// The kind in a row at this place.
-fn kind_at(rows: &[KindRow], place: usize) -> Option<Kind>
-    ensures { result ≡ option_map (λ r. r.kind) (slice_get rows.now place) }
-{
-    Some(rows.get(place)?.kind)
+impl PartialEq for Kind {
+    ghost eq = { on kind_number nat_eq };
+
+    ghost laws = { Prim.search (comparing, rules) };
+
+    fn eq(&self, other: &Kind) -> bool {
+        self.number() == other.number()
+    }
+}
+
+impl Eq for Kind {
+    ghost laws = { Prim.search (comparing, rules) };
 }
 
 impl Kind {
     /// The row of the kind in the table.
+    #[tactic(auto, unfolding(crate::specs::Kinds::row))]
     pub fn row(self) -> &'static KindRow
-        ensures row { record {
+        ensures { record {
           function = result.now.function.now;
           nonblocking = option_map (λ name. name.now) result.now.nonblocking;
           category = result.now.category;
@@ -168,12 +181,20 @@ impl Kind {
           parameter = result.now.parameter;
           has_long_form = result.now.has_long_form;
         } ≡ row self }
-        ensures kind { result.now.kind ≡ self }
     {
-        &KINDS[self as usize]
+        &ROWS[self as usize]
+    }
+
+    /// All kinds, in the order of their numbers.
+    #[tactic(auto, unfolding(crate::specs::Kinds::all_kinds))]
+    pub fn all() -> &'static [Kind]
+        ensures { result.now ≡ all_kinds }
+    {
+        &KINDS
     }
 
     /// The number of the kind, each its own: its code in a frame.
+    #[tactic(auto, unfolding(crate::specs::Kinds::kind_number))]
     pub fn number(self) -> u8
         ensures { result ≡ kind_number self }
     {
@@ -181,10 +202,18 @@ impl Kind {
     }
 
     /// The kind of a number, where it is one's.
+    #[tactic(auto, unfolding(crate::specs::Kinds::kind_of))]
     pub fn of_number(number: u8) -> Option<Kind>
         ensures { result ≡ kind_of number }
     {
-        kind_at(&KINDS, usize::from(number))
+        Some(*Kind::all().get(usize::from(number))?)
+    }
+
+    /// Whether the two kinds are one.
+    pub fn same(self, other: Kind) -> bool
+        ensures { IsTrue result ↔ (self ≡ other) }
+    {
+        self.number() == other.number()
     }
 
     /// Whether a call of this kind names a root.
@@ -278,6 +307,6 @@ impl CollectiveFunction {
     pub fn same(self, other: CollectiveFunction) -> bool
         ensures { IsTrue result ↔ (self ≡ other) }
     {
-        self.kind == other.kind && self.nonblocking == other.nonblocking
+        self.kind.same(other.kind) && self.nonblocking == other.nonblocking
     }
 }

@@ -41,7 +41,7 @@ pub use envelope::{
     CommRef, Envelope, Exchange, Mode, Peer, ProbeEnvelope, ReceiveEnvelope, SendEnvelope,
 };
 pub use event::{Event, Exit, OpName};
-pub use kind::{Category, CollectiveFunction, Kind, KindRow, ObjectParameter};
+pub use kind::{Category, CollectiveFunction, Kind, KindRow, ObjectParameter, each_kind};
 pub use layout::comm::{Comm, Stretch};
 pub use layout::fault::LayoutFault;
 pub use layout::{Layout, MOST_COMMS, MOST_RANKS, Sends};

@@ -86,12 +86,7 @@ pub(crate) fn comms_of(alloc: Global, given: Vec<(u32, Vec<u32>)>) -> Result<Vec
 {
     let mut comms = Vec::with_capacity(alloc, given.len())?;
     for (id, members) in given {
-        comms.push(Comm::new(
-            id,
-            Object::Communicator,
-            members,
-            Vec::new(alloc),
-        ))?;
+        comms.push(Comm::new(id, Object::Communicator, members, Vec::new(alloc)))?;
     }
     Ok(comms)
 }

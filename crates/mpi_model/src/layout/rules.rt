@@ -254,7 +254,7 @@ fn is_communicator(object: Option<Object>) -> bool
 
 /// Whether the members are there, and are the ranks of the run in order.
 fn are_whole(members: Option<&[u32]>, ranks: u32) -> bool
-    ensures { result ≡ is_some_whole ranks (option_map (λ m. m.now) members) }
+    ensures { result ≡ is_some_whole ranks (option_map (λ m. m.now) members.entry) }
 {
     match members {
         Some(members) => are_all_ranks(members, ranks),

@@ -11,10 +11,10 @@ returns-in-Communicator c =
 
 pub returns-in-Window : goal.returns-in-Window
 returns-in-Window c =
-    let alike = c.named-2.ensures ∙ found_alike Window c.self.inside.comms.items c.self.inside.windows.names.items c.self.invariant.2.names_are c.args.rank c.args.call c.args.number in
+    let alike = c.named-in-Window.ensures ∙ found_alike Window c.self.inside.comms.items c.self.inside.windows.names.items c.self.invariant.2.names_are c.args.rank c.args.call c.args.number in
     search rules
 
 pub returns-in-File : goal.returns-in-File
 returns-in-File c =
-    let alike = c.named-3.ensures ∙ found_alike File c.self.inside.comms.items c.self.inside.files.names.items c.self.invariant.3.names_are c.args.rank c.args.call c.args.number in
+    let alike = c.named-in-File.ensures ∙ found_alike File c.self.inside.comms.items c.self.inside.files.names.items c.self.invariant.3.names_are c.args.rank c.args.call c.args.number in
     search rules
