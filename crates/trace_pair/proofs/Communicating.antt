@@ -1,7 +1,8 @@
 -- The collective communications of a rank: they stand in order where its collective calls do, and grow as those do.
 use Rattle.std.proofs.Common.{◌≡◌, ℕ, zero, suc, ◌+◌, ◌<◌, ◌≤◌, Bool, true, false, List, [], ◌∷◌, ◌++◌, inl, inr, ⊎_elim, sym, refl, ◌∙◌, ap, subst, arith, length, filter, take, drop, cond, Some}
 use Rattle.std.specs.List.{AllZip}
-use Rattle.std.proofs.lemmas.List.{take-append-drop}
+use Rattle.std.proofs.Math.Seq.{drop-append_seam}
+use Rattle.std.proofs.lemmas.List.{take-append-drop, take_at}
 use Rattle.std.proofs.lemmas.List.Elements.{filter-append}
 use Rattle.mpi_model.specs.declared.message.Message.{Message}
 use Rattle.mpi_model.specs.declared.message.Receive.{Receive}
@@ -15,66 +16,57 @@ use Rattle.trace_pair.specs.Fronts.{AreOneBefore, IsAlike}
 -- what is left of a list was in it
 pub kept_in : (xs : List Entered) (x : Entered) → Has (communications xs) x → Has xs x
 kept_in [] x h = h
-kept_in (y ∷ ys) x h = by (is_communication y) h
+kept_in (y ∷ ys) x h = by (is_communication y) (λ i. kept_in ys x i) h
   where
-    by : (b : Bool) → Has (cond b (y ∷ communications ys) (communications ys)) x → Has (y ∷ ys) x
-    by true (inl e) = inl e
-    by true (inr i) = inr (kept_in ys x i)
-    by false i = inr (kept_in ys x i)
+    by : (b : Bool) → (Has (communications ys) x → Has ys x) → Has (cond b (y ∷ communications ys) (communications ys)) x → Has (y ∷ ys) x
+    by true rest (inl e) = inl e
+    by true rest (inr i) = inr (rest i)
+    by false rest i = inr (rest i)
 
 pub kept_rise : (xs : List Entered) → AreEntered xs → AreEntered (communications xs)
 kept_rise [] up = tt
-kept_rise (y ∷ ys) up = by (is_communication y)
+kept_rise (y ∷ ys) up = by (is_communication y) (kept_rise ys up.1)
   where
-    by : (b : Bool) → AreEntered (cond b (y ∷ communications ys) (communications ys))
-    by true = (λ z i. up.0 z (kept_in ys z i), kept_rise ys up.1)
-    by false = kept_rise ys up.1
-
-length_of : {X : Type 0} (xs ys : List X) → xs ≡ ys → length xs ≡ length ys
-length_of xs ys e = ap length e
-
-front_of : {X : Type 0} (xs ys : List X) → take (length xs) (xs ++ ys) ≡ xs
-front_of [] ys = refl
-front_of (x ∷ xs) ys = ap (λ l. x ∷ l) (front_of xs ys)
-
-rest_of : {X : Type 0} (xs ys : List X) → drop (length xs) (xs ++ ys) ≡ ys
-rest_of [] ys = refl
-rest_of (x ∷ xs) ys = rest_of xs ys
+    by : (b : Bool) → AreEntered (communications ys) → AreEntered (cond b (y ∷ communications ys) (communications ys))
+    by true rest = (λ z i. up.0 z (kept_in ys z i), rest)
+    by false rest = rest
 
 -- a list is its front, filtered, and the rest
 split : (k : ℕ) (xs : List Entered) → communications xs ≡ communications (take k xs) ++ communications (drop k xs)
 split k xs = ap communications (sym (take-append-drop k xs)) ∙ filter-append is_communication (take k xs) (drop k xs)
 
 front_kept : (k : ℕ) (xs : List Entered) → take (length (communications (take k xs))) (communications xs) ≡ communications (take k xs)
-front_kept k xs = ap (take (length (communications (take k xs)))) (split k xs) ∙ front_of (communications (take k xs)) (communications (drop k xs))
+front_kept k xs = ap (take (length (communications (take k xs)))) (split k xs) ∙ take_at (communications (take k xs)) (communications (drop k xs)) (length (communications (take k xs))) refl
 
 rest_kept : (k : ℕ) (xs : List Entered) → drop (length (communications (take k xs))) (communications xs) ≡ communications (drop k xs)
-rest_kept k xs = ap (drop (length (communications (take k xs)))) (split k xs) ∙ rest_of (communications (take k xs)) (communications (drop k xs))
+rest_kept k xs = ap (drop (length (communications (take k xs)))) (split k xs) ∙ drop-append_seam (communications (take k xs)) (communications (drop k xs))
 
 -- lists that are alike, filtered
 alike_kept : (xs ys : List Entered) → AllZip IsAlike xs ys → AllZip IsAlike (communications xs) (communications ys)
 alike_kept [] [] z = tt
 alike_kept [] (y ∷ ys) z = absurd z
 alike_kept (x ∷ xs) [] z = absurd z
-alike_kept (x ∷ xs) (y ∷ ys) z = by (is_communication x) (is_communication y) z.0.counted
+alike_kept (x ∷ xs) (y ∷ ys) z = by (is_communication x) (is_communication y) z.0.counted (alike_kept xs ys z.1)
   where
-    by : (a b : Bool) → a ≡ b → AllZip IsAlike (cond a (x ∷ communications xs) (communications xs)) (cond b (y ∷ communications ys) (communications ys))
-    by true true e = (z.0, alike_kept xs ys z.1)
-    by false false e = alike_kept xs ys z.1
-    by true false e = absurd (cc)
-    by false true e = absurd (cc)
+    by : (a b : Bool) → a ≡ b → AllZip IsAlike (communications xs) (communications ys) →
+        AllZip IsAlike (cond a (x ∷ communications xs) (communications xs)) (cond b (y ∷ communications ys) (communications ys))
+    by true true e rest = (z.0, rest)
+    by false false e rest = rest
+    by true false e rest = absurd (cc)
+    by false true e rest = absurd (cc)
 
 as_many : (xs ys : List Entered) → AllZip IsAlike xs ys → length (communications xs) ≡ length (communications ys)
 as_many [] [] z = refl
 as_many [] (y ∷ ys) z = absurd z
 as_many (x ∷ xs) [] z = absurd z
-as_many (x ∷ xs) (y ∷ ys) z = by (is_communication x) (is_communication y) z.0.counted
+as_many (x ∷ xs) (y ∷ ys) z = by (is_communication x) (is_communication y) z.0.counted (as_many xs ys z.1)
   where
-    by : (a b : Bool) → a ≡ b → length (cond a (x ∷ communications xs) (communications xs)) ≡ length (cond b (y ∷ communications ys) (communications ys))
-    by true true e = ap (λ n. suc n) (as_many xs ys z.1)
-    by false false e = as_many xs ys z.1
-    by true false e = absurd (cc)
-    by false true e = absurd (cc)
+    by : (a b : Bool) → a ≡ b → length (communications xs) ≡ length (communications ys) →
+        length (cond a (x ∷ communications xs) (communications xs)) ≡ length (cond b (y ∷ communications ys) (communications ys))
+    by true true e rest = ap (λ n. suc n) rest
+    by false false e rest = rest
+    by true false e rest = absurd (cc)
+    by false true e rest = absurd (cc)
 
 -- Where two lists of collective calls differ only behind a call, so do the communications among them.
 pub one_before_kept : (last : ℕ) (a b : List Entered) → AreOneBefore last a b → AreOneBefore last (communications a) (communications b)

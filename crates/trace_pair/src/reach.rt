@@ -214,6 +214,7 @@ fn in_order(alloc: Global, comms: &[u32]) -> Result<Vec<u32>, AllocError>
 
 impl RankReach {
     /// The part of the table that one rank's ops decide.
+    #[tactic(auto, using(crate::proofs::Communicating::kept_rise))]
     pub(crate) fn of(alloc: Global, own: &RankOps) -> Result<RankReach, AllocError>
         requires { AreEntered own.now.rounds }
         ensures { IfOk result (IsCommunicating own.now) }
