@@ -1,5 +1,5 @@
 -- What one list of names finds, another with the same names finds.
-use Rattle.std.proofs.Common.{◌≡◌, ℕ, ◌==◌, ◌&&◌, ◌||◌, ◌∙◌, Bool, true, false, List, [], ◌∷◌, refl, sym, ap, arith, Option, Some, None, option_map, All, cond}
+use Rattle.std.proofs.Common.{◌≡◌, ℕ, ◌==◌, ◌&&◌, ◌||◌, ◌∙◌, Bool, true, false, List, [], ◌∷◌, refl, sym, ap, subst, arith, Option, Some, None, option_map, All, cond}
 use Rattle.std.specs.Prelude.{find}
 use Rattle.std.proofs.lemmas.Grind.{common_steps}
 use Rattle.std.proofs.lemmas.Bool.Decides.{nat_tests}
@@ -14,6 +14,7 @@ use Rattle.mpi_model.specs.Communicators.{Communicator, has_pair}
 use Rattle.mpi_model.specs.Names.{AreNames, AreOrdered, always, clashes, has_calls, is_name, name_by, names_by_id, names_by_numbers, names_in, names_of, names_with, numbered}
 use Rattle.mpi_model.specs.declared.object.Object.{Object}
 use Rattle.mpi_model.specs.Names.{is_of}
+use Rattle.mpi_model.specs.Starts.{AreNumbered, AreStarts}
 use Rattle.mpi_model.proofs.Communicators.{or_false}
 use Rattle.mpi_model.proofs.Names.{both_clash, flips}
 use Rattle.mpi_model.proofs.Pairs.{has_pair-IsPermutation}
@@ -157,3 +158,11 @@ have_calls object gs names same = All-permutation (λ x. has_calls x.stretch ≡
 
 pub clash_still : (object : Object) (gs : List Communicator) (names : List Name) → IsPermutation (names_of object gs) names → has_pair clashes (names_of object gs) ≡ has_pair clashes names
 clash_still object gs names same = has_pair-IsPermutation clashes flips (names_of object gs) names same
+
+-- names that are kept, with where each rank's begin
+pub numbered_again : (object : Object) (gs : List Communicator) (names kept : List Name) (starts : List ℕ) → kept ≡ names → AreNames object gs names → AreStarts names starts
+    → AreNumbered object gs kept starts
+numbered_again object gs names kept starts same are begin = record {
+  names_are = subst (λ (n : List Name). AreNames object gs n) (sym same) are;
+  starts_are = subst (λ (n : List Name). AreStarts n starts) (sym same) begin;
+}
