@@ -5,7 +5,7 @@ use Rattle.std.specs.Option.{option_map}
 use Rattle.mpi_model.specs.Layouts.{Parts}
 use Rattle.mpi_model.specs.declared.call.Call.{Call}
 use Rattle.mpi_model.specs.declared.call.Call.TheVariants as calls
-use Rattle.mpi_model.specs.declared.call.Call.TheVariants.{Local, Finalize, Send, Isend, Recv, Irecv, Sendrecv, Waitall, Waitany, Waitsome, Test, Testall, Testany, Testsome, Cancel, Free, Collective, Icollective, Probe, SendInit, RecvInit, Start, Startall, Mprobe, Improbe, Imrecv, Unread}
+use Rattle.mpi_model.specs.declared.call.Call.TheVariants.{Local, Finalize, Send, Isend, Recv, Irecv, Sendrecv, Waitall, Waitany, Waitsome, Test, Testall, Testany, Testsome, Cancel, Free, Collective, Icollective, Probe, SendInit, RecvInit, Start, Startall, Mprobe, Improbe, Iprobe, Imrecv, Unread}
 use Rattle.trace_stuck.specs.Shape.{Wait, OnNothing, OnAll, waits_of}
 use Rattle.trace_ops.specs.Ops.{Ops}
 use Rattle.trace_ops.specs.Receive.{probed}
@@ -47,6 +47,7 @@ waits_for s r o n (Start x) = OnNothing
 waits_for s r o n (Startall xs) = OnNothing
 waits_for s r o n (Mprobe e) = receive_of_call s r o n
 waits_for s r o n (Improbe e) = OnNothing
+waits_for s r o n (Iprobe e) = OnNothing
 waits_for s r o n Imrecv = OnNothing
 waits_for s r o n Unread = OnNothing
 
@@ -63,6 +64,10 @@ abbrev pub conditions_from : Run → ℕ → List Ops → List (Option Wait)
 conditions_from s first [] = []
 conditions_from s first (o ∷ ops) = condition_of s first o ∷ conditions_from s (first + 1) ops
 
+-- a run: what the ranks did, with the pairs and the rounds
+abbrev pub run_of : Parts → List Ops → List Pair → List Round → Run
+run_of layout ops pairs rounds = record { layout = layout; ops = ops; pairs = pairs; rounds = rounds }
+
 -- the conditions of all ranks, by their operations, the pairs and the rounds
 abbrev pub conditions_of : Parts → List Ops → List Pair → List Round → List (Option Wait)
-conditions_of layout ops pairs rounds = conditions_from (record { layout = layout; ops = ops; pairs = pairs; rounds = rounds }) 0 ops
+conditions_of layout ops pairs rounds = conditions_from (run_of layout ops pairs rounds) 0 ops

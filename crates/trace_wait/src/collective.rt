@@ -192,7 +192,7 @@ fn by_category(
 ) -> Result<Condition, AllocError>
     ensures { IfOk result (λ c. shape c ≡ by_category run.now r entered.now k) }
 {
-    match entered.function.kind.row().category {
+    match entered.function.kind().row().category {
         Category::AllToAll => absent(alloc, run, entered.comm, k),
         Category::OneToAll => from_root(alloc, run, r, entered, k),
         Category::AllToOne => to_root(alloc, run, r, entered, k),
@@ -206,7 +206,7 @@ fn may_be_owed_nothing(sends: Sends, kind: Kind) -> bool
 {
     match sends {
         Sends::Wait => false,
-        Sends::Buffer => kind.row().has_counts,
+        Sends::Buffer => kind.row().may_be_owed_nothing,
     }
 }
 
@@ -220,14 +220,14 @@ fn by_kind(
 ) -> Result<Condition, AllocError>
     ensures { IfOk result (λ c. shape c ≡ by_kind run.now r entered.now k) }
 {
-    if may_be_owed_nothing(run.layout.sends(), entered.function.kind) {
+    if may_be_owed_nothing(run.layout.sends(), entered.function.kind()) {
         Ok(Condition::yes())
     } else {
         by_category(alloc, run, r, entered, k)
     }
 }
 
-/// What a call waits for by its round: nothing where that is mismatched.
+/// What a call waits for by its round.
 fn round_part(
     alloc: Global,
     run: &Overview,
@@ -238,7 +238,7 @@ fn round_part(
     ensures { IfOk result (λ c. shape c ≡ round_part run.now r entered.now k) }
 {
     if run.is_mismatched(entered.comm, k) {
-        Ok(Condition::yes())
+        Ok(run.mismatched_part(entered.comm, k))
     } else {
         by_kind(alloc, run, r, entered, k)
     }
