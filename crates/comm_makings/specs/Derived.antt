@@ -4,7 +4,9 @@ use Rattle.std.specs.List.{slice_get}
 use Rattle.mpi_model.specs.Communicators.{Communicator}
 use Rattle.comm_makings.specs.Derives.{Derives, communicator, ranks_in}
 use Rattle.comm_makings.specs.Views.{AreViews}
+use Rattle.comm_makings.specs.World.{world_of}
 use Rattle.comm_makings.specs.Written.{IsNamedIn, IsWorld}
+use Rattle.comm_makings.specs.declared.answer.Derived.{Derived}
 use Rattle.comm_makings.specs.declared.calls.RankCalls.{RankCalls}
 use Rattle.comm_makings.specs.declared.state.Member.{Member}
 use Rattle.comm_makings.specs.declared.uses.HandleUses.{HandleUses}
@@ -40,3 +42,8 @@ pub record IsSound (world : ℕ) (ranks : List RankCalls) (comms : List Communic
   pub uses : List HandleUses
   pub read : AreViews world ranks views
   pub derived : AreDerivedIn world ranks views uses comms
+
+-- What derives from what the ranks called: the number of the world, and the communicators.
+pub record IsDerivedFrom (ranks : List RankCalls) (derived : Derived) : Type 0 where
+  pub world : derived.world ≡ world_of ranks
+  pub sound : IsSound (world_of ranks) ranks derived.comms.items

@@ -1,7 +1,7 @@
 //! From what the ranks called to their communicators.
 
 ghost use Rattle.std.specs.Prelude.{◌≡◌, ◌≢◌, ◌<◌, ◌^◌, IfErr, IfOk, None, OnOk, Some, length};
-ghost use Rattle.comm_makings.specs.Derived.{IsSound};
+ghost use Rattle.comm_makings.specs.Derived.{IsDerivedFrom, IsSound};
 ghost use Rattle.comm_makings.specs.Views.{AreViews};
 ghost use Rattle.comm_makings.specs.World.{first_told, other_told, world_fault, world_of};
 ghost use Rattle.comm_makings.specs.Written.{IsWritten};
@@ -123,7 +123,7 @@ pub fn derive(alloc: Global, ranks: &[RankCalls]) -> Result<Derived, DeriveFault
     ensures world { IfOk result (λ d. d.world ≡ world_of ranks.now) }
     ensures none { OnOk result (world_fault ranks.now ≡ None) }
     ensures fault { IfErr result (λ e. e ≢ Memory → world_fault ranks.now ≡ Some e) }
-    ensures sound { IfOk result (λ d. IsSound (world_of ranks.now) ranks.now d.comms.items) }
+    ensures derived { IfOk result (IsDerivedFrom ranks.now) }
 {
     let world = world_of(ranks)?;
     let views = views_of(alloc, world, ranks)?;
