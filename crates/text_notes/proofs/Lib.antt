@@ -6,3 +6,4 @@ pub mod NotedMore
 pub mod Walking
 pub mod Said
 pub mod Values
+pub mod Looked
