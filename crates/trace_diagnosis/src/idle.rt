@@ -1,0 +1,172 @@
+//! Persistent requests that aren't active: never started, or not again, or freed. Each is looked up as the message or the
+//! receive that a start of it would make.
+
+use crate::calls::{call_named, named};
+use crate::inits::Inits;
+use crate::patterns::{Pattern, pattern_of, patterns_of};
+use crate::shelf::MOST_NEAR;
+use mpi_model::{Call, CommRef, Envelope, Layout, Message, Mode, OpName, Peer, Receive, Trust};
+use std::alloc::{AllocError, Global};
+use std::collections::BTreeMap;
+use trace_know::Knowledge;
+use trace_ops::{RankOps, is_foreign};
+
+/// The inits that aren't active, as the messages and receives that they describe, by name.
+#[derive(Debug, Drop)]
+pub(crate) struct Idle {
+    pub messages: Vec<Message>,
+    pub receives: Vec<Receive>,
+}
+
+/// The inits of a rank whose requests are active, by number.
+fn active_inits(
+    alloc: Global,
+    know: &Knowledge,
+    inits: &Inits,
+    own: &RankOps,
+) -> Result<Vec<u64>, AllocError> {
+    let mut found = Vec::new(alloc);
+    for post in own.active() {
+        if let Some(init) = inits.started(know, post.1) {
+            found.push(init)?;
+        }
+    }
+    found.sort()?;
+    Ok(found)
+}
+
+/// The members of the communicator that a call of a rank names, with its id.
+fn group_of<'a>(
+    layout: &'a Layout,
+    rank: u32,
+    number: u64,
+    comm: CommRef,
+) -> Option<(u32, &'a [u32])> {
+    let comm = layout.named(rank, number, comm)?;
+    Some((comm, layout.members(comm)?))
+}
+
+/// The message that an init describes.
+fn message_of(
+    layout: &Layout,
+    name: OpName,
+    mode: Mode,
+    e: Envelope,
+) -> Option<Message> {
+    let (comm, members) = group_of(layout, name.rank, name.call, e.comm)?;
+    match e.peer {
+        Peer::Rank(place) => {
+            let to = *members.get(place as usize)?;
+            Some(Message {
+                name,
+                comm,
+                from: name.rank,
+                to,
+                tag: e.tag.unwrap_or(0),
+                mode,
+                trust: Trust::Sure,
+                count: e.count,
+                datatype: e.datatype,
+            })
+        }
+        Peer::Any | Peer::Null => None,
+    }
+}
+
+/// The source that an init names, where it isn't the null process.
+fn source_of(members: &[u32], peer: Peer) -> Option<Option<u32>> {
+    match peer {
+        Peer::Null => None,
+        Peer::Any => Some(None),
+        Peer::Rank(place) => Some(Some(*members.get(place as usize)?)),
+    }
+}
+
+/// The receive that an init describes.
+fn receive_of(layout: &Layout, name: OpName, e: Envelope) -> Option<Receive> {
+    let (comm, members) = group_of(layout, name.rank, name.call, e.comm)?;
+    let source = source_of(members, e.peer)?;
+    Some(Receive {
+        name,
+        comm,
+        at: name.rank,
+        source,
+        tag: e.tag,
+        count: e.count,
+        trust: Trust::Sure,
+        datatype: e.datatype,
+        ended: None,
+    })
+}
+
+impl Idle {
+    /// Of all ranks.
+    pub fn of(
+        alloc: Global,
+        layout: &Layout,
+        know: &Knowledge,
+        inits: &Inits,
+        ops: &[RankOps],
+    ) -> Result<Idle, AllocError> {
+        let mut idle = Idle {
+            messages: Vec::new(alloc),
+            receives: Vec::new(alloc),
+        };
+        for (r, own) in ops.iter().enumerate() {
+            let rank = r as u32;
+            if !inits.of_rank(rank).is_empty() {
+                let active = active_inits(alloc, know, inits, own)?;
+                idle.add_rank(alloc, layout, know, inits, rank, &active)?;
+            }
+        }
+        Ok(idle)
+    }
+
+    /// And those of a rank.
+    fn add_rank(
+        &mut self,
+        alloc: Global,
+        layout: &Layout,
+        know: &Knowledge,
+        inits: &Inits,
+        rank: u32,
+        active: &[u64],
+    ) -> Result<(), AllocError> {
+        let mut calls = Vec::new(alloc);
+        for made in inits.of_rank(rank) {
+            calls.push(made.call)?;
+        }
+        calls.sort()?;
+        for call in &calls {
+            if active.binary_search(call).is_err() {
+                self.add(layout, know, named(rank, *call))?;
+            }
+        }
+        Ok(())
+    }
+
+    /// And that of an init.
+    fn add(&mut self, layout: &Layout, know: &Knowledge, name: OpName) -> Result<(), AllocError> {
+        let Some(call) = call_named(know, name) else {
+            return Ok(());
+        };
+        if is_foreign(layout, name.rank, name.call, call) {
+            return Ok(());
+        }
+        match call {
+            Call::SendInit(mode, e) => {
+                if let Some(m) = message_of(layout, name, *mode, e.envelope()) {
+                    self.messages.push(m)?;
+                }
+            }
+            Call::RecvInit(e) => {
+                if let Some(q) = receive_of(layout, name, e.envelope()) {
+                    self.receives.push(q)?;
+                }
+            }
+            _ => {}
+        }
+        Ok(())
+    }
+}
+
