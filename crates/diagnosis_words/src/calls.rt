@@ -61,6 +61,27 @@ impl<'a> Writer<'a> {
         self.put_details(rank, number, call);
     }
 
+    /// How many elements a call moves, where it says that.
+    pub fn put_size(&mut self, call: &Call) {
+        match call {
+            Call::Send(_, envelope) | Call::Isend(_, envelope) | Call::SendInit(_, envelope) => {
+                self.put(b", ");
+                self.put_counted(envelope.envelope().count as usize, b" element", b" elements");
+            }
+            Call::Recv(envelope) | Call::Irecv(envelope) | Call::RecvInit(envelope) => {
+                self.put(b", at most ");
+                self.put_counted(envelope.envelope().count as usize, b" element", b" elements");
+            }
+            Call::Sendrecv(exchange) => {
+                self.put(b", ");
+                self.put_counted(exchange.send().count as usize, b" element", b" elements");
+                self.put(b" and at most ");
+                self.put_number(exchange.receive().count as u64);
+            }
+            _ => {}
+        }
+    }
+
     /// An operation that is known, by the call that started it: `call 36: MPI_Irecv from rank 32, tag 3`.
     fn put_known(&mut self, operation: &Operation) {
         let name = operation.name;

@@ -32,7 +32,8 @@ pub fn diagnosis_json(
     json.put_rounds();
     json.put_unmatched();
     json.put_rest();
-    json.out.into_bytes()
+    let Json { out, .. } = json;
+    out.into_bytes()
 }
 
 /// What stands before a value, by its place in its list.

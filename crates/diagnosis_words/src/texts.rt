@@ -1,7 +1,8 @@
 //! What the texts of a run tell of its calls and of themselves.
 
+use crate::doubtful::is_doubtful;
 use std::alloc::{AllocError, Global};
-use text_notes::{CallSite, TextNote, note_of};
+use text_notes::{CallSite, Look, TextNote, note_of};
 
 /// What the texts of a run tell of its calls and of themselves. It is empty where there is no text.
 #[derive(Debug, Drop)]
@@ -73,8 +74,41 @@ impl TextFacts {
         }
     }
 
+    /// Adds what a second look at a text has found: the text's place among the notes is given, and each call has the number
+    /// among the calls of its rank that the note's piece gives it.
+    pub fn add(&mut self, alloc: Global, note: usize, look: Look) -> Result<(), AllocError> {
+        let (rank, first) = match self.notes.as_slice().get(note) {
+            Some(noted) => (noted.rank(), noted.first()),
+            None => return Ok(()),
+        };
+        for local in look.local() {
+            if is_doubtful(local.name()) {
+                self.count(alloc, local.name(), local.count())?;
+            }
+        }
+        self.size = self.size.max(look.size());
+        for site in look.into_sites() {
+            let call = first.saturating_add(site.number());
+            self.sites.push(PlacedSite {
+                rank,
+                call,
+                note,
+                site,
+            })?;
+        }
+        Ok(())
+    }
+
+    /// Puts what was added in order.
+    pub fn finish(&mut self) -> Result<(), AllocError> {
+        self.sites
+            .sort_by_key(|site| (site.rank, site.call, site.note))?;
+        self.local.sort_by(|one, other| one.function.cmp(&other.function))?;
+        Ok(())
+    }
+
     /// Adds calls of a function.
-    pub fn count(&mut self, alloc: Global, function: &[u8], calls: u64) -> Result<(), AllocError> {
+    fn count(&mut self, alloc: Global, function: &[u8], calls: u64) -> Result<(), AllocError> {
         for known in self.local.iter_mut() {
             if known.function.as_slice() == function {
                 known.calls = known.calls.saturating_add(calls);

@@ -52,7 +52,8 @@ pub fn diagnosis_words(
     writer.put_round_lists(cap);
     writer.put_message_lists(&lists, cap);
     writer.put_end();
-    clipped(alloc, &writer.out.into_bytes()?, all)
+    let Writer { out, .. } = writer;
+    clipped(alloc, &out.into_bytes()?, all)
 }
 
 /// What is told in lists, in the order in which it is told.
@@ -166,13 +167,13 @@ fn cap_of(lists: &Lists, all: bool) -> usize {
 }
 
 /// The front of a list.
-fn front<T>(list: &[T], cap: usize) -> &[T] {
+pub(crate) fn front<T>(list: &[T], cap: usize) -> &[T] {
     list.get(..cap).unwrap_or(list)
 }
 
 impl<'a> Writer<'a> {
     /// How many more there are than are told.
-    fn put_more(&mut self, length: usize, cap: usize) {
+    pub(crate) fn put_more(&mut self, length: usize, cap: usize) {
         if length > cap {
             self.put(b"  and ");
             self.put_number(length.saturating_sub(cap) as u64);
@@ -314,7 +315,7 @@ fn cut_of(line: &[u8]) -> usize {
 }
 
 /// The words, each line cut that is too long.
-fn clipped(alloc: Global, words: &[u8], all: bool) -> Result<Vec<u8>, AllocError> {
+pub(crate) fn clipped(alloc: Global, words: &[u8], all: bool) -> Result<Vec<u8>, AllocError> {
     let mut text = Vec::new(alloc);
     for (i, line) in words.split(|byte| *byte == b'\n').enumerate() {
         if i > 0 {

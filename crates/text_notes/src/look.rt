@@ -40,6 +40,14 @@ impl Look {
         self.sites.as_slice()
     }
 
+    /// The same, taken out.
+    pub fn into_sites(self) -> Vec<CallSite>
+        ensures { result.items ≡ self.sites }
+    {
+        let Look { sites, .. } = self;
+        sites
+    }
+
     /// The functions of local calls, in the order of their first such calls.
     pub fn local(&self) -> &[UnreadFunction]
         ensures { result.now ≡ self.now.local }

@@ -55,7 +55,7 @@ impl<'a> Looking<'a> {
 
     /// What the calls tell.
     pub fn into_look(self) -> Look
-        ensures { result ≡ self.told }
+        ensures { result ≡ self.entry.told }
     {
         let Looking {
             sites, local, size, ..

@@ -183,7 +183,7 @@ impl<'a> Writer<'a> {
     }
 
     /// What one rank does, and which of its requests are open.
-    fn put_stands(&mut self, rank: u32) {
+    pub fn put_stands(&mut self, rank: u32) {
         if let Some(standing) = self.source.standing(rank) {
             self.put_doing(standing);
         }

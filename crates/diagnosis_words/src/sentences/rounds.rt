@@ -47,4 +47,13 @@ impl<'a> Writer<'a> {
         }
         self.put_doing(standing);
     }
+
+    /// What is said in a node of a picture of a round whose calls don't match: a line for each group.
+    pub fn put_round_node(&mut self, round: &MismatchedRound) {
+        self.put_round(round.round);
+        for group in round.groups.iter() {
+            self.put(b"\n");
+            self.put_call_group(group);
+        }
+    }
 }

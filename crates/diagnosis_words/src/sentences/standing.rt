@@ -31,6 +31,7 @@ impl<'a> Writer<'a> {
     /// The last call of a rank, whole, with where and since when the rank stands there.
     pub fn put_last(&mut self, rank: u32, last: &LastCall) {
         self.put_whole(rank, last.number, &last.call);
+        self.put_size(&last.call);
         self.put_in_round(last);
         self.put(b" (");
         self.put_call(rank, last.number);
@@ -143,5 +144,29 @@ impl<'a> Writer<'a> {
         });
         self.put_last(rank, last);
         self.put_beyond(standing.beyond);
+    }
+
+    /// What is said in a node of a picture behind its ranks: of one rank its whole call.
+    pub fn put_node(&mut self, standing: &Standing, count: usize) {
+        let Some(last) = &standing.call else {
+            self.put(b"\nno call can be read");
+            return;
+        };
+        self.put(match standing.stand {
+            Stand::Ended => b"\nended, ".as_slice(),
+            Stand::In | Stand::Nowhere => b"\nin ".as_slice(),
+            Stand::Behind => b"\nbehind ".as_slice(),
+        });
+        if count == 1 {
+            self.put_whole(standing.rank, last.number, &last.call);
+            self.put_in_round(last);
+        } else {
+            self.put_common(standing.rank, last);
+        }
+        self.put(b"\n");
+        self.put_call(standing.rank, last.number);
+        if self.source.polling(standing.rank).is_some() {
+            self.put_either(count, b"\nit polls", b"\nthey poll");
+        }
     }
 }
