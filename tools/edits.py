@@ -2,7 +2,7 @@
 
 An edit is a file NAME.edit with a line `file: src/x.rt` and then pairs of lines `old: TEXT` and `new: TEXT`, each TEXT one
 line and each `old` standing once. It turns the meaning of a function, and the prover must refuse that function. The edits of
-a crate stand in edits/CRATE/, those that every gate tries in crates/CRATE/must-fail/.
+a crate stand in edits/CRATE/. Those that every `rt ci` tries stand in crates/CRATE/must-fail/ too: rt takes no links.
 """
 import pathlib
 import re
@@ -168,12 +168,21 @@ def below(name, uses):
 
 
 def edit_files(name):
-    """The files of a crate's edits."""
-    folders = [TOP / "edits" / name, TOP / "crates" / name / "must-fail"]
-    return [it for folder in folders for it in sorted(folder.glob("*.edit"))]
+    """The files of a crate's edits, those last that `rt ci` tries too."""
+    of_ci = {it.name for it in (TOP / "crates" / name / "must-fail").glob("*.edit")}
+    return sorted((TOP / "edits" / name).glob("*.edit"), key=lambda it: (it.name in of_ci, it))
 
 
 def sources_of(name):
     """The text of each source file of a crate, by its path in the crate."""
     home = TOP / "crates" / name
     return {str(it.relative_to(home)): it.read_text() for it in sorted(home.glob("src/**/*.rt"))}
+
+
+def standing(names):
+    """Of each edit of these crates its crate, its name, and why it can't be put into the sources as they are; empty where it can."""
+    for name in names:
+        texts = sources_of(name)
+        for path in edit_files(name):
+            edit = read_edit(path, texts)
+            yield name, edit.name, edit.fault

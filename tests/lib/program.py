@@ -5,6 +5,7 @@ import json
 import os
 import pathlib
 import pickle
+import struct
 import subprocess
 import sys
 import tempfile
@@ -15,6 +16,8 @@ TESTS = LIB.parent
 CASES, ROWS, TOP = TESTS / "cases", TESTS / "rows", TESTS.parent
 SECONDS = 300
 NOBODY = 65534
+# the kind of the part of an ELF file that names its loader
+LOADER = 3
 # a segment has at most 65,536 events, two for each call
 CALLS_OF_A_SEGMENT = 32_768
 # bytes of a frame that may follow its length field, and those of the count of runs
@@ -31,7 +34,7 @@ class Checks:
     """Counts checks, shows each that fails, and ends a script with the line `N passed, M failed`."""
 
     def __init__(self, show=print):
-        self.passed = self.failed = 0
+        self.passed = self.failed = self.left_out = 0
         self.show = show
 
     def told(self, name, ok, why=""):
@@ -39,10 +42,15 @@ class Checks:
         if not ok:
             self.show(f"FAILED: {name}: {why[:2000]}")
 
+    def leave_out(self, why):
+        """Says what can't be checked on this machine."""
+        self.left_out += 1
+        self.show(f"note: {why}")
+
     def end(self):
-        """Prints the counts, and gives the status of the script: it fails where a check failed or none ran."""
+        """Prints the counts, and gives the status of the script: it fails where a check failed, or none ran or was left out."""
         print(f"{self.passed} passed, {self.failed} failed")
-        return 0 if self.passed and not self.failed else 1
+        return 0 if (self.passed or self.left_out) and not self.failed else 1
 
 
 def do_one(work, item, room):
@@ -122,16 +130,24 @@ def program_of(words):
     """The program that is the first of these words (without one that of these sources), and the other words; None where it
     isn't there."""
     program = pathlib.Path(words[0]).resolve() if words else found_program()
-    if not os.access(program, os.X_OK):
+    if not program.is_file() or not os.access(program, os.X_OK):
         print(f"{program} is not built: run ./mpimatch --version, which proves and builds it")
         program = None
     return program, words[1:]
 
 
-def script(name):
-    """A script of tests/run, as a module."""
-    loader = importlib.machinery.SourceFileLoader(name, str(TESTS / "run" / name))
+def is_alone(program):
+    """Whether a program (ELF) names no loader: it runs without a library of the machine."""
+    file = program.read_bytes()
+    table, size, count = struct.unpack_from("<Q", file, 0x20)[0], *struct.unpack_from("<HH", file, 0x36)
+    return LOADER not in [struct.unpack_from("<I", file, table + at * size)[0] for at in range(count)]
+
+
+def script(name, folder=TESTS / "run"):
+    """A script of tests/run, or of another folder, as a module."""
+    loader = importlib.machinery.SourceFileLoader(name, str(folder / name))
     module = importlib.util.module_from_spec(importlib.util.spec_from_loader(name, loader))
+    sys.modules[name] = module
     loader.exec_module(module)
     return module
 

@@ -7,10 +7,9 @@ import re
 import shutil
 import struct
 import subprocess
-import sys
 from collections import Counter, namedtuple
 
-from program import CASES, LIB, TOP
+from program import CASES, LIB, TOP, is_alone
 
 SECONDS, STACK = 120, 4096
 HEAD = struct.Struct("5Q256sQ")
@@ -22,8 +21,24 @@ Ran = namedtuple("Ran", "status out err met before refused file moved stack base
 Case = namedtuple("Case", "name words room")
 
 
+def refusable(checks, program, room):
+    """The program and tests/lib/refuse.c as a library that is laid before it; neither where this machine can't do that. A
+    program without a loader takes no library: then the one beside it does, which is the same but for its C library."""
+    if is_alone(program):
+        program = program.with_name(f"{program.name}-dynamic")
+    try:
+        subprocess.run([program, "--version"], capture_output=True, check=True)
+    except (OSError, subprocess.CalledProcessError) as error:
+        checks.leave_out(f"{program} doesn't start here, so nothing was refused: {error}")
+        return None, None
+    library = compiled(room)
+    if not library:
+        checks.leave_out("no C compiler is here that makes tests/lib/refuse.c (cc, gcc or clang), so nothing was refused")
+    return library and program, library
+
+
 def compiled(room):
-    """tests/lib/refuse.c as a library, by a C compiler of the machine or by the kit's."""
+    """tests/lib/refuse.c as a library, by a C compiler of the machine or by the kit's; None without one."""
     library = room / "refuse.so"
     kit = []
     if shutil.which("rt"):
@@ -33,14 +48,14 @@ def compiled(room):
         words = [compiler, "-O1", "-fno-omit-frame-pointer", "-fno-builtin", "-shared", "-fPIC", "-nostdlib", "-o", library, LIB / "refuse.c"]
         if subprocess.run(words, capture_output=True, check=False).returncode == 0:
             return library
-    sys.exit("no C compiler is here that makes tests/lib/refuse.c")
+    return None
 
 
 class Refuser:
-    """Runs the program, with one request refused, in the folder of a case."""
+    """Runs the program, with one request refused by a compiled library, in the folder of a case; what it notes lies in a room."""
 
-    def __init__(self, program, room):
-        self.program, self.library, self.room, self.runs = program, compiled(room), room, 0
+    def __init__(self, program, library, room):
+        self.program, self.library, self.room, self.runs = program, library, room, 0
         with open(room / "seen", "wb+") as file:
             file.truncate(HEAD.size + 8 * STACK)
             self.seen = mmap.mmap(file.fileno(), 0)
@@ -88,12 +103,12 @@ class Sweep:
     def __init__(self, checks, refuser):
         self.checks, self.refuser, self.refused = checks, refuser, Counter()
 
-    def over(self, case, kind, how, wanted, numbers=None, note=None):
+    def over(self, case, kind, how, wanted, numbers=None, note=None, share=(0, 1)):
         """Refuses the requests of these numbers (None: each) until a run meets none, and looks how each run ends. `wanted` tells
         by the case, the run without a refusal and the one with it, how that may end, with words below a fault's line or
-        without; `note` gets the latter."""
+        without; `note` gets the latter. Of a share (K, N) every Nth of the numbers is refused, from the Kth on."""
         whole, wrong = self.refuser.run(case, kind), []
-        for at in numbers(whole) if numbers else itertools.count(1):
+        for at in itertools.islice(numbers(whole) if numbers else itertools.count(1), share[0], None, share[1]):
             ran = self.refuser.run(case, kind, at, how)
             if not ran.refused:
                 break
@@ -104,7 +119,8 @@ class Sweep:
                 wrong.append(f"{kind} {at} {ran.file} {ran.moved}: came {ended(ran)}, wanted {wanted(case, whole, ran)}")
         if not ran.refused and ended(ran) != ended(whole):
             wrong.append(f"none of {kind}: came {ended(ran)}, wanted {ended(whole)}")
-        self.checks.told(f"{case.name}: {kind} {how}", not wrong, f"{len(wrong)} of them: {wrong[:1]}")
+        of = f", {share[0] + 1} of {share[1]}" if share[1] > 1 else ""
+        self.checks.told(f"{case.name}: {kind} {how}{of}", not wrong, f"{len(wrong)} of them: {wrong[:1]}")
 
 
 def folders(room):
