@@ -47,14 +47,15 @@ fn has(ranks: &[u32], rank: u32) -> bool {
     ranks.binary_search(&rank).is_ok()
 }
 
-/// The ranks of a held rank's needs.
-fn needed_ranks(alloc: Global, held: &Held) -> Result<Vec<u32>, AllocError> {
+/// The ranks of a held rank's needs, in rising order.
+pub(crate) fn needed_ranks(alloc: Global, held: &Held) -> Result<Vec<u32>, AllocError> {
     let mut ranks = Vec::new(alloc);
     for need in held.needs.iter() {
         if let Need::Rank(rank) = need {
             ranks.push(*rank)?;
         }
     }
+    ranks.sort()?;
     Ok(ranks)
 }
 

@@ -1,6 +1,7 @@
 //! A diagnosis as a picture, in the language of Graphviz.
 
 use crate::groups::key_of;
+use crate::one_rank::needed_ranks;
 use crate::source::Source;
 use crate::texts::TextFacts;
 use crate::writer::Writer;
@@ -304,10 +305,17 @@ impl<'a> Picture<'a> {
     }
 
     /// An edge to a rank that is needed.
-    fn put_edge_to(&mut self, held: &Held, from: Name, rank: u32, is_dashed: bool) {
-        let is_needed = held.needs.iter().any(|need| *need == Need::Rank(rank));
+    fn put_edge_to(&mut self, needed: &[u32], from: Name, rank: u32, is_dashed: bool) {
+        let is_needed = needed.binary_search(&rank).is_ok();
         if let (true, Some(at)) = (is_needed, self.nodes.of_ranks.get(&rank).copied()) {
             self.put_edge(from, Name::Ranks(at), is_dashed);
+        }
+    }
+
+    /// Edges to those of some ranks that are needed.
+    fn put_edges_to(&mut self, needed: &[u32], ranks: &[u32], from: Name, is_dashed: bool) {
+        for rank in ranks {
+            self.put_edge_to(needed, from, *rank, is_dashed);
         }
     }
 
@@ -324,47 +332,51 @@ impl<'a> Picture<'a> {
 
     /// What a rank needs of a condition, drawn from a node.
     #[cycle(parts)]
-    fn put_condition(&mut self, held: &Held, condition: &Condition, from: Name, is_dashed: bool) {
+    fn put_condition(
+        &mut self,
+        needed: &[u32],
+        condition: &Condition,
+        from: Name,
+        is_dashed: bool,
+    ) {
         match condition {
             Condition::Yes => {}
-            Condition::Rank(rank) => self.put_edge_to(held, from, *rank, is_dashed),
+            Condition::Rank(rank) => self.put_edge_to(needed, from, *rank, is_dashed),
             Condition::Mismatched(round) => self.put_edge(from, Name::Round(*round), is_dashed),
-            Condition::All(parts) => self.put_parts(held, parts.as_slice(), from, is_dashed),
+            Condition::All(parts) => self.put_parts(needed, parts.as_slice(), from, is_dashed),
             Condition::AllRanks(ranks) => {
-                for rank in ranks.iter() {
-                    self.put_edge_to(held, from, *rank, is_dashed);
-                }
+                self.put_edges_to(needed, ranks.as_slice(), from, is_dashed);
             }
             Condition::One(parts) => {
                 let point = self.put_point(from);
-                self.put_parts(held, parts.as_slice(), point, true);
+                self.put_parts(needed, parts.as_slice(), point, true);
             }
             Condition::OneRank(ranks) => {
                 let point = self.put_point(from);
-                for rank in ranks.iter() {
-                    self.put_edge_to(held, point, *rank, true);
-                }
+                self.put_edges_to(needed, ranks.as_slice(), point, true);
             }
         }
     }
 
     /// What a rank needs of the parts of a condition.
     #[cycle(parts)]
-    fn put_parts(&mut self, held: &Held, parts: &[Condition], from: Name, is_dashed: bool) {
+    fn put_parts(&mut self, needed: &[u32], parts: &[Condition], from: Name, is_dashed: bool) {
         for part in parts {
-            self.put_condition(held, part, from, is_dashed);
+            self.put_condition(needed, part, from, is_dashed);
         }
     }
 
     /// The edges of a node of ranks, by the first of them that is held.
-    fn put_edges(&mut self, at: usize) {
+    fn put_edges(&mut self, at: usize) -> Result<(), AllocError> {
         let Some(node) = self.nodes.nodes.as_slice().get(at) else {
-            return;
+            return Ok(());
         };
         let rank = node.ranks.as_slice().first().copied().unwrap_or(0);
         if let Some(held) = self.source.held(rank) {
-            self.put_condition(held, &held.waits, Name::Ranks(at), false);
+            let needed = needed_ranks(self.source.alloc, held)?;
+            self.put_condition(needed.as_slice(), &held.waits, Name::Ranks(at), false);
         }
+        Ok(())
     }
 
     /// The whole picture.
@@ -375,7 +387,7 @@ impl<'a> Picture<'a> {
             self.put_ranks_node(at)?;
         }
         for at in 0..self.nodes.nodes.len() {
-            self.put_edges(at);
+            self.put_edges(at)?;
         }
         self.out.put(b"}\n");
         Ok(())

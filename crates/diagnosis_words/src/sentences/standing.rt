@@ -19,12 +19,12 @@ impl<'a> Writer<'a> {
         }
     }
 
-    /// The round that a call entered: ` (round 5)`.
-    fn put_in_round(&mut self, last: &LastCall) {
+    /// The round that a call entered, in front of its number: `round 5, `.
+    fn put_round_of(&mut self, last: &LastCall) {
         if let Some(round) = last.round {
-            self.put(b" (round ");
+            self.put(b"round ");
             self.put_number(round.k);
-            self.put(b")");
+            self.put(b", ");
         }
     }
 
@@ -32,8 +32,8 @@ impl<'a> Writer<'a> {
     pub fn put_last(&mut self, rank: u32, last: &LastCall) {
         self.put_whole(rank, last.number, &last.call);
         self.put_size(&last.call);
-        self.put_in_round(last);
         self.put(b" (");
+        self.put_round_of(last);
         self.put_call(rank, last.number);
         self.put(b", ");
         self.put_moment(last.wall);
@@ -46,7 +46,6 @@ impl<'a> Writer<'a> {
         if let Some(round) = last.round {
             self.put(b" on ");
             self.put_object(round.object);
-            self.put_in_round(last);
         }
     }
 
@@ -68,6 +67,7 @@ impl<'a> Writer<'a> {
     pub fn put_together(&mut self, rank: u32, last: &LastCall, group: &Group) {
         self.put_common(rank, last);
         self.put(b" (");
+        self.put_round_of(last);
         self.put_calls(rank, last, group);
         self.put(b", from ");
         self.put_time(group.wall);
@@ -159,11 +159,11 @@ impl<'a> Writer<'a> {
         });
         if count == 1 {
             self.put_whole(standing.rank, last.number, &last.call);
-            self.put_in_round(last);
         } else {
             self.put_common(standing.rank, last);
         }
         self.put(b"\n");
+        self.put_round_of(last);
         self.put_call(standing.rank, last.number);
         if self.source.polling(standing.rank).is_some() {
             self.put_either(count, b"\nit polls", b"\nthey poll");
