@@ -1,0 +1,3 @@
+mod Shapes
+mod Holding
+mod Needing

@@ -1,24 +1,29 @@
 //! From what is known of a run to its diagnosis.
 
-use crate::conditions::{Poller, conditions_of, held_of, pollers_of};
-use crate::diagnosis::{Diagnosis, Held, Need, Polled, Polling, Root, Rounds, Standing, Unmatched, Waiting};
+ghost use Rattle.std.specs.Prelude.{◌≡◌, ◌<◌, ◌^◌, All, IfOk, length, map};
+ghost use Rattle.trace_node.specs.Answer.{IsAnswer};
+ghost use Rattle.trace_ops.specs.Ops.{AreOwn};
+
+use crate::conditions::{Case, Poller, conditions_of, held_of, pollers_of, waits_of};
+use crate::diagnosis::{Diagnosis, Held, Need, Polled, Polling, Root, Rounds, Unmatched, Waiting};
 use crate::doubts::doubts_of;
 use crate::graph::{Graph, able_of, graph_of};
+use crate::holding::is_up;
 use crate::inits::Inits;
 use crate::loose::is_some_loose;
 use crate::operations::operations_of;
-use crate::roots::{Entrants, Ranks, roots_of};
-use crate::rounds::{ranks_entered, rounds_of};
+use crate::roots::{Ranks, roots_of};
+use crate::rounds::rounds_of;
 use crate::standing::{open_of, standing_of};
 use crate::times::times_of;
-use crate::unmatched::{Run, unfinished_of, unmatched_of};
+use crate::unmatched::{Run, unfinished_in, unmatched_of};
 use mpi_model::{Layout, Sends};
 use std::alloc::{AllocError, Global};
 use trace_know::Knowledge;
 use trace_node::Answer;
-use trace_ops::{RankOps, State, all_ops};
+use trace_ops::{RankOps, State, all_ops, ops_laws};
 use trace_pair::{PairTable, pair_all};
-use trace_stuck::{Condition, RoundName, stuck};
+use trace_stuck::{Condition, stuck};
 use trace_wait::{conditions, entries_of};
 
 /// The ranks that are stuck, in rising order.
@@ -30,21 +35,8 @@ fn stuck_ranks(alloc: Global, answer: &Answer) -> Result<Vec<u32>, AllocError> {
     Ok(ranks)
 }
 
-/// Of each rank, whether it has a condition.
-fn waits_of(alloc: Global, conditions: &[Option<Condition>]) -> Result<Vec<bool>, AllocError> {
-    let mut waits = Vec::new(alloc);
-    for condition in conditions {
-        waits.push(condition.is_some())?;
-    }
-    Ok(waits)
-}
-
 /// What a poller is told with.
-fn polling_of(
-    alloc: Global,
-    poller: &Poller<'_>,
-    own: &RankOps,
-) -> Result<Polling, AllocError> {
+fn polling_of(alloc: Global, poller: &Poller<'_>, own: &RankOps) -> Result<Polling, AllocError> {
     let mut calls = Vec::new(alloc);
     for asked in &poller.asked {
         calls.push(Polled {
@@ -75,13 +67,38 @@ fn polls_of(
     Ok(polls)
 }
 
-/// What a rank needs, in the order of the nodes.
-fn needs_at(alloc: Global, graph: &Graph, rank: u32) -> Result<Vec<Need>, AllocError> {
-    let mut needs = Vec::new(alloc);
-    for node in graph.needs_of(rank) {
-        needs.push(graph.need_at(*node))?;
+/// The needs of a rank, each once: ranks first, then rounds.
+fn tidy(alloc: Global, needs: &[Need]) -> Result<Vec<Need>, AllocError> {
+    let mut each = Vec::from_slice(alloc, needs)?;
+    each.sort_by_key(|need| key_of(need))?;
+    each.dedup_by_key(|need| key_of(need));
+    Ok(each)
+}
+
+/// By which the needs of a rank are ordered.
+fn key_of(need: &Need) -> (bool, u32, u64) {
+    match need {
+        Need::Rank(rank) => (false, *rank, 0),
+        Need::Round(round) => (true, round.object, round.k),
     }
-    Ok(needs)
+}
+
+/// What a rank needs.
+fn needs_of(graph: &Graph, rank: u32) -> &[Need] {
+    match graph.needs.get(rank as usize) {
+        Some(needs) => needs,
+        None => &[],
+    }
+}
+
+/// The condition of a rank, moved out of the list.
+fn take_at(conditions: &mut [Option<Condition>], rank: u32) -> Option<Condition> {
+    let place = rank as usize;
+    if place < conditions.len() {
+        conditions[place].take()
+    } else {
+        None
+    }
 }
 
 /// The held ranks, with their conditions, which are moved.
@@ -90,39 +107,19 @@ fn held_ranks(
     graph: &Graph,
     held: &[bool],
     conditions: Vec<Option<Condition>>,
+    ranks: u32,
 ) -> Result<Vec<Held>, AllocError> {
     let mut conditions = conditions;
     let mut found = Vec::new(alloc);
-    for r in 0..conditions.len().min(held.len()) {
-        if let Some(waits) = conditions[r].take() {
-            if held[r] {
-                let rank = r as u32;
-                let needs = needs_at(alloc, graph, rank)?;
+    for rank in 0..ranks {
+        if let Some(waits) = take_at(&mut conditions, rank) {
+            if is_up(held, rank) {
+                let needs = tidy(alloc, needs_of(graph, rank))?;
                 found.push(Held { rank, waits, needs })?;
             }
         }
     }
     Ok(found)
-}
-
-/// The roots of the held ranks.
-fn roots_in(
-    alloc: Global,
-    graph: &Graph,
-    ranks: &Ranks<'_>,
-    rounds: &Rounds,
-) -> Result<Vec<Root>, AllocError> {
-    let mut names = Vec::new(alloc);
-    let mut entered = Vec::new(alloc);
-    for round in &rounds.mismatched {
-        names.push(round.round)?;
-        entered.push(ranks_entered(alloc, round)?)?;
-    }
-    let entrants = Entrants {
-        rounds: &names,
-        ranks: &entered,
-    };
-    roots_of(alloc, graph, ranks, &entrants)
 }
 
 /// Whether some rank waits.
@@ -135,7 +132,6 @@ fn does_one_wait(states: &[State]) -> bool {
     false
 }
 
-
 /// The other way in which sends of standard mode can complete.
 fn other_way(sends: Sends) -> Sends {
     match sends {
@@ -147,16 +143,18 @@ fn other_way(sends: Sends) -> Sends {
 /// The ranks that are stuck where sends complete in the other way, where they aren't these.
 fn other_stuck(
     alloc: Global,
-    layout: &Layout,
-    answer: &Answer,
-    ops: &[RankOps],
+    case: &Case<'_>,
     pairs: &PairTable,
-    ranks: &[u32],
-) -> Result<Option<Vec<u32>>, AllocError> {
+) -> Result<Option<Vec<u32>>, AllocError>
+    requires few { length case.now.ops.now < 2 ^ 32 }
+    requires own { AreOwn 0 case.now.ops.now }
+    requires states { length case.now.answer.now.states < 2 ^ 32 }
+{
+    let layout = case.layout;
     let other = layout.with_sends(alloc, other_way(layout.sends()))?;
-    let conditions = conditions(alloc, &other, ops, pairs, answer.rounds())?;
-    let verdict = stuck(alloc, answer.states(), &conditions)?;
-    if verdict.stuck.as_slice() == ranks {
+    let conditions = conditions(alloc, &other, case.ops, pairs, case.answer.rounds())?;
+    let verdict = stuck(alloc, case.answer.states(), &conditions)?;
+    if verdict.stuck.as_slice() == case.stuck {
         Ok(None)
     } else {
         Ok(Some(verdict.stuck))
@@ -168,7 +166,7 @@ fn nothing_unmatched(alloc: Global, ops: &[RankOps]) -> Result<Unmatched, AllocE
     Ok(Unmatched {
         left_over: Vec::new(alloc),
         starving: Vec::new(alloc),
-        unfinished: unfinished_of(alloc, ops)?,
+        unfinished: unfinished_in(alloc, ops)?,
     })
 }
 
@@ -191,47 +189,32 @@ fn no_matters(alloc: Global, ops: &[RankOps]) -> Result<Matters, AllocError> {
     })
 }
 
-/// What is asked of a run.
-#[derive(Clone, Copy)]
-struct Case<'a> {
-    layout: &'a Layout,
-    answer: &'a Answer,
-    know: &'a Knowledge,
-    cut: &'a [bool],
-    ops: &'a [RankOps],
-    pollers: &'a [Poller<'a>],
-    inits: &'a Inits,
-    stuck: &'a [u32],
-}
-
 /// What matters of a run.
-fn matters_of(alloc: Global, case: &Case<'_>, rounds: &Rounds) -> Result<Matters, AllocError> {
+fn matters_of(alloc: Global, case: &Case<'_>, rounds: &Rounds) -> Result<Matters, AllocError>
+    requires few { length case.now.ops.now < 2 ^ 32 }
+    requires own { AreOwn 0 case.now.ops.now }
+    requires there { All (λ p. p.rank < length case.now.ops.now) case.now.pollers.now }
+    requires small { case.now.ranks < 2 ^ 31 }
+    requires states { length case.now.answer.now.states < 2 ^ 32 }
+{
     let pairs = pair_all(alloc, case.ops)?;
-    let conditions = conditions_of(
-        alloc,
-        case.layout,
-        case.know,
-        case.ops,
-        &pairs,
-        case.answer.rounds(),
-        case.pollers,
-        case.stuck,
-        case.cut,
-    )?;
+    let conditions = conditions_of(alloc, case, &pairs)?;
     let held = held_of(alloc, &conditions)?;
     let waits = waits_of(alloc, &conditions)?;
     let able = able_of(alloc, case.answer.states())?;
-    let graph = graph_of(alloc, &held, &able, &conditions)?;
+    let graph = graph_of(alloc, &able, &conditions, case.ranks)?;
     let ranks = Ranks {
+        count: case.ranks,
         states: case.answer.states(),
         waits: &waits,
         held: &held,
         stuck: case.stuck,
     };
-    let roots = roots_in(alloc, &graph, &ranks, rounds)?;
+    let roots = roots_of(alloc, &graph, &ranks, &rounds.mismatched)?;
     let run = Run {
         layout: case.layout,
         know: case.know,
+        ranks: case.ranks,
         ops: case.ops,
         pairs: &pairs,
         pollers: case.pollers,
@@ -239,8 +222,8 @@ fn matters_of(alloc: Global, case: &Case<'_>, rounds: &Rounds) -> Result<Matters
         held: &held,
     };
     let unmatched = unmatched_of(alloc, &run, case.inits)?;
-    let other_sends = other_stuck(alloc, case.layout, case.answer, case.ops, &pairs, case.stuck)?;
-    let held = held_ranks(alloc, &graph, &held, conditions)?;
+    let other_sends = other_stuck(alloc, case, &pairs)?;
+    let held = held_ranks(alloc, &graph, &held, conditions, case.ranks)?;
     Ok(Matters {
         held,
         roots,
@@ -257,13 +240,18 @@ pub fn diagnose(
     answer: &Answer,
     know: &Knowledge,
     cut: &[bool],
-) -> Result<Diagnosis, AllocError> {
+) -> Result<Diagnosis, AllocError>
+    requires { IsAnswer layout.now know.now answer.now }
+{
+    layout.known();
+    ops_laws();
     let ops = all_ops(alloc, layout, know)?;
     let entries = entries_of(alloc, &ops)?;
     let inits = Inits::of(alloc, know, answer.ranks())?;
-    let pollers = pollers_of(alloc, know, &ops, cut)?;
+    let ranks = answer.ranks();
+    let pollers = pollers_of(alloc, know, &ops, cut, ranks)?;
     let stuck = stuck_ranks(alloc, answer)?;
-    let standing = standing_of(alloc, know, &ops, &entries, cut)?;
+    let standing = standing_of(alloc, know, &ops, &entries, cut, ranks)?;
     let doubts = doubts_of(alloc, layout, answer, know, &standing)?;
     let rounds = rounds_of(alloc, layout, &entries, answer.rounds())?;
     let case = Case {
@@ -271,6 +259,7 @@ pub fn diagnose(
         answer,
         know,
         cut,
+        ranks,
         ops: &ops,
         pollers: &pollers,
         inits: &inits,

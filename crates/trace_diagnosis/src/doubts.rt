@@ -101,11 +101,7 @@ fn conflicting(alloc: Global, conflicts: &[(u32, u64)]) -> Result<Vec<u32>, Allo
 }
 
 /// The ranks of which nothing is known.
-fn without_calls(
-    alloc: Global,
-    know: &Knowledge,
-    ranks: u32,
-) -> Result<Vec<u32>, AllocError> {
+fn without_calls(alloc: Global, know: &Knowledge, ranks: u32) -> Result<Vec<u32>, AllocError> {
     let mut found = Vec::new(alloc);
     for rank in 0..ranks {
         if know.prefix(rank) == 0 && !know.beyond(rank) {

@@ -3,11 +3,9 @@
 
 use crate::calls::{call_named, named};
 use crate::inits::Inits;
-use crate::patterns::{Pattern, pattern_of, patterns_of};
-use crate::shelf::MOST_NEAR;
+use crate::unmatched::Run;
 use mpi_model::{Call, CommRef, Envelope, Layout, Message, Mode, OpName, Peer, Receive, Trust};
 use std::alloc::{AllocError, Global};
-use std::collections::BTreeMap;
 use trace_know::Knowledge;
 use trace_ops::{RankOps, is_foreign};
 
@@ -47,12 +45,7 @@ fn group_of<'a>(
 }
 
 /// The message that an init describes.
-fn message_of(
-    layout: &Layout,
-    name: OpName,
-    mode: Mode,
-    e: Envelope,
-) -> Option<Message> {
+fn message_of(layout: &Layout, name: OpName, mode: Mode, e: Envelope) -> Option<Message> {
     let (comm, members) = group_of(layout, name.rank, name.call, e.comm)?;
     match e.peer {
         Peer::Rank(place) => {
@@ -101,28 +94,36 @@ fn receive_of(layout: &Layout, name: OpName, e: Envelope) -> Option<Receive> {
 
 impl Idle {
     /// Of all ranks.
-    pub fn of(
-        alloc: Global,
-        layout: &Layout,
-        know: &Knowledge,
-        inits: &Inits,
-        ops: &[RankOps],
-    ) -> Result<Idle, AllocError> {
+    pub fn of(alloc: Global, run: &Run<'_>, inits: &Inits) -> Result<Idle, AllocError> {
         let mut idle = Idle {
             messages: Vec::new(alloc),
             receives: Vec::new(alloc),
         };
-        for (r, own) in ops.iter().enumerate() {
-            let rank = r as u32;
-            if !inits.of_rank(rank).is_empty() {
-                let active = active_inits(alloc, know, inits, own)?;
-                idle.add_rank(alloc, layout, know, inits, rank, &active)?;
+        for rank in 0..run.ranks {
+            if let Some(own) = run.ops.get(rank as usize) {
+                idle.add_of(alloc, run, inits, rank, own)?;
             }
         }
         Ok(idle)
     }
 
-    /// And those of a rank.
+    /// And those of a rank that did this.
+    fn add_of(
+        &mut self,
+        alloc: Global,
+        run: &Run<'_>,
+        inits: &Inits,
+        rank: u32,
+        own: &RankOps,
+    ) -> Result<(), AllocError> {
+        if inits.of_rank(rank).is_empty() {
+            return Ok(());
+        }
+        let active = active_inits(alloc, run.know, inits, own)?;
+        self.add_rank(alloc, run.layout, run.know, inits, rank, &active)
+    }
+
+    /// And those of a rank with these active ones.
     fn add_rank(
         &mut self,
         alloc: Global,
@@ -169,4 +170,3 @@ impl Idle {
         Ok(())
     }
 }
-

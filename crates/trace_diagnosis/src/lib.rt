@@ -43,8 +43,8 @@ mod unmatched;
 
 pub use diagnose::diagnose;
 pub use diagnosis::{
-    Beyond, CallGroup, Diagnosis, Doubts, Foreign, Held, Init, LastCall, LeftOver,
-    MismatchedRound, NearMessage, NearReceive, Need, OpenRound, Operation, Polled, Polling, Root,
-    RootKind, Rounds, Stand, Standing, Starving, Times, Unmatched, Waiting, Why,
+    Beyond, CallGroup, Diagnosis, Doubts, Foreign, Held, Init, LastCall, LeftOver, MismatchedRound,
+    NearMessage, NearReceive, Need, OpenRound, Operation, Polled, Polling, Root, RootKind, Rounds,
+    Stand, Standing, Starving, Times, Unmatched, Waiting, Why,
 };
 pub use trace_stuck::RoundName;

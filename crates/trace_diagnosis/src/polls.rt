@@ -5,7 +5,7 @@
 //! test or probe that hasn't returned.
 
 use crate::calls::{Called, called_at, count_of};
-use mpi_model::{Call, Outs, ProbeEnvelope, Peer, CommRef};
+use mpi_model::{Call, CommRef, Outs, Peer, ProbeEnvelope};
 use std::alloc::{AllocError, Global};
 use std::collections::BTreeSet;
 use trace_know::Readable;
@@ -14,11 +14,7 @@ use trace_know::Readable;
 fn is_poll(call: &Call) -> bool {
     matches!(
         call,
-        Call::Test(_)
-            | Call::Testall(_)
-            | Call::Testany(_)
-            | Call::Testsome(_)
-            | Call::Improbe(_)
+        Call::Test(_) | Call::Testall(_) | Call::Testany(_) | Call::Testsome(_) | Call::Improbe(_)
     )
 }
 

@@ -69,11 +69,7 @@ fn ranks_of(alloc: Global, entrants: &[Entrant]) -> Result<Vec<u32>, AllocError>
 }
 
 /// The group of entrants whose calls match, of which this is the first.
-fn group_of(
-    alloc: Global,
-    first: &Entrant,
-    entrants: &[Entrant],
-) -> Result<CallGroup, AllocError> {
+fn group_of(alloc: Global, first: &Entrant, entrants: &[Entrant]) -> Result<CallGroup, AllocError> {
     let ranks = ranks_of(alloc, entrants)?;
     Ok(CallGroup {
         function: first.entered.function,
@@ -86,7 +82,9 @@ fn group_of(
 /// How many of the entrants from a place on have calls that match the one there.
 fn run_from(entrants: &[Entrant], place: usize) -> usize {
     let mut end = place;
-    while end < entrants.len() && key_of(&entrants[end].entered) == key_of(&entrants[place].entered) {
+    while end < entrants.len()
+        && key_of(&entrants[end].entered) == key_of(&entrants[place].entered)
+    {
         end += 1;
     }
     end - place
@@ -190,7 +188,10 @@ pub(crate) fn rounds_of(
 }
 
 /// The ranks of a mismatched round's groups, in rising order.
-pub(crate) fn ranks_entered(alloc: Global, round: &MismatchedRound) -> Result<Vec<u32>, AllocError> {
+pub(crate) fn ranks_entered(
+    alloc: Global,
+    round: &MismatchedRound,
+) -> Result<Vec<u32>, AllocError> {
     let mut ranks = Vec::new(alloc);
     for group in &round.groups {
         ranks.extend_from_slice(&group.ranks)?;

@@ -1,12 +1,17 @@
 //! Messages that are left over, receives that starve, and the nearest misses of both.
 
+ghost use Rattle.std.specs.Prelude.{◌≡◌, ◌++◌, IfOk, OnOk, map};
+ghost use Rattle.std.specs.List.{flat_map};
+ghost use Rattle.trace_diagnosis.specs.LeftOver.{unfinished_of};
+
 use crate::before::Through;
-use crate::conditions::{Poller, is_up};
+use crate::conditions::Poller;
 use crate::diagnosis::{LeftOver, NearMessage, NearReceive, Starving, Unmatched, Why};
 use crate::firsts::Firsts;
+use crate::holding::is_up;
 use crate::idle::Idle;
 use crate::inits::Inits;
-use crate::loose::{free_ends, loose_messages};
+use crate::loose::{left_over_of, loose_messages};
 use crate::near::{NearMessages, NearReceives};
 use crate::patterns::{Pattern, pattern_of, patterns_of};
 use crate::shelf::first_three;
@@ -16,19 +21,37 @@ use mpi_model::{Layout, Message, OpName, Receive};
 use std::alloc::{AllocError, Global};
 use trace_know::Knowledge;
 use trace_ops::{RankOps, State};
-use trace_pair::{Ends, PairTable, Reaches, reaches_of};
+use trace_pair::{PairTable, Reaches, reaches_of};
+use trace_wait::ends_asked;
+
+/// Adds the requests that are active, where the rank has ended.
+fn push_unfinished(own: &RankOps, names: &mut Vec<OpName>) -> Result<(), AllocError>
+    ensures { OnOk result (names.new.items ≡ names.old.items ++ unfinished_of own.now) }
+{
+    if own.state() == State::Ended {
+        push_posts(own.active(), names)?;
+    }
+    Ok(())
+}
+
+/// Adds the operations of active requests.
+fn push_posts(active: &[(i64, OpName)], names: &mut Vec<OpName>) -> Result<(), AllocError>
+    ensures { OnOk result (names.new.items ≡ names.old.items ++ map (λ p. p.1) active.now) }
+{
+    for post in active {
+        names.push(post.1)?;
+    }
+    Ok(())
+}
 
 /// The requests of ranks that have ended which were active at their end.
-pub(crate) fn unfinished_of(alloc: Global, ops: &[RankOps]) -> Result<Vec<OpName>, AllocError> {
+pub(crate) fn unfinished_in(alloc: Global, ops: &[RankOps]) -> Result<Vec<OpName>, AllocError>
+    ensures { IfOk result (λ names. names.items ≡ flat_map unfinished_of ops.now) }
+{
     let mut names = Vec::new(alloc);
     for own in ops {
-        if own.state() == State::Ended {
-            for post in own.active() {
-                names.push(post.1)?;
-            }
-        }
+        push_unfinished(own, &mut names)?;
     }
-    names.sort()?;
     Ok(names)
 }
 
@@ -37,28 +60,13 @@ pub(crate) fn unfinished_of(alloc: Global, ops: &[RankOps]) -> Result<Vec<OpName
 pub(crate) struct Run<'a> {
     pub layout: &'a Layout,
     pub know: &'a Knowledge,
+    pub ranks: u32,
     pub ops: &'a [RankOps],
     pub pairs: &'a PairTable,
     pub pollers: &'a [Poller<'a>],
     /// Of each rank, whether it waits or polls.
     pub waits: &'a [bool],
     pub held: &'a [bool],
-}
-
-/// The sure messages that no receive in no pair may have taken.
-fn left_over_of(
-    alloc: Global,
-    ends: &Ends,
-    reaches: &Reaches<'_>,
-    messages: &[Message],
-) -> Result<Vec<Message>, AllocError> {
-    let mut left = Vec::new(alloc);
-    for m in messages {
-        if m.trust.is_sure() && !ends.may_take(reaches, m) {
-            left.push(*m)?;
-        }
-    }
-    Ok(left)
 }
 
 impl<'a> Run<'a> {
@@ -81,12 +89,13 @@ struct Found {
 fn found_in(alloc: Global, run: &Run<'_>, reaches: &Reaches<'_>) -> Result<Found, AllocError> {
     let received = run.pairs.by_receive(alloc)?;
     let loose = loose_messages(alloc, run.pairs, run.ops)?;
-    let ends = free_ends(alloc, &received, run.ops)?;
+    let ends = ends_asked(alloc, run.ops, &received)?;
     let left = left_over_of(alloc, &ends, reaches, &loose)?;
     let starving = starving_of(
         alloc,
         run.layout,
         run.ops,
+        run.ranks,
         &received,
         reaches,
         run.pollers,
@@ -146,11 +155,7 @@ fn push_messages(
 }
 
 /// Adds messages with what has or may have taken them.
-fn push_taken(
-    why: Why,
-    taken: &[TakenBy],
-    near: &mut Vec<NearMessage>,
-) -> Result<(), AllocError> {
+fn push_taken(why: Why, taken: &[TakenBy], near: &mut Vec<NearMessage>) -> Result<(), AllocError> {
     for one in taken {
         near.push(NearMessage {
             why,
@@ -227,9 +232,19 @@ impl AllReceives {
         let mut near = Vec::new(alloc);
         push_receives(Why::Tag, starving, &self.tag.near(alloc, m)?, &mut near)?;
         push_receives(Why::Comm, starving, &self.comm.near(alloc, m)?, &mut near)?;
-        push_receives(Why::Source, starving, &self.source.near(alloc, m)?, &mut near)?;
+        push_receives(
+            Why::Source,
+            starving,
+            &self.source.near(alloc, m)?,
+            &mut near,
+        )?;
         push_receives(Why::Dest, starving, &self.dest.near(alloc, m)?, &mut near)?;
-        push_receives(Why::Idle, &idle.receives, &self.idle_for(alloc, m)?, &mut near)?;
+        push_receives(
+            Why::Idle,
+            &idle.receives,
+            &self.idle_for(alloc, m)?,
+            &mut near,
+        )?;
         Ok(near)
     }
 }
@@ -305,8 +320,17 @@ impl<'a> AllMessages<'a> {
         push_messages(Why::Source, left, &self.source.near(alloc, q)?, &mut near)?;
         push_messages(Why::Dest, left, &self.dest.near(alloc, q)?, &mut near)?;
         push_taken(Why::Taken, taken_at(&self.taken, at), &mut near)?;
-        push_taken(Why::Postponed, &self.postponed_for(alloc, found, q)?, &mut near)?;
-        push_messages(Why::Idle, &idle.messages, self.idle.at(pattern_of(q)), &mut near)?;
+        push_taken(
+            Why::Postponed,
+            &self.postponed_for(alloc, found, q)?,
+            &mut near,
+        )?;
+        push_messages(
+            Why::Idle,
+            &idle.messages,
+            self.idle.at(pattern_of(q)),
+            &mut near,
+        )?;
         Ok(near)
     }
 }
@@ -376,10 +400,10 @@ pub(crate) fn unmatched_of(
     let found = found_in(alloc, run, &reaches)?;
     let asked = asked_of(alloc, &found)?;
     let through = Through::of(alloc, &asked, run.pairs, run.ops)?;
-    let idle = Idle::of(alloc, run.layout, run.know, inits, run.ops)?;
+    let idle = Idle::of(alloc, run, inits)?;
     let left_over = told_messages(alloc, run, &found, &idle, &through)?;
     let starving = told_receives(alloc, run, inits, &reaches, &found, &idle, &through)?;
-    let unfinished = unfinished_of(alloc, run.ops)?;
+    let unfinished = unfinished_in(alloc, run.ops)?;
     Ok(Unmatched {
         left_over,
         starving,

@@ -126,7 +126,7 @@ fn listed_at(rows: &[Row], r: u32, comm: u32) -> &[Entered]
 
 impl<'a> Entries<'a> {
     /// The calls of a rank on a communicator, in their order.
-    pub(crate) fn on(&self, r: u32, comm: u32) -> &[Entered]
+    pub fn on(&self, r: u32, comm: u32) -> &[Entered]
         ensures { result.now ≡ on_comm comm (ops_of self.now r).rounds }
     {
         listed_at(&self.rows, r, comm)

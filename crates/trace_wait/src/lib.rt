@@ -48,4 +48,5 @@ pub use entries::{Entries, entries_of};
 pub use polls::Poll;
 pub use round::{Round, Standing};
 pub use tally::rounds;
+pub use unpaired::ends_asked;
 pub use waiting::{RunConditions, conditions, conditions_with_polls};
