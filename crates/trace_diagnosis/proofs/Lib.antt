@@ -1,3 +1,4 @@
 mod Shapes
 mod Holding
 mod Needing
+mod Ranges

@@ -84,6 +84,7 @@ fn needs_at(
 }
 
 /// What each rank needs.
+#[tactic(auto, using(crate::proofs::Ranges::map_more))]
 fn all_needs(
     alloc: Global,
     able: &[bool],

@@ -82,6 +82,7 @@ fn is_labelled(labels: &[Option<u32>], least: u32, node: u32) -> bool
 }
 
 /// The ranks with this label.
+#[tactic(auto, using(crate::proofs::Ranges::filter_more))]
 fn members(
     alloc: Global,
     labels: &[Option<u32>],
@@ -175,6 +176,7 @@ fn askers_of(alloc: Global, graph: &Graph, nodes: &[u32]) -> Result<Vec<u32>, Al
 }
 
 /// The ranks whose flags are up.
+#[tactic(auto, using(crate::proofs::Ranges::filter_more))]
 fn ranks_up(alloc: Global, flags: &[bool], count: u32) -> Result<Vec<u32>, AllocError>
     ensures { IfOk result (λ found. found.items ≡ filter (is_up flags.now) (range_with_len 0 count)) }
 {
