@@ -38,7 +38,7 @@
 //! - [`ending`]: from words to a status and what standard error shows; [`first_look`]: whether a file begins as the text
 //!   of a trace
 //!
-//! Its tests are in `tests/cases/` and `tests/inputs.txt`, which the built program runs;
+//! Its tests are in `tests/cases/` and `tests/rows/inputs.txt`, which the built program runs;
 //! `crates/command_runs_tests` has what only files in memory show.
 #![tactic(auto)]
 

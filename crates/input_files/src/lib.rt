@@ -12,7 +12,7 @@
 //! - [`schedule`]: the steps of a manifest's schedule
 //! - [`manifest`]: the pieces of a trace, and what nodes are to do with them
 //!
-//! Its tests are rows of `tests/inputs.txt`, which the built program runs.
+//! Its tests are rows of `tests/rows/inputs.txt`, which the built program runs.
 #![tactic(auto)]
 
 mod fault;

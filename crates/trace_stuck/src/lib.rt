@@ -33,7 +33,7 @@
 //! - [`search`]: from where the nodes of any graph are reached; [`backward`]: its edges the other way round;
 //!   [`heart`]: the components that nothing leads out of
 //!
-//! Its tests are the runs that hang in `tests/runs.txt`.
+//! Its tests are the runs that hang in `tests/rows/runs.txt`.
 #![tactic(auto)]
 
 mod askers;
