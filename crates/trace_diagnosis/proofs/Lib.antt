@@ -1,4 +1,4 @@
 mod Shapes
-mod Holding
+mod Holds
 mod Needing
 mod Ranges

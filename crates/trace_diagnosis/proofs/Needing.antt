@@ -12,7 +12,7 @@ use Rattle.trace_diagnosis.specs.Parts.{may_need, of_parts, of_rank, of_ranks, u
 use Rattle.trace_diagnosis.specs.declared.diagnosis.Need.{Need}
 use Rattle.trace_diagnosis.specs.declared.diagnosis.Need.TheVariants as needs
 use Rattle.trace_diagnosis.proofs.Shapes.{shape_Yes, shape_Rank, shape_All, shape_One, shape_OneRank, shape_AllRanks, shape_Mismatched}
-use Rattle.trace_diagnosis.proofs.Holding.{one_shapes, one_ranks}
+use Rattle.trace_diagnosis.proofs.Holds.{one_shapes, one_ranks}
 
 all_shapes : (others : ℕ → Bool) (cs : List Condition) → needs_of_all others (waits_of (map shape cs)) ≡ flat_map (λ c. unmet others (shape c)) cs
 all_shapes others [] = refl

@@ -5,3 +5,7 @@ pub mod Graph
 pub mod Roots
 pub mod LeftOver
 pub mod Standing
+pub mod Polls
+pub mod Rounds
+pub mod Near
+pub mod Missed

@@ -1,11 +1,16 @@
 //! Persistent requests that aren't active: never started, or not again, or freed. Each is looked up as the message or the
 //! receive that a start of it would make.
 
+ghost use Rattle.std.specs.Prelude.{◌≡◌, not};
+ghost use Rattle.std.specs.BTreeSet.{contains};
+ghost use Rattle.std.specs.Ordering.{nat_cmp};
+
 use crate::calls::{call_named, named};
 use crate::inits::Inits;
 use crate::unmatched::Run;
 use mpi_model::{Call, CommRef, Envelope, Layout, Message, Mode, OpName, Peer, Receive, Trust};
 use std::alloc::{AllocError, Global};
+use std::collections::BTreeSet;
 use trace_know::Knowledge;
 use trace_ops::{RankOps, is_foreign};
 
@@ -16,21 +21,27 @@ pub(crate) struct Idle {
     pub receives: Vec<Receive>,
 }
 
-/// The inits of a rank whose requests are active, by number.
+/// The inits of a rank whose requests are active.
 fn active_inits(
     alloc: Global,
     know: &Knowledge,
     inits: &Inits,
     own: &RankOps,
-) -> Result<Vec<u64>, AllocError> {
-    let mut found = Vec::new(alloc);
+) -> Result<BTreeSet<u64>, AllocError> {
+    let mut found = BTreeSet::new(alloc);
     for post in own.active() {
         if let Some(init) = inits.started(know, post.1) {
-            found.push(init)?;
+            found.insert(init)?;
         }
     }
-    found.sort()?;
     Ok(found)
+}
+
+/// Whether the request that a call made isn't active.
+fn is_idle(active: &BTreeSet<u64>, call: u64) -> bool
+    ensures { result ≡ not (contains nat_cmp active.now call) }
+{
+    !active.contains(&call)
 }
 
 /// The members of the communicator that a call of a rank names, with its id.
@@ -131,7 +142,7 @@ impl Idle {
         know: &Knowledge,
         inits: &Inits,
         rank: u32,
-        active: &[u64],
+        active: &BTreeSet<u64>,
     ) -> Result<(), AllocError> {
         let mut calls = Vec::new(alloc);
         for made in inits.of_rank(rank) {
@@ -139,7 +150,7 @@ impl Idle {
         }
         calls.sort()?;
         for call in &calls {
-            if active.binary_search(call).is_err() {
+            if is_idle(active, *call) {
                 self.add(layout, know, named(rank, *call))?;
             }
         }

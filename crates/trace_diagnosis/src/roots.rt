@@ -4,11 +4,11 @@
 //! of, and the rounds that don't match. Where one root of a kind holds up the same ranks as another, the two are one thing to
 //! say.
 
-ghost use Rattle.std.specs.Prelude.{◌≡◌, ◌≤◌, ◌<◌, ◌^◌, ◌↔◌, ℕ, All, IfOk, IsTrue, filter, is_some, length, vec_len};
+ghost use Rattle.std.specs.Prelude.{◌≡◌, ◌≤◌, ◌<◌, ◌+◌, ◌^◌, ◌++◌, ℕ, All, IfOk, OnOk, true, false, filter, is_some, vec_len};
+ghost use Rattle.std.specs.List.Sorted.{IsPermutation};
 ghost use Rattle.std.specs.List.{range_with_len};
 ghost use Rattle.trace_stuck.specs.Graph.{edge, is_up, label_at};
-ghost use Rattle.trace_stuck.specs.Hearts.{AreHearts};
-ghost use Rattle.trace_diagnosis.specs.Roots.{IsRoot, LeadFrom, is_labelled, members};
+ghost use Rattle.trace_diagnosis.specs.Roots.{AddsRoot, IsRoot, IsSound, JoinsRoots, KeepRoots, LeadFrom, is_labelled, is_round, members};
 
 use crate::diagnosis::{MismatchedRound, Need, Root, RootKind};
 use crate::graph::Graph;
@@ -242,6 +242,7 @@ fn root_of_round(
     requires count { vec_len graph.now.edges ≡ ranks.now.count + 1 }
     requires small { ranks.now.count < 2 ^ 31 }
     requires same { vec_len graph.now.askers ≡ vec_len graph.now.edges }
+    ensures { IfOk result (λ root. is_round root.kind ≡ true) }
 {
     let starts = flags_for(alloc, graph, ranks.count + 1, round)?;
     let leading = firsts(alloc, &graph.askers, &starts)?;
@@ -337,6 +338,7 @@ fn push_roots_of_rounds(
     requires count { vec_len graph.now.edges ≡ ranks.now.count + 1 }
     requires small { ranks.now.count < 2 ^ 31 }
     requires same { vec_len graph.now.askers ≡ vec_len graph.now.edges }
+    ensures { OnOk result (KeepRoots roots.old.items roots.new.items) }
 {
     let rounds = rounds_needed(alloc, &graph.needs)?;
     for round in &rounds {
@@ -357,20 +359,42 @@ fn kind_code(kind: RootKind) -> u8 {
     }
 }
 
+/// Whether the root is a round.
+fn is_round(kind: RootKind) -> bool
+    ensures { result ≡ is_round kind }
+{
+    match kind {
+        RootKind::Mismatch(_) => true,
+        RootKind::Cycle | RootKind::Ended | RootKind::Silent | RootKind::Open => false,
+    }
+}
+
 /// Whether roots of this kind that hold up the same ranks are one root.
-fn is_joined(kind: RootKind) -> bool {
+fn is_joined(kind: RootKind) -> bool
+    ensures { result ≡ true → is_round kind ≡ false }
+{
     match kind {
         RootKind::Mismatch(_) | RootKind::Cycle => false,
         RootKind::Ended | RootKind::Silent | RootKind::Open => true,
     }
 }
 
+/// Adds ranks, and puts all in rising order.
+fn merge(own: &mut Vec<u32>, more: &[u32]) -> Result<(), AllocError>
+    ensures { OnOk result (IsPermutation (own.old.items ++ more.now) own.new.items) }
+{
+    own.extend_from_slice(more)?;
+    own.sort()?;
+    Ok(())
+}
+
 /// Adds a root's own ranks to another root, which holds up the same.
-fn join(into: &mut Root, root: &Root) -> Result<(), AllocError> {
-    into.ranks.extend_from_slice(&root.ranks)?;
-    into.ranks.sort()?;
-    into.needed_by.extend_from_slice(&root.needed_by)?;
-    into.needed_by.sort()?;
+fn join(into: &mut Root, root: &Root) -> Result<(), AllocError>
+    requires { is_round root.now.kind ≡ false }
+    ensures { OnOk result (JoinsRoots into.old root.now into.new) }
+{
+    merge(&mut into.ranks, &root.ranks)?;
+    merge(&mut into.needed_by, &root.needed_by)?;
     into.needed_by.dedup();
     into.proved = into.proved && root.proved;
     Ok(())
@@ -379,8 +403,19 @@ fn join(into: &mut Root, root: &Root) -> Result<(), AllocError> {
 /// Where roots stand that others may be joined with, by their kinds and by the ranks that they hold up.
 type Places = BTreeMap<(u8, Vec<u32>), usize>;
 
+/// Joins the root at a place with one that holds up the same.
+fn join_at(roots: &mut Vec<Root>, place: usize, root: &Root) -> Result<(), AllocError>
+    requires place { place < vec_len roots.old }
+    requires ranks { is_round root.now.kind ≡ false }
+    ensures { OnOk result (AddsRoot roots.old.items root.now roots.new.items) }
+{
+    join(&mut roots[place], root)
+}
+
 /// Adds a root, or joins it with one that is there.
-fn add(roots: &mut Vec<Root>, places: &mut Places, root: Root) -> Result<(), AllocError> {
+fn add(roots: &mut Vec<Root>, places: &mut Places, root: Root) -> Result<(), AllocError>
+    ensures { OnOk result (AddsRoot roots.old.items root roots.new.items) }
+{
     if !is_joined(root.kind) {
         roots.push(root)?;
         return Ok(());
@@ -388,7 +423,7 @@ fn add(roots: &mut Vec<Root>, places: &mut Places, root: Root) -> Result<(), All
     let key = (kind_code(root.kind), root.holds_up.clone()?);
     let place = places.get(&key).copied().unwrap_or(usize::MAX);
     if place < roots.len() {
-        return join(&mut roots[place], &root);
+        return join_at(roots, place, &root);
     }
     places.insert(key, roots.len())?;
     roots.push(root)?;
@@ -396,7 +431,9 @@ fn add(roots: &mut Vec<Root>, places: &mut Places, root: Root) -> Result<(), All
 }
 
 /// The roots, where those of one kind that hold up the same ranks are one.
-fn joined(alloc: Global, single: Vec<Root>) -> Result<Vec<Root>, AllocError> {
+fn joined(alloc: Global, single: Vec<Root>) -> Result<Vec<Root>, AllocError>
+    ensures { IfOk result (λ roots. KeepRoots single.items roots.items) }
+{
     let mut roots = Vec::new(alloc);
     let mut places = Places::new(alloc);
     for root in single {
@@ -443,6 +480,7 @@ pub(crate) fn roots_of(
     requires small { ranks.now.count < 2 ^ 31 }
     requires same { vec_len graph.now.askers ≡ vec_len graph.now.edges }
     requires askers { (r s : ℕ) → edge graph.now.askers.items s r ≡ edge graph.now.edges.items r s }
+    ensures { IfOk result (λ roots. All (IsSound graph.now.edges.items ranks.now.held.now ranks.now.count) roots.items) }
 {
     let mut single = roots_of_ranks(alloc, graph, ranks)?;
     push_roots_of_rounds(alloc, graph, ranks, mismatched, &mut single)?;

@@ -16,7 +16,7 @@ use trace_ops::{RankOps, State};
 use trace_wait::Entries;
 
 /// The requests that a test or a wait lists.
-pub(crate) fn requests_of(call: &Call) -> &[i64] {
+fn requests_of(call: &Call) -> &[i64] {
     match call {
         Call::Wait(request) | Call::Test(request) => std::slice::from_ref(request),
         Call::Waitall(requests)
@@ -30,7 +30,7 @@ pub(crate) fn requests_of(call: &Call) -> &[i64] {
 }
 
 /// The active requests, by number.
-fn by_number(alloc: Global, own: &RankOps) -> Result<Vec<(i64, OpName)>, AllocError> {
+pub(crate) fn by_number(alloc: Global, own: &RankOps) -> Result<Vec<(i64, OpName)>, AllocError> {
     let mut active = Vec::from_slice(alloc, own.active())?;
     active.sort_by_key(|post| post.0)?;
     Ok(active)
@@ -47,26 +47,31 @@ fn name_of(active: &[(i64, OpName)], request: i64) -> Option<OpName> {
     }
 }
 
-/// Which operations the call's requests stand for, as far as they are active: by name, each once.
-pub(crate) fn open_of(
+/// Which operations the call's requests stand for, as far as they are among these active ones, which go by number: by name,
+/// each once.
+pub(crate) fn open_among(
     alloc: Global,
-    own: &RankOps,
+    active: &[(i64, OpName)],
     call: &Call,
 ) -> Result<Vec<OpName>, AllocError> {
-    let requests = requests_of(call);
     let mut open = Vec::new(alloc);
-    if requests.is_empty() {
-        return Ok(open);
-    }
-    let active = by_number(alloc, own)?;
-    for request in requests {
-        if let Some(name) = name_of(&active, *request) {
+    for request in requests_of(call) {
+        if let Some(name) = name_of(active, *request) {
             open.push(name)?;
         }
     }
     open.sort()?;
     open.dedup();
     Ok(open)
+}
+
+/// The same among the active ones of a rank.
+fn open_of(alloc: Global, own: &RankOps, call: &Call) -> Result<Vec<OpName>, AllocError> {
+    if requests_of(call).is_empty() {
+        return Ok(Vec::new(alloc));
+    }
+    let active = by_number(alloc, own)?;
+    open_among(alloc, &active, call)
 }
 
 /// What ends a prefix behind which more is known, by what is known of the next place.

@@ -1,8 +1,9 @@
 //! Messages that are left over, receives that starve, and the nearest misses of both.
 
-ghost use Rattle.std.specs.Prelude.{◌≡◌, ◌++◌, IfOk, OnOk, map};
+ghost use Rattle.std.specs.Prelude.{◌≡◌, ◌++◌, All, IfOk, OnOk, map};
 ghost use Rattle.std.specs.List.{flat_map};
 ghost use Rattle.trace_diagnosis.specs.LeftOver.{unfinished_of};
+ghost use Rattle.trace_diagnosis.specs.Missed.{IsNearMessage, IsNearReceive};
 
 use crate::before::Through;
 use crate::conditions::Poller;
@@ -12,7 +13,7 @@ use crate::holding::is_up;
 use crate::idle::Idle;
 use crate::inits::Inits;
 use crate::loose::{left_over_of, loose_messages};
-use crate::near::{NearMessages, NearReceives};
+use crate::near::{NearMessages, NearReceives, is_near};
 use crate::patterns::{Pattern, pattern_of, patterns_of};
 use crate::shelf::first_three;
 use crate::starved::starving_of;
@@ -120,48 +121,67 @@ fn asked_of(alloc: Global, found: &Found) -> Result<Vec<Pattern>, AllocError> {
     Ok(asked)
 }
 
-/// Adds the receives at these places.
+/// Adds the receives at these places that are near misses of the message.
 fn push_receives(
     why: Why,
+    m: &Message,
     receives: &[Receive],
     places: &[usize],
     near: &mut Vec<NearReceive>,
-) -> Result<(), AllocError> {
+) -> Result<(), AllocError>
+    ensures { OnOk result (All (IsNearReceive m.now) near.old.items → All (IsNearReceive m.now) near.new.items) }
+{
     for place in places {
         if let Some(q) = receives.get(*place) {
-            near.push(NearReceive { why, receive: *q })?;
+            if is_near(why, m, q) {
+                near.push(NearReceive { why, receive: *q })?;
+            }
         }
     }
     Ok(())
 }
 
-/// Adds the messages at these places.
+/// Adds the messages at these places that are near misses of the receive.
 fn push_messages(
     why: Why,
+    q: &Receive,
     messages: &[Message],
     places: &[usize],
     near: &mut Vec<NearMessage>,
-) -> Result<(), AllocError> {
+) -> Result<(), AllocError>
+    ensures { OnOk result (All (IsNearMessage q.now) near.old.items → All (IsNearMessage q.now) near.new.items) }
+{
     for place in places {
         if let Some(m) = messages.get(*place) {
-            near.push(NearMessage {
-                why,
-                message: *m,
-                by: None,
-            })?;
+            if is_near(why, m, q) {
+                near.push(NearMessage {
+                    why,
+                    message: *m,
+                    by: None,
+                })?;
+            }
         }
     }
     Ok(())
 }
 
 /// Adds messages with what has or may have taken them.
-fn push_taken(why: Why, taken: &[TakenBy], near: &mut Vec<NearMessage>) -> Result<(), AllocError> {
+fn push_taken(
+    why: Why,
+    q: &Receive,
+    taken: &[TakenBy],
+    near: &mut Vec<NearMessage>,
+) -> Result<(), AllocError>
+    ensures { OnOk result (All (IsNearMessage q.now) near.old.items → All (IsNearMessage q.now) near.new.items) }
+{
     for one in taken {
-        near.push(NearMessage {
-            why,
-            message: one.message,
-            by: Some(one.by),
-        })?;
+        if is_near(why, &one.message, q) {
+            near.push(NearMessage {
+                why,
+                message: one.message,
+                by: Some(one.by),
+            })?;
+        }
     }
     Ok(())
 }
@@ -227,20 +247,36 @@ impl AllReceives {
         found: &Found,
         idle: &Idle,
         m: &Message,
-    ) -> Result<Vec<NearReceive>, AllocError> {
+    ) -> Result<Vec<NearReceive>, AllocError>
+        ensures { IfOk result (λ near. All (IsNearReceive m.now) near.items) }
+    {
         let starving = &found.starving;
         let mut near = Vec::new(alloc);
-        push_receives(Why::Tag, starving, &self.tag.near(alloc, m)?, &mut near)?;
-        push_receives(Why::Comm, starving, &self.comm.near(alloc, m)?, &mut near)?;
+        push_receives(Why::Tag, m, starving, &self.tag.near(alloc, m)?, &mut near)?;
+        push_receives(
+            Why::Comm,
+            m,
+            starving,
+            &self.comm.near(alloc, m)?,
+            &mut near,
+        )?;
         push_receives(
             Why::Source,
+            m,
             starving,
             &self.source.near(alloc, m)?,
             &mut near,
         )?;
-        push_receives(Why::Dest, starving, &self.dest.near(alloc, m)?, &mut near)?;
+        push_receives(
+            Why::Dest,
+            m,
+            starving,
+            &self.dest.near(alloc, m)?,
+            &mut near,
+        )?;
         push_receives(
             Why::Idle,
+            m,
             &idle.receives,
             &self.idle_for(alloc, m)?,
             &mut near,
@@ -312,21 +348,31 @@ impl<'a> AllMessages<'a> {
         idle: &Idle,
         at: usize,
         q: &Receive,
-    ) -> Result<Vec<NearMessage>, AllocError> {
+    ) -> Result<Vec<NearMessage>, AllocError>
+        ensures { IfOk result (λ near. All (IsNearMessage q.now) near.items) }
+    {
         let left = &found.left;
         let mut near = Vec::new(alloc);
-        push_messages(Why::Tag, left, &self.tag.near(alloc, q)?, &mut near)?;
-        push_messages(Why::Comm, left, &self.comm.near(alloc, q)?, &mut near)?;
-        push_messages(Why::Source, left, &self.source.near(alloc, q)?, &mut near)?;
-        push_messages(Why::Dest, left, &self.dest.near(alloc, q)?, &mut near)?;
-        push_taken(Why::Taken, taken_at(&self.taken, at), &mut near)?;
+        push_messages(Why::Tag, q, left, &self.tag.near(alloc, q)?, &mut near)?;
+        push_messages(Why::Comm, q, left, &self.comm.near(alloc, q)?, &mut near)?;
+        push_messages(
+            Why::Source,
+            q,
+            left,
+            &self.source.near(alloc, q)?,
+            &mut near,
+        )?;
+        push_messages(Why::Dest, q, left, &self.dest.near(alloc, q)?, &mut near)?;
+        push_taken(Why::Taken, q, taken_at(&self.taken, at), &mut near)?;
         push_taken(
             Why::Postponed,
+            q,
             &self.postponed_for(alloc, found, q)?,
             &mut near,
         )?;
         push_messages(
             Why::Idle,
+            q,
             &idle.messages,
             self.idle.at(pattern_of(q)),
             &mut near,

@@ -1,4 +1,4 @@
-use Rattle.std.proofs.Common.{◌≡◌, ◌++◌, take, ◌×◌}
+use Rattle.std.proofs.Common.{◌≡◌, ◌++◌, take}
 use Rattle.std.specs.List.{flat_map, list_any}
 use Rattle.trace_stuck.specs.Shape.{shape}
 use Rattle.trace_diagnosis.specs.Holding.{going, holds}

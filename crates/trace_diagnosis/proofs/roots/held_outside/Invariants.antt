@@ -1,4 +1,4 @@
-use Rattle.std.proofs.Common.{◌≡◌, true, All, ◌×◌}
+use Rattle.std.proofs.Common.{◌≡◌, true, All}
 use Rattle.std.specs.Prelude.{is_some}
 use Rattle.trace_stuck.specs.Graph.{is_up, label_at}
 use Rattle.trace_diagnosis.proofs.roots.held_outside.Given as goal

@@ -14,7 +14,7 @@ use crate::loose::is_some_loose;
 use crate::operations::operations_of;
 use crate::roots::{Ranks, roots_of};
 use crate::rounds::rounds_of;
-use crate::standing::{open_of, standing_of};
+use crate::standing::{by_number, open_among, standing_of};
 use crate::times::times_of;
 use crate::unmatched::{Run, unfinished_in, unmatched_of};
 use mpi_model::{Layout, Sends};
@@ -27,7 +27,9 @@ use trace_stuck::{Condition, stuck};
 use trace_wait::{conditions, entries_of};
 
 /// The ranks that are stuck, in rising order.
-fn stuck_ranks(alloc: Global, answer: &Answer) -> Result<Vec<u32>, AllocError> {
+fn stuck_ranks(alloc: Global, answer: &Answer) -> Result<Vec<u32>, AllocError>
+    ensures { IfOk result (λ ranks. ranks.items ≡ map (λ s. s.rank) answer.now.stuck) }
+{
     let mut ranks = Vec::new(alloc);
     for stuck in answer.stuck() {
         ranks.push(stuck.rank)?;
@@ -37,12 +39,13 @@ fn stuck_ranks(alloc: Global, answer: &Answer) -> Result<Vec<u32>, AllocError> {
 
 /// What a poller is told with.
 fn polling_of(alloc: Global, poller: &Poller<'_>, own: &RankOps) -> Result<Polling, AllocError> {
+    let active = by_number(alloc, own)?;
     let mut calls = Vec::new(alloc);
     for asked in &poller.asked {
         calls.push(Polled {
             number: asked.number,
             call: asked.call.try_clone()?,
-            open: open_of(alloc, own, asked.call)?,
+            open: open_among(alloc, &active, asked.call)?,
         })?;
     }
     Ok(Polling {
