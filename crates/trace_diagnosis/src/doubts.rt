@@ -5,7 +5,7 @@ use crate::diagnosis::{Beyond, Doubts, Foreign, Standing};
 use mpi_model::{Call, CommRef, Layout};
 use std::alloc::{AllocError, Global};
 use std::collections::BTreeMap;
-use trace_know::Knowledge;
+use trace_know::{Knowledge, Readable};
 use trace_node::Answer;
 use trace_ops::is_foreign;
 
@@ -28,8 +28,8 @@ fn number_of(layout: &Layout, call: &Call) -> Option<u32> {
 }
 
 /// The number of a foreign call's object.
-fn foreign_at(layout: &Layout, know: &Knowledge, rank: u32, number: u64) -> Option<u32> {
-    let called = called_at(&know.readable(rank), number)?;
+fn foreign_at(layout: &Layout, events: &Readable<'_>, rank: u32, number: u64) -> Option<u32> {
+    let called = called_at(events, number)?;
     if is_foreign(layout, rank, number, called.call) {
         number_of(layout, called.call)
     } else {
@@ -40,12 +40,12 @@ fn foreign_at(layout: &Layout, know: &Knowledge, rank: u32, number: u64) -> Opti
 /// With the foreign calls of a rank.
 fn add_calls(
     layout: &Layout,
-    know: &Knowledge,
+    events: &Readable<'_>,
     rank: u32,
     counts: &mut Counts,
 ) -> Result<(), AllocError> {
-    for number in 0..count_of(&know.readable(rank)) {
-        if let Some(object) = foreign_at(layout, know, rank, number) {
+    for number in 0..count_of(events) {
+        if let Some(object) = foreign_at(layout, events, rank, number) {
             add(counts, object)?;
         }
     }
@@ -62,7 +62,7 @@ fn foreign_of(
     let mut counts = Counts::new(alloc);
     if answer.foreign() > 0 {
         for rank in 0..answer.ranks() {
-            add_calls(layout, know, rank, &mut counts)?;
+            add_calls(layout, &know.readable(rank), rank, &mut counts)?;
         }
     }
     let mut found = Vec::new(alloc);
@@ -101,11 +101,7 @@ fn conflicting(alloc: Global, conflicts: &[(u32, u64)]) -> Result<Vec<u32>, Allo
 }
 
 /// The ranks of which nothing is known.
-fn without_calls(
-    alloc: Global,
-    know: &Knowledge,
-    ranks: u32,
-) -> Result<Vec<u32>, AllocError> {
+fn without_calls(alloc: Global, know: &Knowledge, ranks: u32) -> Result<Vec<u32>, AllocError> {
     let mut found = Vec::new(alloc);
     for rank in 0..ranks {
         if know.prefix(rank) == 0 && !know.beyond(rank) {

@@ -1,168 +1,159 @@
-//! The graph of what holds up whom: the held ranks, and the ranks and the rounds that they need.
+//! Who needs whom: the held ranks, and the ranks and the rounds that they need.
 //!
-//! Its nodes are the ranks by their numbers, and behind them the rounds that some rank needs, in their order. An edge leads
-//! from a held rank to each of its needs.
+//! A graph has a node for each rank, and behind them one for all rounds: an edge leads from a held rank to each of its needs.
+//! No edge leads out of a round, so that one node for all of them is enough to find who is held up by ranks alone.
 
-use crate::conditions::is_up;
+ghost use Rattle.std.specs.Prelude.{◌≡◌, ◌++◌, ◌≤◌, ◌+◌, ◌^◌, ℕ, IfOk, OnOk, length, map, vec_len};
+ghost use Rattle.std.specs.List.{range_with_len};
+ghost use Rattle.trace_ops.specs.declared.state.State.{State as Stands};
+ghost use Rattle.trace_stuck.specs.Graph.{edge};
+ghost use Rattle.trace_diagnosis.specs.Graph.{HaveEdges, has_not_ended, needs_at, needs_in, node_of};
+
 use crate::diagnosis::Need;
-use crate::holding::{Going, push_needs};
+use crate::holding::{Going, is_unmet, push_needs};
 use std::alloc::{AllocError, Global};
 use trace_ops::State;
-use trace_stuck::{Condition, RoundName, turned};
+use trace_stuck::{Condition, turned};
 
-/// The graph, with the same edges the other way round.
+/// The graph, with its edges also the other way round.
 #[derive(Debug, Drop)]
 pub(crate) struct Graph {
-    /// How many nodes are ranks.
-    pub ranks: u32,
-    /// The rounds, by object and number: the i-th is node `ranks + i`.
-    pub rounds: Vec<RoundName>,
-    /// Of each node the nodes that it needs, in rising order.
-    pub needs: Vec<Vec<u32>>,
-    /// Of each node those that need it, in rising order.
-    pub needed_by: Vec<Vec<u32>>,
+    /// Of each rank what it needs.
+    pub needs: Vec<Vec<Need>>,
+    /// Of each node those to which its edges go.
+    pub edges: Vec<Vec<u32>>,
+    /// Of each node those from which edges come.
+    pub askers: Vec<Vec<u32>>,
+}
+
+/// Whether a rank hasn't ended.
+fn has_not_ended(state: &State) -> bool
+    ensures { result ≡ has_not_ended state.now }
+{
+    match state {
+        State::Ended => false,
+        State::Free => true,
+        State::Waiting => true,
+    }
 }
 
 /// Of each rank, whether it hasn't ended.
-pub(crate) fn able_of(alloc: Global, states: &[State]) -> Result<Vec<bool>, AllocError> {
+pub(crate) fn able_of(alloc: Global, states: &[State]) -> Result<Vec<bool>, AllocError>
+    ensures { IfOk result (λ able. able.items ≡ map has_not_ended states.now) }
+{
     let mut able = Vec::new(alloc);
     for state in states {
-        able.push(*state != State::Ended)?;
+        able.push(has_not_ended(state))?;
     }
     Ok(able)
 }
 
-/// What a rank needs, where it is held.
-fn needs_of_rank(
+/// What a rank with this condition needs, where it is held.
+fn needs_with(
     alloc: Global,
-    held: &[bool],
     able: &[bool],
-    condition: &Option<Condition>,
     rank: u32,
-) -> Result<Vec<Need>, AllocError> {
+    condition: &Condition,
+) -> Result<Vec<Need>, AllocError>
+    ensures { IfOk result (λ needs. needs.items ≡ needs_in able.now rank condition.now) }
+{
     let mut needs = Vec::new(alloc);
-    if let Some(condition) = condition {
-        if is_up(held, rank) {
-            let others = Going {
-                able,
-                but: Some(rank),
-            };
-            push_needs(&mut needs, &others, condition)?;
-        }
+    if is_unmet(condition) {
+        let others = Going {
+            able,
+            but: Some(rank),
+        };
+        push_needs(&mut needs, &others, condition)?;
     }
     Ok(needs)
 }
 
-/// What each rank needs.
-pub(crate) fn all_needs(
+/// What a rank needs, where it is held.
+fn needs_at(
     alloc: Global,
-    held: &[bool],
     able: &[bool],
     conditions: &[Option<Condition>],
-) -> Result<Vec<Vec<Need>>, AllocError> {
+    rank: u32,
+) -> Result<Vec<Need>, AllocError>
+    ensures { IfOk result (λ needs. needs.items ≡ needs_at able.now conditions.now rank) }
+{
+    match conditions.get(rank as usize) {
+        Some(Some(condition)) => needs_with(alloc, able, rank, condition),
+        _ => Ok(Vec::new(alloc)),
+    }
+}
+
+/// What each rank needs.
+#[tactic(auto, using(crate::proofs::Ranges::map_more))]
+fn all_needs(
+    alloc: Global,
+    able: &[bool],
+    conditions: &[Option<Condition>],
+    ranks: u32,
+) -> Result<Vec<Vec<Need>>, AllocError>
+    ensures { IfOk result (λ all. map (λ needs. needs.items) all.items ≡ map (needs_at able.now conditions.now) (range_with_len 0 ranks)) }
+{
     let mut all = Vec::new(alloc);
-    for (r, condition) in conditions.iter().enumerate() {
-        all.push(needs_of_rank(alloc, held, able, condition, r as u32)?)?;
+    for rank in 0..ranks {
+        all.push(needs_at(alloc, able, conditions, rank)?)?;
     }
     Ok(all)
 }
 
-/// The rounds that are needed, by object and number.
-fn rounds_needed(alloc: Global, all: &[Vec<Need>]) -> Result<Vec<RoundName>, AllocError> {
-    let mut rounds = Vec::new(alloc);
-    for needs in all {
-        for need in needs {
-            if let Need::Round(round) = need {
-                rounds.push(*round)?;
-            }
-        }
-    }
-    rounds.sort_by_key(|round| (round.object, round.k))?;
-    rounds.dedup_by_key(|round| (round.object, round.k));
-    Ok(rounds)
-}
-
-/// The node of a need.
-fn node_of(ranks: u32, rounds: &[RoundName], need: Need) -> u32 {
+/// The node of a need, where there are so many ranks.
+fn node_of(ranks: u32, need: &Need) -> u32
+    ensures { result ≡ node_of ranks need.now }
+{
     match need {
-        Need::Rank(rank) => rank,
-        Need::Round(round) => {
-            let place = rounds.partition_point(|one| (one.object, one.k) < (round.object, round.k));
-            ranks.saturating_add(place as u32)
-        }
+        Need::Rank(rank) => *rank,
+        Need::Round(_) => ranks,
     }
 }
 
-/// The nodes of the needs, each once, in rising order.
-fn nodes_of(
-    alloc: Global,
-    ranks: u32,
-    rounds: &[RoundName],
-    needs: &[Need],
-) -> Result<Vec<u32>, AllocError> {
+/// The nodes of needs.
+fn nodes_of(alloc: Global, ranks: u32, needs: &[Need]) -> Result<Vec<u32>, AllocError>
+    ensures { IfOk result (λ nodes. nodes.items ≡ map (node_of ranks) needs.now) }
+{
     let mut nodes = Vec::new(alloc);
     for need in needs {
-        nodes.push(node_of(ranks, rounds, *need))?;
+        nodes.push(node_of(ranks, need))?;
     }
-    nodes.sort()?;
-    nodes.dedup();
     Ok(nodes)
 }
 
-/// The graph of these conditions.
-pub(crate) fn graph_of(
-    alloc: Global,
-    held: &[bool],
-    able: &[bool],
-    conditions: &[Option<Condition>],
-) -> Result<Graph, AllocError> {
-    let all = all_needs(alloc, held, able, conditions)?;
-    let rounds = rounds_needed(alloc, &all)?;
-    let ranks = conditions.len() as u32;
-    let mut needs = Vec::new(alloc);
-    for of_rank in &all {
-        needs.push(nodes_of(alloc, ranks, &rounds, of_rank)?)?;
+/// The edges of these needs, and none from the rounds.
+fn edges_of(alloc: Global, ranks: u32, all: &[Vec<Need>]) -> Result<Vec<Vec<u32>>, AllocError>
+    ensures len { IfOk result (λ edges. vec_len edges ≡ length all.now + 1) }
+    ensures edges { IfOk result (λ edges. HaveEdges ranks all.now edges.items) }
+{
+    let mut edges = Vec::new(alloc);
+    for needs in all {
+        edges.push(nodes_of(alloc, ranks, needs)?)?;
     }
-    for _ in 0..rounds.len() {
-        needs.push(Vec::new(alloc))?;
-    }
-    let needed_by = turned(alloc, &needs)?;
-    Ok(Graph {
-        ranks,
-        rounds,
-        needs,
-        needed_by,
-    })
+    edges.push(Vec::new(alloc))?;
+    Ok(edges)
 }
 
-impl Graph {
-    /// The need that a node stands for.
-    pub fn need_at(&self, node: u32) -> Need {
-        match self.round_at(node) {
-            Some(round) => Need::Round(round),
-            None => Need::Rank(node),
-        }
-    }
-
-    /// The round of a node, where it is one.
-    pub fn round_at(&self, node: u32) -> Option<RoundName> {
-        let place = node.checked_sub(self.ranks)?;
-        self.rounds.get(place as usize).copied()
-    }
-
-    /// The nodes that need this one.
-    pub fn askers(&self, node: u32) -> &[u32] {
-        match self.needed_by.get(node as usize) {
-            Some(nodes) => nodes,
-            None => &[],
-        }
-    }
-
-    /// What a rank needs.
-    pub fn needs_of(&self, node: u32) -> &[u32] {
-        match self.needs.get(node as usize) {
-            Some(nodes) => nodes,
-            None => &[],
-        }
-    }
+/// The graph of what so many ranks need with these conditions.
+pub(crate) fn graph_of(
+    alloc: Global,
+    able: &[bool],
+    conditions: &[Option<Condition>],
+    ranks: u32,
+) -> Result<Graph, AllocError>
+    requires { ranks ≤ 2 ^ 31 }
+    ensures needs { IfOk result (λ g. map (λ needs. needs.items) g.needs.items ≡ map (needs_at able.now conditions.now) (range_with_len 0 ranks)) }
+    ensures len { IfOk result (λ g. vec_len g.edges ≡ ranks + 1) }
+    ensures edges { IfOk result (λ g. HaveEdges ranks g.needs.items g.edges.items) }
+    ensures same { IfOk result (λ g. vec_len g.askers ≡ vec_len g.edges) }
+    ensures askers { IfOk result (λ g. (r s : ℕ) → edge g.askers.items s r ≡ edge g.edges.items r s) }
+{
+    let needs = all_needs(alloc, able, conditions, ranks)?;
+    let edges = edges_of(alloc, ranks, &needs)?;
+    let askers = turned(alloc, &edges)?;
+    Ok(Graph {
+        needs,
+        edges,
+        askers,
+    })
 }

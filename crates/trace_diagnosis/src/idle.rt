@@ -1,13 +1,16 @@
 //! Persistent requests that aren't active: never started, or not again, or freed. Each is looked up as the message or the
 //! receive that a start of it would make.
 
+ghost use Rattle.std.specs.Prelude.{◌≡◌, not};
+ghost use Rattle.std.specs.BTreeSet.{contains};
+ghost use Rattle.std.specs.Ordering.{nat_cmp};
+
 use crate::calls::{call_named, named};
 use crate::inits::Inits;
-use crate::patterns::{Pattern, pattern_of, patterns_of};
-use crate::shelf::MOST_NEAR;
+use crate::unmatched::Run;
 use mpi_model::{Call, CommRef, Envelope, Layout, Message, Mode, OpName, Peer, Receive, Trust};
 use std::alloc::{AllocError, Global};
-use std::collections::BTreeMap;
+use std::collections::BTreeSet;
 use trace_know::Knowledge;
 use trace_ops::{RankOps, is_foreign};
 
@@ -18,21 +21,27 @@ pub(crate) struct Idle {
     pub receives: Vec<Receive>,
 }
 
-/// The inits of a rank whose requests are active, by number.
+/// The inits of a rank whose requests are active.
 fn active_inits(
     alloc: Global,
     know: &Knowledge,
     inits: &Inits,
     own: &RankOps,
-) -> Result<Vec<u64>, AllocError> {
-    let mut found = Vec::new(alloc);
+) -> Result<BTreeSet<u64>, AllocError> {
+    let mut found = BTreeSet::new(alloc);
     for post in own.active() {
         if let Some(init) = inits.started(know, post.1) {
-            found.push(init)?;
+            found.insert(init)?;
         }
     }
-    found.sort()?;
     Ok(found)
+}
+
+/// Whether the request that a call made isn't active.
+fn is_idle(active: &BTreeSet<u64>, call: u64) -> bool
+    ensures { result ≡ not (contains nat_cmp active.now call) }
+{
+    !active.contains(&call)
 }
 
 /// The members of the communicator that a call of a rank names, with its id.
@@ -47,12 +56,7 @@ fn group_of<'a>(
 }
 
 /// The message that an init describes.
-fn message_of(
-    layout: &Layout,
-    name: OpName,
-    mode: Mode,
-    e: Envelope,
-) -> Option<Message> {
+fn message_of(layout: &Layout, name: OpName, mode: Mode, e: Envelope) -> Option<Message> {
     let (comm, members) = group_of(layout, name.rank, name.call, e.comm)?;
     match e.peer {
         Peer::Rank(place) => {
@@ -101,28 +105,36 @@ fn receive_of(layout: &Layout, name: OpName, e: Envelope) -> Option<Receive> {
 
 impl Idle {
     /// Of all ranks.
-    pub fn of(
-        alloc: Global,
-        layout: &Layout,
-        know: &Knowledge,
-        inits: &Inits,
-        ops: &[RankOps],
-    ) -> Result<Idle, AllocError> {
+    pub fn of(alloc: Global, run: &Run<'_>, inits: &Inits) -> Result<Idle, AllocError> {
         let mut idle = Idle {
             messages: Vec::new(alloc),
             receives: Vec::new(alloc),
         };
-        for (r, own) in ops.iter().enumerate() {
-            let rank = r as u32;
-            if !inits.of_rank(rank).is_empty() {
-                let active = active_inits(alloc, know, inits, own)?;
-                idle.add_rank(alloc, layout, know, inits, rank, &active)?;
+        for rank in 0..run.ranks {
+            if let Some(own) = run.ops.get(rank as usize) {
+                idle.add_of(alloc, run, inits, rank, own)?;
             }
         }
         Ok(idle)
     }
 
-    /// And those of a rank.
+    /// And those of a rank that did this.
+    fn add_of(
+        &mut self,
+        alloc: Global,
+        run: &Run<'_>,
+        inits: &Inits,
+        rank: u32,
+        own: &RankOps,
+    ) -> Result<(), AllocError> {
+        if inits.of_rank(rank).is_empty() {
+            return Ok(());
+        }
+        let active = active_inits(alloc, run.know, inits, own)?;
+        self.add_rank(alloc, run.layout, run.know, inits, rank, &active)
+    }
+
+    /// And those of a rank with these active ones.
     fn add_rank(
         &mut self,
         alloc: Global,
@@ -130,7 +142,7 @@ impl Idle {
         know: &Knowledge,
         inits: &Inits,
         rank: u32,
-        active: &[u64],
+        active: &BTreeSet<u64>,
     ) -> Result<(), AllocError> {
         let mut calls = Vec::new(alloc);
         for made in inits.of_rank(rank) {
@@ -138,7 +150,7 @@ impl Idle {
         }
         calls.sort()?;
         for call in &calls {
-            if active.binary_search(call).is_err() {
+            if is_idle(active, *call) {
                 self.add(layout, know, named(rank, *call))?;
             }
         }
@@ -169,4 +181,3 @@ impl Idle {
         Ok(())
     }
 }
-

@@ -3,7 +3,7 @@
 //! The stuck ranks of an answer are exact and may be few: MPI leaves ways out of a mismatched collective call, and of a rank
 //! that computes, has died or polls. The diagnosis names what holds up ranks all the same. It is a value, which others print.
 //!
-//! - [`diagnosis`]: the value; [`diagnose`]: the way there
+//! - [`diagnosis`]: the value; [`whole`]: the way there
 //! - [`times`]: when it was; [`standing`]: where each rank stands; [`calls`]: the calls of a rank, as its events tell them
 //! - [`polls`]: which ranks poll, and for what; [`conditions`]: what each rank waits or polls for
 //! - [`holding`]: whether conditions hold, and what those need that don't; [`graph`]: who needs whom; [`roots`]: what holds
@@ -19,7 +19,6 @@
 mod before;
 mod calls;
 mod conditions;
-mod diagnose;
 mod diagnosis;
 mod doubts;
 mod firsts;
@@ -40,11 +39,12 @@ mod starved;
 mod taken;
 mod times;
 mod unmatched;
+mod whole;
 
-pub use diagnose::diagnose;
 pub use diagnosis::{
-    Beyond, CallGroup, Diagnosis, Doubts, Foreign, Held, Init, LastCall, LeftOver,
-    MismatchedRound, NearMessage, NearReceive, Need, OpenRound, Operation, Polled, Polling, Root,
-    RootKind, Rounds, Stand, Standing, Starving, Times, Unmatched, Waiting, Why,
+    Beyond, CallGroup, Diagnosis, Doubts, Foreign, Held, Init, LastCall, LeftOver, MismatchedRound,
+    NearMessage, NearReceive, Need, OpenRound, Operation, Polled, Polling, Root, RootKind, Rounds,
+    Stand, Standing, Starving, Times, Unmatched, Waiting, Why,
 };
 pub use trace_stuck::RoundName;
+pub use whole::diagnose;

@@ -3,10 +3,73 @@
 //! A message and a receive differ in the tag, in the communicator, in the source that the receive names, or in the rank at
 //! which it looks, and agree in all else. What they agree in is a key under which one looks for the other.
 
+ghost use Rattle.std.specs.Prelude.{◌≡◌};
+ghost use Rattle.mpi_model.specs.Fit.{admits};
+ghost use Rattle.trace_diagnosis.specs.Near.{is_near, names, names_other};
+
 use crate::diagnosis::Why;
 use crate::shelf::{Key, Shelf, first_three};
-use mpi_model::{Message, Receive};
+use mpi_model::{Message, Receive, envelopes_fit};
 use std::alloc::{AllocError, Global};
+
+/// Whether a receive that may name a number takes this one.
+fn admits(named: Option<u32>, number: u32) -> bool
+    ensures { result ≡ admits named number }
+{
+    match named {
+        None => true,
+        Some(named) => named == number,
+    }
+}
+
+/// Whether the receive names another number than this.
+fn names_other(named: Option<u32>, number: u32) -> bool
+    ensures { result ≡ names_other named number }
+{
+    match named {
+        None => false,
+        Some(named) => named != number,
+    }
+}
+
+/// Whether the receive names this number.
+fn names(named: Option<u32>, number: u32) -> bool
+    ensures { result ≡ names named number }
+{
+    match named {
+        None => false,
+        Some(named) => named == number,
+    }
+}
+
+/// Whether it is a near miss of this sort.
+pub(crate) fn is_near(why: Why, m: &Message, q: &Receive) -> bool
+    ensures { result ≡ is_near why m.now q.now }
+{
+    match why {
+        Why::Tag => {
+            m.comm == q.comm
+                && m.to == q.at
+                && admits(q.source, m.from)
+                && names_other(q.tag, m.tag)
+        }
+        Why::Comm => {
+            m.comm != q.comm && m.to == q.at && admits(q.source, m.from) && admits(q.tag, m.tag)
+        }
+        Why::Source => {
+            m.comm == q.comm
+                && m.to == q.at
+                && names_other(q.source, m.from)
+                && admits(q.tag, m.tag)
+        }
+        Why::Dest => {
+            m.comm == q.comm && m.to != q.at && names(q.source, m.from) && admits(q.tag, m.tag)
+        }
+        Why::Taken => envelopes_fit(m, q),
+        Why::Postponed => envelopes_fit(m, q),
+        Why::Idle => envelopes_fit(m, q),
+    }
+}
 
 /// A key under which a thing looks for others, and the value in which they have to differ.
 #[derive(Clone, Copy, Debug, PartialEq, Eq)]

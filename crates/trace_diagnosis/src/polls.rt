@@ -4,26 +4,29 @@
 //! beyond, and its last calls are such polls and returned local calls, two polls at least; at the very end may stand a
 //! test or probe that hasn't returned.
 
+ghost use Rattle.std.specs.Prelude.{◌≡◌};
+ghost use Rattle.trace_diagnosis.specs.Polls.{is_poll, is_unsuccessful};
+
 use crate::calls::{Called, called_at, count_of};
-use mpi_model::{Call, Outs, ProbeEnvelope, Peer, CommRef};
+use mpi_model::{Call, CommRef, Outs, Peer, ProbeEnvelope};
 use std::alloc::{AllocError, Global};
 use std::collections::BTreeSet;
 use trace_know::Readable;
 
 /// Whether the call tests or probes, and doesn't wait.
-fn is_poll(call: &Call) -> bool {
+fn is_poll(call: &Call) -> bool
+    ensures { result ≡ is_poll call.now }
+{
     matches!(
         call,
-        Call::Test(_)
-            | Call::Testall(_)
-            | Call::Testany(_)
-            | Call::Testsome(_)
-            | Call::Improbe(_)
+        Call::Test(_) | Call::Testall(_) | Call::Testany(_) | Call::Testsome(_) | Call::Improbe(_)
     )
 }
 
 /// Whether a test or a probe has returned without success.
-fn is_unsuccessful(call: &Call, outs: &Outs) -> bool {
+fn is_unsuccessful(call: &Call, outs: &Outs) -> bool
+    ensures { result ≡ is_unsuccessful call.now outs.now }
+{
     match (call, outs) {
         (Call::Test(_), Outs::Flag(done, _)) => !*done,
         (Call::Testall(_), Outs::Flag(done, _)) => !*done,

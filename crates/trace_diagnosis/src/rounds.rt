@@ -1,5 +1,10 @@
 //! The rounds whose calls don't match, and those that some members haven't entered.
 
+ghost use Rattle.std.specs.Prelude.{◌≡◌, IfOk};
+ghost use Rattle.std.specs.List.Sorted.{IsPermutation};
+ghost use Rattle.trace_wait.specs.Rounds.{group};
+ghost use Rattle.trace_diagnosis.specs.Rounds.{HasMembers, entered, entered_at, has_entered, missing};
+
 use crate::calls::named;
 use crate::diagnosis::{CallGroup, MismatchedRound, OpenRound, Rounds};
 use mpi_model::{CollectiveFunction, Layout};
@@ -16,25 +21,45 @@ struct Entrant {
 }
 
 /// The members of an object, in rising order.
-fn members_rising(alloc: Global, layout: &Layout, object: u32) -> Result<Vec<u32>, AllocError> {
-    let mut members = match layout.members(object) {
-        Some(members) => Vec::from_slice(alloc, members)?,
-        None => Vec::new(alloc),
-    };
+fn members_rising(alloc: Global, layout: &Layout, object: u32) -> Result<Vec<u32>, AllocError>
+    ensures { IfOk result (λ members. IsPermutation (group layout.now.comms object) members.items) }
+{
+    let mut members = Vec::from_slice(alloc, members_of(layout, object))?;
     members.sort()?;
     Ok(members)
 }
 
-/// The call by which the rank entered a round, where it has.
-fn entrant_at(entries: &Entries<'_>, round: RoundName, rank: u32) -> Option<Entrant> {
-    let entered = entries.on(rank, round.object).get(round.k as usize)?;
-    Some(Entrant {
-        rank,
-        entered: *entered,
-    })
+/// The members of an object, in the order of their ranks in it.
+fn members_of<'a>(layout: &'a Layout, object: u32) -> &'a [u32]
+    ensures { result.now ≡ group layout.now.comms object }
+{
+    match layout.members(object) {
+        Some(members) => members,
+        None => &[],
+    }
 }
 
-/// The members that have entered a round, in rising order.
+/// The call by which the rank entered a round, where it has.
+fn entered_at(entries: &Entries<'_>, round: RoundName, rank: u32) -> Option<Entered>
+    ensures { result ≡ entered_at entries.now round rank }
+{
+    entries
+        .on(rank, round.object)
+        .get(round.k as usize)
+        .copied()
+}
+
+/// Whether the rank has entered a round.
+fn has_entered(entries: &Entries<'_>, round: RoundName, rank: u32) -> bool
+    ensures { result ≡ has_entered entries.now round rank }
+{
+    match entered_at(entries, round, rank) {
+        Some(_) => true,
+        None => false,
+    }
+}
+
+/// The members that have entered a round, with their calls.
 fn entrants_of(
     alloc: Global,
     entries: &Entries<'_>,
@@ -43,8 +68,47 @@ fn entrants_of(
 ) -> Result<Vec<Entrant>, AllocError> {
     let mut found = Vec::new(alloc);
     for rank in members {
-        if let Some(entrant) = entrant_at(entries, round, *rank) {
-            found.push(entrant)?;
+        if let Some(entered) = entered_at(entries, round, *rank) {
+            found.push(Entrant {
+                rank: *rank,
+                entered,
+            })?;
+        }
+    }
+    Ok(found)
+}
+
+/// Those of the members that have entered the round.
+fn entered_of(
+    alloc: Global,
+    entries: &Entries<'_>,
+    members: &[u32],
+    round: RoundName,
+) -> Result<Vec<u32>, AllocError>
+    ensures { IfOk result (λ found. found.items ≡ entered entries.now round members.now) }
+{
+    let mut found = Vec::new(alloc);
+    for rank in members {
+        if has_entered(entries, round, *rank) {
+            found.push(*rank)?;
+        }
+    }
+    Ok(found)
+}
+
+/// Those of the members that haven't entered the round.
+fn missing_of(
+    alloc: Global,
+    entries: &Entries<'_>,
+    members: &[u32],
+    round: RoundName,
+) -> Result<Vec<u32>, AllocError>
+    ensures { IfOk result (λ found. found.items ≡ missing entries.now round members.now) }
+{
+    let mut found = Vec::new(alloc);
+    for rank in members {
+        if !has_entered(entries, round, *rank) {
+            found.push(*rank)?;
         }
     }
     Ok(found)
@@ -69,11 +133,7 @@ fn ranks_of(alloc: Global, entrants: &[Entrant]) -> Result<Vec<u32>, AllocError>
 }
 
 /// The group of entrants whose calls match, of which this is the first.
-fn group_of(
-    alloc: Global,
-    first: &Entrant,
-    entrants: &[Entrant],
-) -> Result<CallGroup, AllocError> {
+fn group_of(alloc: Global, first: &Entrant, entrants: &[Entrant]) -> Result<CallGroup, AllocError> {
     let ranks = ranks_of(alloc, entrants)?;
     Ok(CallGroup {
         function: first.entered.function,
@@ -86,7 +146,9 @@ fn group_of(
 /// How many of the entrants from a place on have calls that match the one there.
 fn run_from(entrants: &[Entrant], place: usize) -> usize {
     let mut end = place;
-    while end < entrants.len() && key_of(&entrants[end].entered) == key_of(&entrants[place].entered) {
+    while end < entrants.len()
+        && key_of(&entrants[end].entered) == key_of(&entrants[place].entered)
+    {
         end += 1;
     }
     end - place
@@ -121,22 +183,6 @@ fn mismatched_of(
     Ok(MismatchedRound { round, groups })
 }
 
-/// Those of the members that haven't entered the round.
-fn missing_of(
-    alloc: Global,
-    entries: &Entries<'_>,
-    members: &[u32],
-    round: RoundName,
-) -> Result<Vec<u32>, AllocError> {
-    let mut missing = Vec::new(alloc);
-    for rank in members {
-        if entrant_at(entries, round, *rank).is_none() {
-            missing.push(*rank)?;
-        }
-    }
-    Ok(missing)
-}
-
 /// A round that some members haven't entered.
 fn open_of(
     alloc: Global,
@@ -145,10 +191,13 @@ fn open_of(
     round: RoundName,
     function: CollectiveFunction,
     root: Option<u32>,
-) -> Result<OpenRound, AllocError> {
+) -> Result<OpenRound, AllocError>
+    ensures name { IfOk result (λ o. o.round ≡ round) }
+    ensures call { IfOk result (λ o. (o.function ≡ function) × (o.root ≡ root)) }
+    ensures members { IfOk result (HasMembers layout.now entries.now) }
+{
     let members = members_rising(alloc, layout, round.object)?;
-    let entrants = entrants_of(alloc, entries, &members, round)?;
-    let entered = ranks_of(alloc, &entrants)?;
+    let entered = entered_of(alloc, entries, &members, round)?;
     let missing = missing_of(alloc, entries, &members, round)?;
     Ok(OpenRound {
         round,
@@ -190,7 +239,10 @@ pub(crate) fn rounds_of(
 }
 
 /// The ranks of a mismatched round's groups, in rising order.
-pub(crate) fn ranks_entered(alloc: Global, round: &MismatchedRound) -> Result<Vec<u32>, AllocError> {
+pub(crate) fn ranks_entered(
+    alloc: Global,
+    round: &MismatchedRound,
+) -> Result<Vec<u32>, AllocError> {
     let mut ranks = Vec::new(alloc);
     for group in &round.groups {
         ranks.extend_from_slice(&group.ranks)?;

@@ -7,6 +7,8 @@
 //! of these may have taken stays so for all later receives: so of the messages under one pattern those in front are passed
 //! over once.
 
+ghost use Rattle.std.specs.Prelude.{◌≡◌};
+
 use crate::calls::named;
 use crate::conditions::Poller;
 use crate::loose::is_unpaired;
@@ -99,21 +101,37 @@ fn candidates(
     alloc: Global,
     layout: &Layout,
     ops: &[RankOps],
+    ranks: u32,
     pairs: &PairsByReceive<'_>,
     pollers: &[Poller<'_>],
 ) -> Result<Vec<Receive>, AllocError> {
     let mut found = Vec::new(alloc);
     let mut place = 0;
-    for (r, own) in ops.iter().enumerate() {
-        let rank = r as u32;
-        let pending = pending_of(alloc, rank, own)?;
-        push_receives(&pending, pairs, &mut place, own.receives(), &mut found)?;
-        if let Some((number, call)) = own.waiting() {
-            push_probe(layout, rank, number, call, &mut found)?;
+    for rank in 0..ranks {
+        if let Some(own) = ops.get(rank as usize) {
+            push_of_rank(alloc, layout, rank, own, pairs, &mut place, &mut found)?;
         }
         push_polled(layout, pollers, rank, &mut found)?;
     }
     Ok(found)
+}
+
+/// Adds those of a rank, but for what it polls for.
+fn push_of_rank(
+    alloc: Global,
+    layout: &Layout,
+    rank: u32,
+    own: &RankOps,
+    pairs: &PairsByReceive<'_>,
+    place: &mut usize,
+    found: &mut Vec<Receive>,
+) -> Result<(), AllocError> {
+    let pending = pending_of(alloc, rank, own)?;
+    push_receives(&pending, pairs, place, own.receives(), found)?;
+    if let Some((number, call)) = own.waiting() {
+        push_probe(layout, rank, number, call, found)?;
+    }
+    Ok(())
 }
 
 /// Adds the probes that a rank polls for.
@@ -219,12 +237,15 @@ pub(crate) fn starving_of(
     alloc: Global,
     layout: &Layout,
     ops: &[RankOps],
+    ranks: u32,
     pairs: &PairsByReceive<'_>,
     reaches: &Reaches<'_>,
     pollers: &[Poller<'_>],
     messages: &[Message],
-) -> Result<Vec<Receive>, AllocError> {
-    let candidates = candidates(alloc, layout, ops, pairs, pollers)?;
+) -> Result<Vec<Receive>, AllocError>
+    requires { reaches.now ≡ ops.now }
+{
+    let candidates = candidates(alloc, layout, ops, ranks, pairs, pollers)?;
     let mut places = places_for(alloc, &candidates)?;
     put_messages(&mut places, messages)?;
     let mut ends = Ends::empty(alloc);

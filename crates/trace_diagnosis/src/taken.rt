@@ -81,10 +81,7 @@ fn names_less(leaves: Leaves, pattern: Pattern) -> bool {
 }
 
 /// The receives by their patterns.
-fn askers_of(
-    alloc: Global,
-    receives: &[Receive],
-) -> Result<BTreeMap<Pattern, Askers>, AllocError> {
+fn askers_of(alloc: Global, receives: &[Receive]) -> Result<BTreeMap<Pattern, Askers>, AllocError> {
     let mut askers: BTreeMap<Pattern, Askers> = BTreeMap::new(alloc);
     for (place, q) in receives.iter().enumerate() {
         let pattern = pattern_of(q);
@@ -188,11 +185,7 @@ fn does_name_less(know: &Knowledge, inits: &Inits, by: OpName, pattern: Pattern)
 type Opened<'a> = BTreeMap<Pattern, Vec<&'a Receive>>;
 
 /// Adds an open receive.
-fn add_open<'a>(
-    alloc: Global,
-    opened: &mut Opened<'a>,
-    q: &'a Receive,
-) -> Result<(), AllocError> {
+fn add_open<'a>(alloc: Global, opened: &mut Opened<'a>, q: &'a Receive) -> Result<(), AllocError> {
     if let Some(there) = opened.get_mut(&pattern_of(q)) {
         there.push(q)?;
         return Ok(());

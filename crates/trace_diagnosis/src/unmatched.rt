@@ -1,13 +1,19 @@
 //! Messages that are left over, receives that starve, and the nearest misses of both.
 
+ghost use Rattle.std.specs.Prelude.{◌≡◌, ◌++◌, All, IfOk, OnOk, map};
+ghost use Rattle.std.specs.List.{flat_map};
+ghost use Rattle.trace_diagnosis.specs.LeftOver.{unfinished_of};
+ghost use Rattle.trace_diagnosis.specs.Missed.{IsNearMessage, IsNearReceive};
+
 use crate::before::Through;
-use crate::conditions::{Poller, is_up};
+use crate::conditions::Poller;
 use crate::diagnosis::{LeftOver, NearMessage, NearReceive, Starving, Unmatched, Why};
 use crate::firsts::Firsts;
+use crate::holding::is_up;
 use crate::idle::Idle;
 use crate::inits::Inits;
-use crate::loose::{free_ends, loose_messages};
-use crate::near::{NearMessages, NearReceives};
+use crate::loose::{left_over_of, loose_messages};
+use crate::near::{NearMessages, NearReceives, is_near};
 use crate::patterns::{Pattern, pattern_of, patterns_of};
 use crate::shelf::first_three;
 use crate::starved::starving_of;
@@ -16,19 +22,37 @@ use mpi_model::{Layout, Message, OpName, Receive};
 use std::alloc::{AllocError, Global};
 use trace_know::Knowledge;
 use trace_ops::{RankOps, State};
-use trace_pair::{Ends, PairTable, Reaches, reaches_of};
+use trace_pair::{PairTable, Reaches, reaches_of};
+use trace_wait::ends_asked;
+
+/// Adds the requests that are active, where the rank has ended.
+fn push_unfinished(own: &RankOps, names: &mut Vec<OpName>) -> Result<(), AllocError>
+    ensures { OnOk result (names.new.items ≡ names.old.items ++ unfinished_of own.now) }
+{
+    if own.state() == State::Ended {
+        push_posts(own.active(), names)?;
+    }
+    Ok(())
+}
+
+/// Adds the operations of active requests.
+fn push_posts(active: &[(i64, OpName)], names: &mut Vec<OpName>) -> Result<(), AllocError>
+    ensures { OnOk result (names.new.items ≡ names.old.items ++ map (λ p. p.1) active.now) }
+{
+    for post in active {
+        names.push(post.1)?;
+    }
+    Ok(())
+}
 
 /// The requests of ranks that have ended which were active at their end.
-pub(crate) fn unfinished_of(alloc: Global, ops: &[RankOps]) -> Result<Vec<OpName>, AllocError> {
+pub(crate) fn unfinished_in(alloc: Global, ops: &[RankOps]) -> Result<Vec<OpName>, AllocError>
+    ensures { IfOk result (λ names. names.items ≡ flat_map unfinished_of ops.now) }
+{
     let mut names = Vec::new(alloc);
     for own in ops {
-        if own.state() == State::Ended {
-            for post in own.active() {
-                names.push(post.1)?;
-            }
-        }
+        push_unfinished(own, &mut names)?;
     }
-    names.sort()?;
     Ok(names)
 }
 
@@ -37,28 +61,13 @@ pub(crate) fn unfinished_of(alloc: Global, ops: &[RankOps]) -> Result<Vec<OpName
 pub(crate) struct Run<'a> {
     pub layout: &'a Layout,
     pub know: &'a Knowledge,
+    pub ranks: u32,
     pub ops: &'a [RankOps],
     pub pairs: &'a PairTable,
     pub pollers: &'a [Poller<'a>],
     /// Of each rank, whether it waits or polls.
     pub waits: &'a [bool],
     pub held: &'a [bool],
-}
-
-/// The sure messages that no receive in no pair may have taken.
-fn left_over_of(
-    alloc: Global,
-    ends: &Ends,
-    reaches: &Reaches<'_>,
-    messages: &[Message],
-) -> Result<Vec<Message>, AllocError> {
-    let mut left = Vec::new(alloc);
-    for m in messages {
-        if m.trust.is_sure() && !ends.may_take(reaches, m) {
-            left.push(*m)?;
-        }
-    }
-    Ok(left)
 }
 
 impl<'a> Run<'a> {
@@ -81,12 +90,13 @@ struct Found {
 fn found_in(alloc: Global, run: &Run<'_>, reaches: &Reaches<'_>) -> Result<Found, AllocError> {
     let received = run.pairs.by_receive(alloc)?;
     let loose = loose_messages(alloc, run.pairs, run.ops)?;
-    let ends = free_ends(alloc, &received, run.ops)?;
+    let ends = ends_asked(alloc, run.ops, &received)?;
     let left = left_over_of(alloc, &ends, reaches, &loose)?;
     let starving = starving_of(
         alloc,
         run.layout,
         run.ops,
+        run.ranks,
         &received,
         reaches,
         run.pollers,
@@ -111,35 +121,45 @@ fn asked_of(alloc: Global, found: &Found) -> Result<Vec<Pattern>, AllocError> {
     Ok(asked)
 }
 
-/// Adds the receives at these places.
+/// Adds the receives at these places that are near misses of the message.
 fn push_receives(
     why: Why,
+    m: &Message,
     receives: &[Receive],
     places: &[usize],
     near: &mut Vec<NearReceive>,
-) -> Result<(), AllocError> {
+) -> Result<(), AllocError>
+    ensures { OnOk result (All (IsNearReceive m.now) near.old.items → All (IsNearReceive m.now) near.new.items) }
+{
     for place in places {
         if let Some(q) = receives.get(*place) {
-            near.push(NearReceive { why, receive: *q })?;
+            if is_near(why, m, q) {
+                near.push(NearReceive { why, receive: *q })?;
+            }
         }
     }
     Ok(())
 }
 
-/// Adds the messages at these places.
+/// Adds the messages at these places that are near misses of the receive.
 fn push_messages(
     why: Why,
+    q: &Receive,
     messages: &[Message],
     places: &[usize],
     near: &mut Vec<NearMessage>,
-) -> Result<(), AllocError> {
+) -> Result<(), AllocError>
+    ensures { OnOk result (All (IsNearMessage q.now) near.old.items → All (IsNearMessage q.now) near.new.items) }
+{
     for place in places {
         if let Some(m) = messages.get(*place) {
-            near.push(NearMessage {
-                why,
-                message: *m,
-                by: None,
-            })?;
+            if is_near(why, m, q) {
+                near.push(NearMessage {
+                    why,
+                    message: *m,
+                    by: None,
+                })?;
+            }
         }
     }
     Ok(())
@@ -148,15 +168,20 @@ fn push_messages(
 /// Adds messages with what has or may have taken them.
 fn push_taken(
     why: Why,
+    q: &Receive,
     taken: &[TakenBy],
     near: &mut Vec<NearMessage>,
-) -> Result<(), AllocError> {
+) -> Result<(), AllocError>
+    ensures { OnOk result (All (IsNearMessage q.now) near.old.items → All (IsNearMessage q.now) near.new.items) }
+{
     for one in taken {
-        near.push(NearMessage {
-            why,
-            message: one.message,
-            by: Some(one.by),
-        })?;
+        if is_near(why, &one.message, q) {
+            near.push(NearMessage {
+                why,
+                message: one.message,
+                by: Some(one.by),
+            })?;
+        }
     }
     Ok(())
 }
@@ -222,14 +247,40 @@ impl AllReceives {
         found: &Found,
         idle: &Idle,
         m: &Message,
-    ) -> Result<Vec<NearReceive>, AllocError> {
+    ) -> Result<Vec<NearReceive>, AllocError>
+        ensures { IfOk result (λ near. All (IsNearReceive m.now) near.items) }
+    {
         let starving = &found.starving;
         let mut near = Vec::new(alloc);
-        push_receives(Why::Tag, starving, &self.tag.near(alloc, m)?, &mut near)?;
-        push_receives(Why::Comm, starving, &self.comm.near(alloc, m)?, &mut near)?;
-        push_receives(Why::Source, starving, &self.source.near(alloc, m)?, &mut near)?;
-        push_receives(Why::Dest, starving, &self.dest.near(alloc, m)?, &mut near)?;
-        push_receives(Why::Idle, &idle.receives, &self.idle_for(alloc, m)?, &mut near)?;
+        push_receives(Why::Tag, m, starving, &self.tag.near(alloc, m)?, &mut near)?;
+        push_receives(
+            Why::Comm,
+            m,
+            starving,
+            &self.comm.near(alloc, m)?,
+            &mut near,
+        )?;
+        push_receives(
+            Why::Source,
+            m,
+            starving,
+            &self.source.near(alloc, m)?,
+            &mut near,
+        )?;
+        push_receives(
+            Why::Dest,
+            m,
+            starving,
+            &self.dest.near(alloc, m)?,
+            &mut near,
+        )?;
+        push_receives(
+            Why::Idle,
+            m,
+            &idle.receives,
+            &self.idle_for(alloc, m)?,
+            &mut near,
+        )?;
         Ok(near)
     }
 }
@@ -297,16 +348,35 @@ impl<'a> AllMessages<'a> {
         idle: &Idle,
         at: usize,
         q: &Receive,
-    ) -> Result<Vec<NearMessage>, AllocError> {
+    ) -> Result<Vec<NearMessage>, AllocError>
+        ensures { IfOk result (λ near. All (IsNearMessage q.now) near.items) }
+    {
         let left = &found.left;
         let mut near = Vec::new(alloc);
-        push_messages(Why::Tag, left, &self.tag.near(alloc, q)?, &mut near)?;
-        push_messages(Why::Comm, left, &self.comm.near(alloc, q)?, &mut near)?;
-        push_messages(Why::Source, left, &self.source.near(alloc, q)?, &mut near)?;
-        push_messages(Why::Dest, left, &self.dest.near(alloc, q)?, &mut near)?;
-        push_taken(Why::Taken, taken_at(&self.taken, at), &mut near)?;
-        push_taken(Why::Postponed, &self.postponed_for(alloc, found, q)?, &mut near)?;
-        push_messages(Why::Idle, &idle.messages, self.idle.at(pattern_of(q)), &mut near)?;
+        push_messages(Why::Tag, q, left, &self.tag.near(alloc, q)?, &mut near)?;
+        push_messages(Why::Comm, q, left, &self.comm.near(alloc, q)?, &mut near)?;
+        push_messages(
+            Why::Source,
+            q,
+            left,
+            &self.source.near(alloc, q)?,
+            &mut near,
+        )?;
+        push_messages(Why::Dest, q, left, &self.dest.near(alloc, q)?, &mut near)?;
+        push_taken(Why::Taken, q, taken_at(&self.taken, at), &mut near)?;
+        push_taken(
+            Why::Postponed,
+            q,
+            &self.postponed_for(alloc, found, q)?,
+            &mut near,
+        )?;
+        push_messages(
+            Why::Idle,
+            q,
+            &idle.messages,
+            self.idle.at(pattern_of(q)),
+            &mut near,
+        )?;
         Ok(near)
     }
 }
@@ -376,10 +446,10 @@ pub(crate) fn unmatched_of(
     let found = found_in(alloc, run, &reaches)?;
     let asked = asked_of(alloc, &found)?;
     let through = Through::of(alloc, &asked, run.pairs, run.ops)?;
-    let idle = Idle::of(alloc, run.layout, run.know, inits, run.ops)?;
+    let idle = Idle::of(alloc, run, inits)?;
     let left_over = told_messages(alloc, run, &found, &idle, &through)?;
     let starving = told_receives(alloc, run, inits, &reaches, &found, &idle, &through)?;
-    let unfinished = unfinished_of(alloc, run.ops)?;
+    let unfinished = unfinished_in(alloc, run.ops)?;
     Ok(Unmatched {
         left_over,
         starving,
