@@ -63,7 +63,7 @@ impl<'a> Writer<'a> {
         self.put_site(rank, last.number);
     }
 
-    /// What ranks that stand alike stand in: `MPI_Barrier on MPI_COMM_WORLD (round 0) (call 5, main.c:10 in main, from 0.052 s on)`.
+    /// What ranks that stand alike stand in: `MPI_Barrier on MPI_COMM_WORLD (round 0, call 5, main.c:10 in main, from 0.052 s on)`.
     pub fn put_together(&mut self, rank: u32, last: &LastCall, group: &Group) {
         self.put_common(rank, last);
         self.put(b" (");
@@ -83,7 +83,7 @@ impl<'a> Writer<'a> {
         }
     }
 
-    /// `ranks 1 to 3: in MPI_Barrier on MPI_COMM_WORLD (round 0) (call 5, main.c:10 in main, from 0.052 s on)`.
+    /// `ranks 1 to 3: in MPI_Barrier on MPI_COMM_WORLD (round 0, call 5, main.c:10 in main, from 0.052 s on)`.
     pub fn put_group_line(&mut self, group: &Group) {
         let Some(rank) = group.ranks.as_slice().first().copied() else {
             return;
