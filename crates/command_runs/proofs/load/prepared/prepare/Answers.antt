@@ -1,9 +1,9 @@
-use Rattle.std.proofs.Common.{◌≡◌, ◌∙◌, ℕ, List, String, Global, ap, ap₂, inr, length, map, string_bytes, subst}
+use Rattle.std.proofs.Common.{◌≡◌, ◌∙◌, ℕ, List, String, Global, ap, ap₂, inr, length, map, refl, string_bytes, subst}
 use Rattle.mpi_model.specs.Layouts.{Holds}
+use Rattle.comm_makings.specs.Derived.{IsSound}
 use Rattle.comm_makings.specs.World.{world_of}
 use Rattle.comm_makings.specs.declared.calls.RankCalls.{RankCalls}
-use Rattle.run_files.specs.Values.{manifest_value}
-use Rattle.text_layouts.specs.Making.{IsFile, RefusesMaking, made_layout}
+use Rattle.text_layouts.specs.Making.{RefusesMaking, whole_texts}
 use Rattle.command_runs.specs.Prepared.{made_notes}
 use Rattle.command_runs.specs.TextCalls.{AllSay}
 use Rattle.command_runs.proofs.load.prepared.prepare.Goals as goal
@@ -15,9 +15,7 @@ returns-in-Err-clause-err g c =
     let told = c.in_ok-all.ensures.ok in
     let say : AllSay (g.O.Opener.file c.args.files.now) (map string_bytes texts) ranks told.0 =
     subst (λ (ts : List (String Global)). AllSay (g.O.Opener.file c.args.files.now) (map string_bytes ts) ranks told.0) c.deref.ensures.value told.1 in
-    let refuses : RefusesMaking c.args.sends (map string_bytes texts) ranks c.in-Err.fault =
-    subst (λ (rs : List RankCalls). RefusesMaking c.args.sends (map string_bytes texts) rs c.in-Err.fault) c.deref-3.ensures.value
-    (subst (λ (ts : List (String Global)). RefusesMaking c.args.sends (map string_bytes ts) c.deref-3.result.now c.in-Err.fault) c.deref-2.ensures.value c.in-Err.ensures.fault) in
+    let refuses : RefusesMaking ranks c.in-Err.fault = subst (λ (rs : List RankCalls). RefusesMaking rs c.in-Err.fault) c.deref-3.ensures.value c.in-Err.ensures.fault in
     inr (map string_bytes texts, (c.in_ok-texts.by_digits, c.in_ok-texts.ensures.ok), c.in_ok-texts.ensures.words, inr (ranks, (told.0, say), refuses))
 
 pub returns-clause-made : goal.returns-clause-made
@@ -29,12 +27,12 @@ returns-clause-made g c =
     subst (λ (ts : List (String Global)). AllSay (g.O.Opener.file c.args.files.now) (map string_bytes ts) ranks told.0) c.deref.ensures.value told.1 in
     let made = c.in-Ok.made in
     let are : c.deref-3.result.now ≡ ranks = c.deref-3.ensures.value in
-    let layout : Holds (length ranks) made.derived.world c.args.sends made.derived.comms.items made.layout =
-    subst (λ (rs : List RankCalls). Holds (length rs) made.derived.world c.args.sends made.derived.comms.items made.layout) are c.in-Ok.ensures.layout in
-    let layout_file : IsFile (made_layout (length ranks) c.args.sends made.derived) made.layout_file.items =
-    subst (λ (rs : List RankCalls). IsFile (made_layout (length rs) c.args.sends made.derived) made.layout_file.items) are c.in-Ok.ensures.layout_file in
-    let manifest_file : IsFile (manifest_value (map string_bytes texts)) made.manifest_file.items =
-    subst (λ (ts : List (String Global)). IsFile (manifest_value (map string_bytes ts)) made.manifest_file.items) c.deref-2.ensures.value c.in-Ok.ensures.manifest_file in (
+    let layout : Holds (length ranks) made.derived.world c.args.sends made.derived.comms.items made.input.layout =
+    subst (λ (rs : List RankCalls). Holds (length rs) made.derived.world c.args.sends made.derived.comms.items made.input.layout) are c.in-Ok.ensures.layout in
+    let sound : IsSound (world_of ranks) ranks made.derived.comms.items =
+    subst (λ (rs : List RankCalls). IsSound (world_of rs) rs made.derived.comms.items) are c.in-Ok.ensures.sound in
+    let manifest : made.input.manifest ≡ whole_texts (map string_bytes texts) =
+    c.in-Ok.ensures.manifest ∙ ap (λ (ts : List (String Global)). whole_texts (map string_bytes ts)) c.deref-2.ensures.value in (
       record {
         by_digits = c.in_ok-texts.by_digits;
         names = map string_bytes texts;
@@ -43,10 +41,11 @@ returns-clause-made g c =
         calls = told.0;
         say = say;
         world = c.in-Ok.ensures.world ∙ ap world_of are;
+        sound = sound;
         layout = layout;
-        layout_file = layout_file;
-        manifest_file = manifest_file;
+        manifest = manifest;
       },
+      refl,
       c.in_ok-notes.ensures
           ∙ ap₂ (λ (n k : ℕ). made_notes c.in_ok-texts.by_digits n k made) layout.same_ranks told.2,
     )

@@ -16,7 +16,7 @@ returns-in_err-read_strangers-clause-err g c =
     let file = g.O.Opener.file c.args.run.now.files.now in
     let ranks = c.args.run.now.layout.now.ranks in
     let pieces = c.args.pieces.now in
-    let end = c.in_ok-told.field-0.1 in
+    let end = c.in_ok-told.end in
     let told = c.in_ok-told.ensures.ok in
     let refuses : RefusesPieces file ranks (slice_range pieces end (length pieces)) c.in_err-read_strangers.field-0.0 = c.in_err-read_strangers.ensures.err in
     handed_on c.from_residual-in_err-read_strangers.result _ _ c.from_residual-in_err-read_strangers.ensures.1
@@ -27,7 +27,7 @@ pub returns-clause-ok : goal.returns-clause-ok
 returns-clause-ok g c =
     let file = g.O.Opener.file c.args.run.now.files.now in
     let pieces = c.args.pieces.now in
-    let end = c.in_ok-told.field-0.1 in
+    let end = c.in_ok-told.end in
     let told = c.in_ok-told.ensures.ok in
     let rest : IsKnown file (slice_range pieces end (length pieces)) empty = c.in_ok-read_strangers.ensures.ok in
     let all : IsKnown file pieces (join told.view empty) = subst (λ (ps : List PieceParts). IsKnown file ps (join told.view empty)) (both_parts pieces end)
@@ -39,7 +39,7 @@ returns-clause-inside g c =
     let file = g.O.Opener.file c.args.run.now.files.now in
     let ranks = c.args.run.now.layout.now.ranks in
     let pieces = c.args.pieces.now in
-    let end = c.in_ok-told.field-0.1 in
+    let end = c.in_ok-told.end in
     let rest : All (IsInside file ranks) (slice_range pieces end (length pieces)) = c.in_ok-read_strangers.ensures.inside in
     subst (λ (ps : List PieceParts). All (IsInside file ranks) ps) (both_parts pieces end)
     (All-append (IsInside file ranks) (take end pieces) (slice_range pieces end (length pieces)) (inside_below file ranks (take end pieces) c.in_ok-told.ensures.ok.below) rest)

@@ -39,10 +39,9 @@ returns-clause-ok g c =
     let file = g.O.Opener.file c.args.run.now.files.now in
     let ranks = c.args.run.now.layout.now.ranks in
     let m = c.args.run.now.manifest.now in
-    let noted = c.in_ok-gathered.field-0 in
     let tell : TellPacked file ranks m.packed c.in_ok-packed.packed = rw c.packed.ensures at c.in_ok-packed.ensures.ok in
-    let known : IsKnown file m.pieces noted.0.know = rw c.pieces.ensures at c.in_ok-gathered.ensures.ok in
+    let known : IsKnown file m.pieces c.in_ok-gathered.gathered.know = rw c.pieces.ensures at c.in_ok-gathered.ensures.ok in
     let inside : All (IsInside file ranks) m.pieces = rw c.pieces.ensures at c.in_ok-gathered.ensures.inside in
-    let notes : AreNotesOf file m.pieces noted.1.items = rw c.pieces.ensures at c.in_ok-gathered.ensures.notes in
+    let notes : AreNotesOf file m.pieces c.in_ok-gathered.notes.items = rw c.pieces.ensures at c.in_ok-gathered.ensures.notes in
     let texts : IsKnown file m.pieces c.in_ok-texts.texts = subst (λ (v : View). IsKnown file m.pieces v) (sym c.in_ok-texts.ensures) known in
     ((c.in_ok-know.know, all_told file ranks m c.in_ok-packed.packed c.in_ok-texts.texts c.in_ok-know.know tell texts inside c.in_ok-know.ensures.know, c.in_ok-node.ensures), notes)
