@@ -6,7 +6,7 @@
 //! in `specs/Program.antt`, in `verb_named` and in `program`. Whether the files of a verb are a layout
 //! and a manifest or texts stands in the files, and is not asked here.
 //!
-//! Its tests are rows of `tests/inputs.txt` and cases of `tests/cases/`, which the built program runs.
+//! Its tests are rows of `tests/rows/inputs.txt` and cases of `tests/cases/`, which the built program runs.
 #![tactic(auto)]
 
 ghost use Rattle.std.specs.Prelude.{◌≡◌, [], IfErr, IfOk, OnOk, Some, codes, false, option_and_then, option_map};

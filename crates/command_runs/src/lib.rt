@@ -33,7 +33,7 @@
 //! | a fault and its line ([`faults::fault`], of texts [`faults::init_fault`]) | `specs/FaultLines.antt`, `InitFaults.antt` |
 //! | what is said below that line ([`faults::advice`], [`faults::init_advice`], [`faults::sentences`]), by what was [`faults::found`] | `specs/Advice.antt`, `InitAdvice.antt`, `Sentences.antt`, `ShownBytes.antt` |
 //!
-//! Its tests are in `tests/cases/`, `tests/inputs.txt` and `tests/inits.txt`, which the built program runs;
+//! Its tests are in `tests/cases/`, `tests/rows/inputs.txt` and `tests/rows/inits.txt`, which the built program runs;
 //! `crates/command_runs_tests` has what only files in memory show.
 #![tactic(auto)]
 

@@ -18,7 +18,7 @@
 //! - [`collect`], over events in [`parts`], and [`tally`]: two sinks; [`laws`]: what holds of walks over whole texts
 //!
 //! Its tests are in the crate `reading_tests`; calls that are refused, by each parameter of each function, are in
-//! `tests/functions.txt`.
+//! `tests/rows/functions.txt`.
 #![tactic(auto)]
 
 mod collect;

@@ -1,6 +1,6 @@
 //! Nodes, worlds and crews where memory is refused. What is refused leaves what its contract says, and the test goes on with
 //! it: so it passes whichever request is refused, and where none is. A request of a helper in `fixture` stops it instead.
-//! `tests/run_refusals` refuses each request of these tests in turn.
+//! `tests/run/run_refusals` refuses each request of these tests in turn.
 
 use crate::crew::{CALL, Row, pieces};
 use crate::fixture::{Does, Piece, layout, layout_of, report_of, segment, shared};

@@ -1,5 +1,5 @@
 //! A call after one that has not returned, which no text has. What the numbers -1 and -2 mean in calls is data in
-//! `tests/frames.txt`.
+//! `tests/rows/frames.txt`.
 
 use dumpi_calls::{CallSink, Collect};
 use mpi_model::{Call, Stamp};

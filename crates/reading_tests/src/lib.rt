@@ -1,7 +1,7 @@
 //! Tests of `mpi_model`, `dumpi_text`, `dumpi_calls` and `trace_know`: of what no contract of theirs says and
 //! no run of the program shows.
 //!
-//! What a text says to a user stands in `tests/texts.txt`, as rows that `tests/run_texts` gives to
+//! What a text says to a user stands in `tests/rows/texts.txt`, as rows that `tests/run/run_texts` gives to
 //! the built program. docs/gate.md says what makes a test cheap to prove. A failure names its row.
 //!
 //! | File | Tests |

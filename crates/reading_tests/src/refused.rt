@@ -1,4 +1,4 @@
-//! A text that is refused memory, which ends for good. `tests/run_refusals` refuses each request of this test in
+//! A text that is refused memory, which ends for good. `tests/run/run_refusals` refuses each request of this test in
 //! turn. That a refused take or join leaves what was known, and gives back what was taken, is said by their contracts.
 
 use crate::failing::TEXT;

@@ -14,7 +14,7 @@
 //! | [`write`] | `layout`, `numbers`, `manifest`: the bytes of both files; `values`: numbers and lists in them | `Values.antt` |
 //! | [`store`] | where both files are kept, or neither; [`folder`]: as files of the system | `Stores.antt` |
 //!
-//! Its tests are rows of `tests/inputs.txt` and `tests/inits.txt`, which the built program runs.
+//! Its tests are rows of `tests/rows/inputs.txt` and `tests/rows/inits.txt`, which the built program runs.
 #![tactic(auto)]
 
 mod fault;

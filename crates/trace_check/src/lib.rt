@@ -14,7 +14,7 @@
 //! - [`lines`]: the two lines that say so
 //! - [`checker`]: what is checked, from pieces to these lines
 //!
-//! Its tests are in `tests/cases/`, which the built program runs, and `tests/run_storms`.
+//! Its tests are in `tests/cases/`, which the built program runs, and `tests/run/run_storms`.
 #![tactic(auto)]
 
 mod checker;

@@ -22,7 +22,7 @@
 //! call which waits returns.
 //!
 //! Its tests are in `crates/node_tests/src/exchange.rt`, `socket.rt` and `unplugged.rt`, in `tests/cases/` and in
-//! `tests/run_clusters`.
+//! `tests/run/run_clusters`.
 #![tactic(auto)]
 
 mod crews;

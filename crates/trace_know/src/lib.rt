@@ -24,7 +24,7 @@
 //! - [`knowledge`]: all that is known; [`gathering`]: segments that come in any order
 //! - [`laws`]: what holds of joins and views, as contracts of calls that do nothing
 //!
-//! Its tests are in the crate `reading_tests`; pieces that touch or contradict each other are in `tests/texts.txt`.
+//! Its tests are in the crate `reading_tests`; pieces that touch or contradict each other are in `tests/rows/texts.txt`.
 #![tactic(auto)]
 
 mod boxed;

@@ -23,7 +23,7 @@
 //! - `ops::gather`: the way from what is known to all of that
 //! - [`laws`]: how a rank's ops grow with its readable events, as contracts of calls that do nothing
 //!
-//! Its tests are the runs of `tests/runs.txt`.
+//! Its tests are the runs of `tests/rows/runs.txt`.
 #![tactic(auto)]
 
 mod active;

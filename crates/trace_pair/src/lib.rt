@@ -31,7 +31,7 @@
 //! - [`index`]: the index
 //! - [`laws`]: what makes the rules easy to believe, as contracts of calls that do nothing
 //!
-//! Its tests are the runs of `tests/runs.txt`.
+//! Its tests are the runs of `tests/rows/runs.txt`.
 #![tactic(auto)]
 
 mod ahead;

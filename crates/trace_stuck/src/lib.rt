@@ -31,7 +31,7 @@
 //! - [`release`]: the order of release; [`verdict`]: that order, and who is left
 //! - [`check`]: both checks; [`laws`]: what holds whatever the program does
 //!
-//! Its tests are the runs that hang in `tests/runs.txt`.
+//! Its tests are the runs that hang in `tests/rows/runs.txt`.
 #![tactic(auto)]
 
 mod askers;

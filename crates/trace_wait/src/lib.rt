@@ -23,7 +23,7 @@
 //!   [`requests`]: requests
 //! - [`waiting`]: the condition of each rank
 //!
-//! Its tests are the runs of `tests/runs.txt`.
+//! Its tests are the runs of `tests/rows/runs.txt`.
 #![tactic(auto)]
 
 mod active;

@@ -21,7 +21,7 @@
 //! - [`packed`]: knowledge of any size as frames one after another, and joined again
 //! - [`laws`]: what holds of frames, as the contract of a call that does nothing
 //!
-//! `tests/run_frames` tries it byte by byte.
+//! `tests/run/run_frames` tries it byte by byte.
 #![tactic(auto)]
 
 /// The field, or its fault: `?`, written out.

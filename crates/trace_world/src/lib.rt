@@ -18,7 +18,7 @@
 //! - [`laws`]: nodes that the same segments reached are equal, and equal states refuse the same steps, as
 //!   contracts
 //!
-//! Its tests are in `crates/node_tests/src/world.rt`, `tests/cases/` and `tests/run_replays`.
+//! Its tests are in `crates/node_tests/src/world.rt`, `tests/cases/` and `tests/run/run_replays`.
 #![tactic(auto)]
 
 mod copies;

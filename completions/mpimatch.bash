@@ -1,0 +1,34 @@
+# completions of mpimatch for bash, made by tools/words of its help
+_mpimatch() {
+    local word=${COMP_WORDS[COMP_CWORD]} before=${COMP_WORDS[COMP_CWORD - 1]} verb= words= files= at
+    local verbs="explain graph report replay cluster check pack init help"
+    for ((at = 1; at < COMP_CWORD; at++)); do
+        [[ " $verbs " == *" ${COMP_WORDS[at]} "* ]] && verb=${COMP_WORDS[at]} && break
+    done
+    COMPREPLY=()
+    case $verb:$before in
+        explain:--rank) return ;;
+        init:--sends) words="wait buffer" ;;
+        init:--layout) files=yes ;;
+        init:--manifest) files=yes ;;
+        *)
+            case $verb in
+                "") words="$verbs -h --help -V --version" ;;
+                help) words="$verbs" ;;
+                explain) words="--rank -h --help" files=yes ;;
+                graph) words="-h --help" files=yes ;;
+                report) words="--json -h --help" files=yes ;;
+                replay) words="-h --help" files=yes ;;
+                cluster) words="-h --help" files=yes ;;
+                check) words="-h --help" files=yes ;;
+                pack) words="-h --help" files=yes ;;
+                init) words="--sends --layout --manifest --force -h --help" files=yes ;;
+            esac
+            [[ $word == -* ]] && files= || { [[ $files ]] && words=; }
+            ;;
+    esac
+    [[ $words ]] && mapfile -t COMPREPLY < <(compgen -W "$words" -- "$word")
+    [[ $files ]] && mapfile -t COMPREPLY < <(compgen -f -- "$word") && compopt -o filenames 2>/dev/null
+    return 0
+}
+complete -F _mpimatch mpimatch

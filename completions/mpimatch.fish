@@ -1,0 +1,36 @@
+# completions of mpimatch for fish, made by tools/words of its help
+complete -c mpimatch -f
+complete -c mpimatch -n __fish_use_subcommand -a explain -d 'Says in words who is stuck, and which ranks hold up all others'
+complete -c mpimatch -n __fish_use_subcommand -a graph -d 'Draws for whom each stuck rank waits, as a graph for Graphviz'
+complete -c mpimatch -n __fish_use_subcommand -a report -d 'Prints who received what from whom, and which ranks are stuck'
+complete -c mpimatch -n __fish_use_subcommand -a replay -d 'Runs a schedule of nodes that exchange what they know, and prints the report of each'
+complete -c mpimatch -n __fish_use_subcommand -a cluster -d 'Reads the pieces of two nodes, which exchange what they know, and prints the report of each'
+complete -c mpimatch -n __fish_use_subcommand -a check -d 'Makes pairs and stuck ranks once more straight from the rules, and prints whether they agree'
+complete -c mpimatch -n __fish_use_subcommand -a pack -d 'Writes what the pieces tell together as bytes, which another run takes as a piece'
+complete -c mpimatch -n __fish_use_subcommand -a init -d 'Writes the layout and the manifest of a run, from the texts of all ranks'
+complete -c mpimatch -n __fish_use_subcommand -a help -d 'Print this message or the help of the given subcommand(s)'
+complete -c mpimatch -n __fish_use_subcommand -s h -l help -d 'Print help'
+complete -c mpimatch -n __fish_use_subcommand -s V -l version -d 'Print version'
+complete -c mpimatch -n '__fish_seen_subcommand_from help' -a 'explain graph report replay cluster check pack init help'
+complete -c mpimatch -n '__fish_seen_subcommand_from explain' -F
+complete -c mpimatch -n '__fish_seen_subcommand_from explain' -l rank -x -d 'Says what is known of this rank alone'
+complete -c mpimatch -n '__fish_seen_subcommand_from explain' -s h -l help -d 'Print help'
+complete -c mpimatch -n '__fish_seen_subcommand_from graph' -F
+complete -c mpimatch -n '__fish_seen_subcommand_from graph' -s h -l help -d 'Print help'
+complete -c mpimatch -n '__fish_seen_subcommand_from report' -F
+complete -c mpimatch -n '__fish_seen_subcommand_from report' -l json -d 'Prints the report as one JSON object'
+complete -c mpimatch -n '__fish_seen_subcommand_from report' -s h -l help -d 'Print help'
+complete -c mpimatch -n '__fish_seen_subcommand_from replay' -F
+complete -c mpimatch -n '__fish_seen_subcommand_from replay' -s h -l help -d 'Print help'
+complete -c mpimatch -n '__fish_seen_subcommand_from cluster' -F
+complete -c mpimatch -n '__fish_seen_subcommand_from cluster' -s h -l help -d 'Print help'
+complete -c mpimatch -n '__fish_seen_subcommand_from check' -F
+complete -c mpimatch -n '__fish_seen_subcommand_from check' -s h -l help -d 'Print help'
+complete -c mpimatch -n '__fish_seen_subcommand_from pack' -F
+complete -c mpimatch -n '__fish_seen_subcommand_from pack' -s h -l help -d 'Print help'
+complete -c mpimatch -n '__fish_seen_subcommand_from init' -F
+complete -c mpimatch -n '__fish_seen_subcommand_from init' -l sends -x -a 'wait buffer' -d 'Says how a send of standard mode completes: wait or buffer [default: wait]'
+complete -c mpimatch -n '__fish_seen_subcommand_from init' -l layout -r -F -d 'Names the file for the layout [default: layout.json]'
+complete -c mpimatch -n '__fish_seen_subcommand_from init' -l manifest -r -F -d 'Names the file for the manifest [default: manifest.json]'
+complete -c mpimatch -n '__fish_seen_subcommand_from init' -l force -d 'Writes over files of these names that are there'
+complete -c mpimatch -n '__fish_seen_subcommand_from init' -s h -l help -d 'Print help'
