@@ -189,8 +189,7 @@ its last ten calls that can be read, with their times and where their messages w
 "#;
 
 /// What the help of `graph` says below its arguments.
-const GRAPH_HELP: &str =
-    r#"Example: mpimatch graph layout.json manifest.json | dot -Tsvg >hang.svg
+const GRAPH_HELP: &str = r#"Example: mpimatch graph layout.json manifest.json | dot -Tsvg >hang.svg
 
 It prints a graph in the language of Graphviz, whose dot draws it: the ranks that wait, and what holds
 them up. Ranks that stand alike and need the same share a node. What holds up the run is filled, with a
@@ -692,12 +691,7 @@ fn verb_of(name: &str) -> Option<Verb>
 }
 
 /// The verb with its flags, where those are set; none where a rank is no number, which `clap` has seen to.
-fn in_form(
-    verb: Verb,
-    json: Option<&str>,
-    all: Option<&str>,
-    rank: Option<&str>,
-) -> Option<Verb>
+fn in_form(verb: Verb, json: Option<&str>, all: Option<&str>, rank: Option<&str>) -> Option<Verb>
     ensures { result ≡ in_form verb (text_of json.entry) (text_of all.entry) (text_of rank.entry) }
 {
     match (verb, json, all, rank) {

@@ -66,11 +66,19 @@ impl<'a> Writer<'a> {
         match call {
             Call::Send(_, envelope) | Call::Isend(_, envelope) | Call::SendInit(_, envelope) => {
                 self.put(b", ");
-                self.put_counted(envelope.envelope().count as usize, b" element", b" elements");
+                self.put_counted(
+                    envelope.envelope().count as usize,
+                    b" element",
+                    b" elements",
+                );
             }
             Call::Recv(envelope) | Call::Irecv(envelope) | Call::RecvInit(envelope) => {
                 self.put(b", at most ");
-                self.put_counted(envelope.envelope().count as usize, b" element", b" elements");
+                self.put_counted(
+                    envelope.envelope().count as usize,
+                    b" element",
+                    b" elements",
+                );
             }
             Call::Sendrecv(exchange) => {
                 self.put(b", ");
@@ -113,7 +121,11 @@ impl<'a> Writer<'a> {
                 self.put(b"; ..");
                 return;
             }
-            self.put(if i == 0 { b"".as_slice() } else { b"; ".as_slice() });
+            self.put(if i == 0 {
+                b"".as_slice()
+            } else {
+                b"; ".as_slice()
+            });
             self.put_operation(*name);
         }
     }

@@ -129,9 +129,8 @@ fn without<'a>(name: &'a [u8], ending: &[u8]) -> Option<&'a [u8]> {
 /// Whether a name is of a nonblocking neighbourhood call.
 fn is_immediate(name: &[u8]) -> bool {
     match name.strip_prefix(b"MPI_Ineighbor_") {
-        Some(rest) => MOVING
-            .iter()
-            .any(|other| other.as_bytes().strip_prefix(b"MPI_Neighbor_") == Some(rest)),
+        Some(rest) => MOVING.iter().any(|other| other.as_bytes().strip_prefix(b"MPI_Neighbor_")
+            == Some(rest)),
         None => false,
     }
 }

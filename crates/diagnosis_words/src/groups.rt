@@ -54,10 +54,7 @@ fn put_last(out: &mut Text, source: Source<'_>, standing: &Standing) {
     let Some(last) = &standing.call else {
         return;
     };
-    put_part(
-        out,
-        source.function(standing.rank, last.number, &last.call),
-    );
+    put_part(out, source.function(standing.rank, last.number, &last.call));
     if let Some(round) = last.round {
         put_number(out, round.object as u64);
         put_number(out, round.k);
@@ -72,10 +69,7 @@ pub(crate) fn key_of(source: Source<'_>, standing: &Standing) -> Result<Vec<u8>,
     let mut key = Text::new(source.alloc);
     put_number(&mut key, stand_number(standing.stand));
     put_number(&mut key, beyond_number(standing.beyond));
-    put_number(
-        &mut key,
-        u64::from(source.polling(standing.rank).is_some()),
-    );
+    put_number(&mut key, u64::from(source.polling(standing.rank).is_some()));
     put_last(&mut key, source, standing);
     key.into_bytes()
 }

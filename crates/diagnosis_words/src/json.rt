@@ -113,7 +113,11 @@ impl<'a> Json<'a> {
     }
 
     fn put_bool(&mut self, value: bool) {
-        self.put(if value { b"true".as_slice() } else { b"false".as_slice() });
+        self.put(if value {
+            b"true".as_slice()
+        } else {
+            b"false".as_slice()
+        });
     }
 
     /// A character that JSON doesn't take as it is.

@@ -118,9 +118,11 @@ impl<'a> Writer<'a> {
 
     /// What holds it up, and whether it is part of what holds up the run.
     fn put_rank_roots(&mut self, rank: u32) {
-        self.put_roots_where(rank, b"\nIt is part of what holds up the run:\n", |root, rank| {
-            has(root.ranks.as_slice(), rank)
-        });
+        self.put_roots_where(
+            rank,
+            b"\nIt is part of what holds up the run:\n",
+            |root, rank| { has(root.ranks.as_slice(), rank) },
+        );
         self.put_roots_where(rank, b"\nWhat holds it up:\n", |root, rank| {
             has(root.holds_up.as_slice(), rank)
         });
@@ -153,7 +155,10 @@ impl<'a> Writer<'a> {
         let cap = self.cap();
         let mut told: usize = 0;
         for round in rounds.mismatched.iter() {
-            let is_in = round.groups.iter().any(|group| has(group.ranks.as_slice(), rank));
+            let is_in = round
+                .groups
+                .iter()
+                .any(|group| has(group.ranks.as_slice(), rank));
             if is_in && told < cap {
                 self.put_first_of(told, b"\nIts rounds of collective calls:\n");
                 self.put_mismatched_line(round);
@@ -184,7 +189,10 @@ impl<'a> Writer<'a> {
         let mut told: usize = 0;
         for left in unmatched.left_over.iter() {
             if (left.message.from == rank || left.message.to == rank) && told < cap {
-                self.put_first_of(told, b"\nMessages from it or to it that nobody has received:\n");
+                self.put_first_of(
+                    told,
+                    b"\nMessages from it or to it that nobody has received:\n",
+                );
                 self.put_left_over(left);
                 told = told.saturating_add(1);
             }
@@ -192,7 +200,10 @@ impl<'a> Writer<'a> {
         told = 0;
         for starving in unmatched.starving.iter() {
             if starving.receive.at == rank && told < cap {
-                self.put_first_of(told, b"\nIts receives that wait for a message that nobody has sent:\n");
+                self.put_first_of(
+                    told,
+                    b"\nIts receives that wait for a message that nobody has sent:\n",
+                );
                 self.put_starving(starving);
                 told = told.saturating_add(1);
             }

@@ -114,7 +114,11 @@ fn is_one_of(condition: &Condition) -> bool {
 }
 
 /// What ranks have in common that are drawn as one: how they stand, and what they need; or their shape alone.
-fn node_key(source: Source<'_>, standing: &Standing, is_whole: bool) -> Result<Vec<u8>, AllocError> {
+fn node_key(
+    source: Source<'_>,
+    standing: &Standing,
+    is_whole: bool,
+) -> Result<Vec<u8>, AllocError> {
     let mut key = Text::new(source.alloc);
     if is_whole {
         key.put(key_of(source, standing)?.as_slice());
@@ -123,8 +127,16 @@ fn node_key(source: Source<'_>, standing: &Standing, is_whole: bool) -> Result<V
         }
     } else if let Some(last) = &standing.call {
         key.put(source.function(standing.rank, last.number, &last.call));
-        key.put(if standing.stand == Stand::In { b" in" } else { b" on" });
-        key.put(if source.held(standing.rank).is_some() { b"+" } else { b"-" });
+        key.put(if standing.stand == Stand::In {
+            b" in"
+        } else {
+            b" on"
+        });
+        key.put(if source.held(standing.rank).is_some() {
+            b"+"
+        } else {
+            b"-"
+        });
     }
     key.into_bytes()
 }
@@ -301,7 +313,11 @@ impl<'a> Picture<'a> {
         self.put_name(from);
         self.out.put(b" -> ");
         self.put_name(to);
-        self.out.put(if is_dashed { b" [style=dashed];\n".as_slice() } else { b";\n".as_slice() });
+        self.out.put(if is_dashed {
+            b" [style=dashed];\n".as_slice()
+        } else {
+            b";\n".as_slice()
+        });
     }
 
     /// An edge to a rank that is needed.
@@ -381,7 +397,8 @@ impl<'a> Picture<'a> {
 
     /// The whole picture.
     fn put_all(&mut self) -> Result<(), AllocError> {
-        self.out.put(b"strict digraph diagnosis {\n  node [shape=box];\n");
+        self.out
+            .put(b"strict digraph diagnosis {\n  node [shape=box];\n");
         self.put_rounds()?;
         for at in 0..self.nodes.nodes.len() {
             self.put_ranks_node(at)?;

@@ -31,7 +31,11 @@ impl<'a> Source<'a> {
 
     /// How a rank stands.
     pub fn standing(self, rank: u32) -> Option<&'a Standing> {
-        self.diagnosis.waiting.standing.as_slice().get(rank as usize)
+        self.diagnosis
+            .waiting
+            .standing
+            .as_slice()
+            .get(rank as usize)
     }
 
     /// The last call of a rank.

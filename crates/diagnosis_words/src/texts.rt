@@ -103,7 +103,8 @@ impl TextFacts {
     pub fn finish(&mut self) -> Result<(), AllocError> {
         self.sites
             .sort_by_key(|site| (site.rank, site.call, site.note))?;
-        self.local.sort_by(|one, other| one.function.cmp(&other.function))?;
+        self.local
+            .sort_by(|one, other| one.function.cmp(&other.function))?;
         Ok(())
     }
 

@@ -11,6 +11,7 @@ use trace_diagnosis::{Diagnosis, LeftOver, RootKind, Starving};
 
 /// The most lines of a list, and the fewest to which it is cut where there is much to say.
 const MOST_SHOWN: usize = 10;
+
 const FEWEST_SHOWN: usize = 3;
 
 /// The most groups of ranks that are told.
@@ -21,6 +22,7 @@ const MOST_MEMBERS: usize = 8;
 
 /// The most lines of all, and the most bytes of a line.
 const MOST_LINES: usize = 60;
+
 const LONGEST_LINE: usize = 400;
 
 /// Lines that are said beside the lists: the first two, the other sends and the doubts with their heads.
@@ -68,7 +70,11 @@ struct Lists {
 }
 
 /// The places of a list, those with a nearest miss first, then those of which none came through before.
-fn places_by<F: Fn(usize) -> u8>(alloc: Global, count: usize, rank: F) -> Result<Vec<usize>, AllocError> {
+fn places_by<F: Fn(usize) -> u8>(
+    alloc: Global,
+    count: usize,
+    rank: F,
+) -> Result<Vec<usize>, AllocError> {
     let mut places = Vec::new(alloc);
     for wanted in 0..3 {
         for i in 0..count {
@@ -150,7 +156,9 @@ fn cap_of(lists: &Lists, all: bool) -> usize {
     if all {
         return usize::MAX;
     }
-    let room = MOST_LINES.saturating_sub(OTHER_LINES).saturating_sub(MOST_MEMBERS);
+    let room = MOST_LINES
+        .saturating_sub(OTHER_LINES)
+        .saturating_sub(MOST_MEMBERS);
     let mut cap = MOST_GROUPS;
     while cap > FEWEST_SHOWN {
         let mut lines: usize = 0;
@@ -211,7 +219,8 @@ impl<'a> Writer<'a> {
         let groups = groups_of(self.source, ranks)?;
         let mut count = told;
         for (i, group) in groups.iter().enumerate() {
-            let is_last = count.saturating_add(1) >= MOST_MEMBERS && i.saturating_add(1) < groups.len();
+            let is_last = count.saturating_add(1) >= MOST_MEMBERS
+                && i.saturating_add(1) < groups.len();
             if is_last && !self.all {
                 self.put(b"    and ");
                 self.put_number(groups.len().saturating_sub(i) as u64);

@@ -274,7 +274,11 @@ impl<'a> Writer<'a> {
     /// The rank of the run that is a peer of a call.
     fn ranked(&self, rank: u32, call: u64, comm: CommRef, peer: u32) -> Option<u32> {
         let object = self.source.layout.named(rank, call, comm)?;
-        self.source.layout.members(object)?.get(peer as usize).copied()
+        self.source
+            .layout
+            .members(object)?
+            .get(peer as usize)
+            .copied()
     }
 
     /// The peer of a call.

@@ -69,7 +69,12 @@ fn fault_of(fault: WalkFault<Memory>) -> LookFault
 {
     match fault.cause {
         WalkCause::Memory | WalkCause::Sink(_) => LookFault::Memory,
-        WalkCause::Text(TextFault::At { cause: TextCause::Read, .. }) => LookFault::Read,
+        WalkCause::Text(
+            TextFault::At {
+                cause: TextCause::Read,
+                ..
+            },
+        ) => LookFault::Read,
         _ => LookFault::Refused,
     }
 }

@@ -58,7 +58,10 @@ impl<'a> Looking<'a> {
         ensures { result ≡ self.entry.told }
     {
         let Looking {
-            sites, local, size, ..
+            sites,
+            local,
+            size,
+            ..
         } = self;
         Look { sites, local, size }
     }

@@ -41,7 +41,11 @@ impl<'a> Writer<'a> {
         self.put_number(foreign.number as u64);
         self.put(b" in ");
         self.put_number(foreign.calls);
-        self.put(if foreign.calls == 1 { b" call".as_slice() } else { b" calls".as_slice() });
+        self.put(if foreign.calls == 1 {
+            b" call".as_slice()
+        } else {
+            b" calls".as_slice()
+        });
     }
 
     /// The objects that the layout doesn't have.
@@ -55,7 +59,11 @@ impl<'a> Writer<'a> {
                 self.put(b", ..");
                 break;
             }
-            self.put(if i == 0 { b"".as_slice() } else { b", ".as_slice() });
+            self.put(if i == 0 {
+                b"".as_slice()
+            } else {
+                b", ".as_slice()
+            });
             self.put_foreign(one);
         }
         self.put(b"\n");
@@ -67,13 +75,19 @@ impl<'a> Writer<'a> {
         if local.is_empty() {
             return;
         }
-        self.put(b"  calls that may wait for others or move data, and that mpimatch does not read: ");
+        self.put(
+            b"  calls that may wait for others or move data, and that mpimatch does not read: ",
+        );
         for (i, one) in local.iter().enumerate() {
             if i == MOST_NAMED && !self.all {
                 self.put(b", ..");
                 break;
             }
-            self.put(if i == 0 { b"".as_slice() } else { b", ".as_slice() });
+            self.put(if i == 0 {
+                b"".as_slice()
+            } else {
+                b", ".as_slice()
+            });
             self.put_name(one.function.as_slice());
             self.put(b" ");
             self.put_number(one.calls);
@@ -95,7 +109,11 @@ impl<'a> Writer<'a> {
                 self.put_counted(cut.len(), b" text)", b" texts)");
                 break;
             }
-            self.put(if i == 0 { b"".as_slice() } else { b", ".as_slice() });
+            self.put(if i == 0 {
+                b"".as_slice()
+            } else {
+                b", ".as_slice()
+            });
             if let Some(note) = texts.notes.as_slice().get(one.note) {
                 self.put(note.file());
             }

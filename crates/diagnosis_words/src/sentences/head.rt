@@ -174,14 +174,22 @@ impl<'a> Writer<'a> {
         self.put_counted(inside, b" stands in a call", b" stand in a call");
         let behind = self.count_of(Stand::Behind);
         self.put(b", ");
-        self.put_counted(behind, b" is behind its last one", b" are behind their last one");
+        self.put_counted(
+            behind,
+            b" is behind its last one",
+            b" are behind their last one",
+        );
         let ended = self.count_of(Stand::Ended);
         self.put(b", ");
         self.put_counted(ended, b" has ended", b" have ended");
         let none = self.count_of(Stand::Nowhere);
         if none > 0 {
             self.put(b", ");
-            self.put_counted(none, b" has no call that can be read", b" have no call that can be read");
+            self.put_counted(
+                none,
+                b" has no call that can be read",
+                b" have no call that can be read",
+            );
         }
         self.put(b".\n");
     }

@@ -53,7 +53,11 @@ impl<'a> Writer<'a> {
                 self.put_counted(more, b" group more", b" groups more");
                 return;
             }
-            self.put(if i == 0 { b"".as_slice() } else { b", ".as_slice() });
+            self.put(if i == 0 {
+                b"".as_slice()
+            } else {
+                b", ".as_slice()
+            });
             self.put_call_group(group);
         }
     }
@@ -169,7 +173,11 @@ impl<'a> Writer<'a> {
         self.put_ranks(waiters);
         self.put_either(waiters.len(), b" waits for ", b" wait for ");
         self.put_ranks(root.ranks.as_slice());
-        self.put_either(root.ranks.len(), b", which has ended", b", which have ended");
+        self.put_either(
+            root.ranks.len(),
+            b", which has ended",
+            b", which have ended",
+        );
         self.put(b": ");
         self.put_either(waiters.len(), b"it makes", b"they make");
         self.put(b" a call too many, or the others one too few; ");
@@ -235,7 +243,11 @@ impl<'a> Writer<'a> {
 
     /// Whether a text is of a rank.
     fn has_text(&self, rank: u32) -> bool {
-        self.source.texts.notes.iter().any(|note| note.rank() == rank)
+        self.source
+            .texts
+            .notes
+            .iter()
+            .any(|note| note.rank() == rank)
     }
 
     /// Ranks that wait for one another.
@@ -292,7 +304,11 @@ impl<'a> Writer<'a> {
         self.put(b"needs ");
         if !ranks.is_empty() {
             if ranks.len() > 1 {
-                self.put(if is_one_of(&held.waits) { b"one of ".as_slice() } else { b"all of ".as_slice() });
+                self.put(if is_one_of(&held.waits) {
+                    b"one of ".as_slice()
+                } else {
+                    b"all of ".as_slice()
+                });
             }
             self.put_ranks(ranks.as_slice());
         }
@@ -308,7 +324,11 @@ impl<'a> Writer<'a> {
                     self.put(b", ..");
                     return;
                 }
-                self.put(if is_first && count == 0 { b"".as_slice() } else { b", ".as_slice() });
+                self.put(if is_first && count == 0 {
+                    b"".as_slice()
+                } else {
+                    b", ".as_slice()
+                });
                 self.put_round(*round);
                 self.put(b", whose calls don't match");
                 count = count.saturating_add(1);

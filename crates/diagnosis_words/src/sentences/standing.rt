@@ -119,7 +119,11 @@ impl<'a> Writer<'a> {
                 self.put(b"; ..");
                 return;
             }
-            self.put(if i == 0 { b"".as_slice() } else { b"; ".as_slice() });
+            self.put(if i == 0 {
+                b"".as_slice()
+            } else {
+                b"; ".as_slice()
+            });
             self.put_polled(polling.rank, polled);
         }
     }
