@@ -1,24 +1,21 @@
 -- What a second look keeps of the calls that it is given.
-use Rattle.std.proofs.Common.{◌≡◌, ◌∙◌, ℕ, Bool, true, false, cond, List, [], ◌∷◌, ◌++◌, Option, Some, None, max, refl, sym, ap, subst, append_assoc, append-nil, arith}
-use Rattle.std.specs.BTreeSet.{BTreeSet, contains}
-use Rattle.std.specs.Ordering.{nat_cmp}
+use Rattle.std.proofs.Common.{◌≡◌, ◌∙◌, ℕ, List, [], ◌∷◌, ◌++◌, Option, Some, None, max, refl, sym, ap, subst, append_assoc, append-nil, arith}
+use Rattle.std.specs.Prelude.{option_to_list}
+use Rattle.std.specs.BTreeSet.{BTreeSet}
 use Rattle.mpi_model.specs.Failures.{one_more}
 use Rattle.mpi_model.specs.declared.call.Call.{Call}
 use Rattle.dumpi_text.specs.Call.{TextCall}
 use Rattle.dumpi_calls.specs.RawWalks.{IsWalkedRaw, Taken}
 use Rattle.dumpi_calls.specs.declared.walking.Walked.{Walked}
-use Rattle.text_notes.specs.Looks.{AreRead, IsLookOf, LookState, greater, greatest_size, local_from, looked, looking, nothing_looked, sites_from, size_of}
-use Rattle.text_notes.specs.Sites.{SiteParts, site_of}
+use Rattle.text_notes.specs.Looks.{AreRead, IsLookOf, LookState, greater, greatest_size, local_from, looked, looking, nothing_looked, sites_from, size_of, wanted_site, with_local}
+use Rattle.text_notes.specs.Noted.{UnreadParts}
+use Rattle.text_notes.specs.Sites.{SiteParts}
 
 -- What is told then is what was told before, with these calls.
 pub record Goes (old : LookState) (calls : List (TextCall × Call)) (new : LookState) : Type 0 where
   pub sites_are : new.told.sites ≡ old.told.sites ++ sites_from old.wanted old.calls calls
   pub local_are : new.told.local ≡ local_from old.limit old.calls old.told.local calls
   pub size_is : new.told.size ≡ greater old.told.size (greatest_size calls)
-
-by_wanted : (c : Bool) (sites rest : List SiteParts) (s : SiteParts) → cond c (sites ++ s ∷ []) sites ++ rest ≡ sites ++ cond c (s ∷ rest) rest
-by_wanted true sites rest s = append_assoc sites (s ∷ []) rest
-by_wanted false sites rest s = refl
 
 max_assoc : (a b c : ℕ) → max (max a b) c ≡ max a (max b c)
 max_assoc a b c = omega arith
@@ -36,7 +33,7 @@ greater_none (Some n) = refl
 -- the first of the calls, and then the others
 behind : (old new : LookState) (raw : TextCall) (call : Call) (calls : List (TextCall × Call)) → Goes (looked old raw call) calls new → Goes old ((raw, call) ∷ calls) new
 behind old new raw call calls goes = record {
-  sites_are = goes.sites_are ∙ by_wanted (contains nat_cmp old.wanted old.calls) old.told.sites (sites_from old.wanted (one_more old.calls) calls) (site_of old.calls raw);
+  sites_are = goes.sites_are ∙ append_assoc old.told.sites (option_to_list (wanted_site old.wanted old.calls raw)) (sites_from old.wanted (one_more old.calls) calls);
   local_are = goes.local_are;
   size_is = goes.size_is ∙ greater_in_turn old.told.size (size_of raw) (greatest_size calls);
 }
@@ -68,3 +65,10 @@ tells wanted limit (Some text) new walked w =
       read_as = all.1;
       told = record { sites_are = all.2.sites_are; local_are = all.2.local_are; size_is = all.2.size_is };
     }
+
+-- What is kept with one call more, part by part.
+pub looked_so : (old : LookState) (raw : TextCall) (call : Call) (calls : ℕ) (sites : List SiteParts) (local : List UnreadParts) (size : Option ℕ)
+    → calls ≡ one_more old.calls → sites ≡ old.told.sites ++ option_to_list (wanted_site old.wanted old.calls raw)
+    → local ≡ with_local old.limit old.calls (raw, call) old.told.local → size ≡ greater old.told.size (size_of raw)
+    → ◌≡◌ {A = LookState} (record { wanted = old.wanted; limit = old.limit; calls = calls; told = record { sites = sites; local = local; size = size } }) (looked old raw call)
+looked_so old raw call calls sites local size c s l z = rw (c, s, l, z) refl

@@ -1,5 +1,5 @@
 -- What a second look at a text tells.
-use Rattle.std.specs.Prelude.{◌≡◌, ◌&&◌, ℕ, ℤ, pos, negsuc, Bool, true, false, List, [], ◌∷◌, ◌++◌, Option, Some, None, Ok, codes, is_some, max, nat_lt, option_and_then, if◌then◌else◌}
+use Rattle.std.specs.Prelude.{◌≡◌, ◌&&◌, ℕ, ℤ, pos, negsuc, Bool, true, false, List, [], ◌∷◌, ◌++◌, Option, Some, None, Ok, codes, is_some, max, nat_lt, option_and_then, option_to_list, if◌then◌else◌}
 use Rattle.std.specs.BTreeSet.{BTreeSet, contains}
 use Rattle.std.specs.Ordering.{nat_cmp}
 use Rattle.std.specs.Str.{bytes_eq}
@@ -67,11 +67,14 @@ greater (Some n) (Some m) = Some (max n m)
 
 -- ---- the calls of a text, each beside the call as which it was read, with numbers from one on
 
+-- the call site of a call, where its number is wanted
+abbrev pub wanted_site : BTreeSet ℕ → ℕ → TextCall → Option SiteParts
+wanted_site wanted number raw = if contains nat_cmp wanted number then Some (site_of number raw) else None
+
 -- the call sites of those whose numbers are wanted
 abbrev pub sites_from : BTreeSet ℕ → ℕ → List (TextCall × Call) → List SiteParts
 sites_from wanted number [] = []
-sites_from wanted number (call ∷ calls) =
-    if contains nat_cmp wanted number then site_of number call.0 ∷ sites_from wanted (one_more number) calls else sites_from wanted (one_more number) calls
+sites_from wanted number (call ∷ calls) = option_to_list (wanted_site wanted number call.0) ++ sites_from wanted (one_more number) calls
 
 -- one call more of its function, where it is local and its number below a limit
 abbrev pub with_local : ℕ → ℕ → TextCall × Call → List UnreadParts → List UnreadParts
@@ -136,7 +139,7 @@ nothing_looked wanted limit = record { wanted = wanted; limit = limit; calls = 0
 -- what is told with one call more
 abbrev pub told_after : LookState → TextCall × Call → LookParts
 told_after old call = record {
-  sites = if contains nat_cmp old.wanted old.calls then old.told.sites ++ site_of old.calls call.0 ∷ [] else old.told.sites;
+  sites = old.told.sites ++ option_to_list (wanted_site old.wanted old.calls call.0);
   local = with_local old.limit old.calls call old.told.local;
   size = greater old.told.size (size_of call.0);
 }

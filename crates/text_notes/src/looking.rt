@@ -1,13 +1,10 @@
 //! A sink that keeps what a second look at a text is for.
 
-ghost use Rattle.std.specs.Prelude.{◌≡◌, IfOk, OnErr, OnOk, Some, None, if◌then◌else◌};
-ghost use Rattle.std.specs.BTreeSet.{contains};
+ghost use Rattle.std.specs.Prelude.{◌≡◌, ◌≤◌, ◌++◌, IfOk, OnErr, OnOk, option_to_list, vec_capacity, vec_len};
 ghost use Rattle.std.specs.Option.{option_copied, option_map};
-ghost use Rattle.std.specs.Ordering.{nat_cmp};
 ghost use Rattle.dumpi_text.specs.Value.{value_of};
-ghost use Rattle.text_notes.specs.Looks.{greater, is_local, is_world, is_world_name, natural_of, natural_value, nothing_looked, size_of, tells_size, value_in};
+ghost use Rattle.text_notes.specs.Looks.{greater, is_local, is_world, is_world_name, natural_of, natural_value, nothing_looked, size_of, tells_size, value_in, wanted_site, with_local};
 ghost use Rattle.text_notes.specs.Noted.{counted};
-ghost use Rattle.text_notes.specs.Sites.{site_of};
 
 use crate::function::{UnreadFunction, place_of};
 use crate::look::Look;
@@ -172,7 +169,7 @@ fn site_where(
     number: u64,
     raw: &RawCall,
 ) -> Result<Option<CallSite>, AllocError>
-    ensures { IfOk result (λ site. site ≡ (if contains nat_cmp wanted.now number then Some (site_of number raw.now) else None)) }
+    ensures { IfOk result (λ site. site ≡ wanted_site wanted.now number raw.now) }
 {
     if wanted.contains(&number) {
         Ok(Some(site_of(alloc, number, raw)?))
@@ -203,6 +200,35 @@ fn count_call(
     }
 }
 
+/// One call more of its function, where it is local and its number below the limit.
+fn count_local(
+    functions: &mut Vec<UnreadFunction>,
+    limit: u64,
+    number: u64,
+    raw: &RawCall,
+    call: &Call,
+) -> Result<(), AllocError>
+    ensures ok { OnOk result (functions.new.items ≡ with_local limit number (raw.now, call.now) functions.old.items) }
+    ensures err { OnErr result (functions.new.items ≡ functions.old.items) }
+{
+    if number < limit && is_local(call) {
+        count_call(functions, raw.name(), number)
+    } else {
+        Ok(())
+    }
+}
+
+/// Adds a call site, where there is one.
+fn push_site(sites: &mut Vec<CallSite>, site: Option<CallSite>) -> Result<(), AllocError>
+    ensures ok { OnOk result (sites.new.items ≡ sites.old.items ++ option_to_list site) }
+    ensures full { OnErr result (vec_capacity sites.old ≤ vec_len sites.old) }
+{
+    if let Some(site) = site {
+        sites.push(site)?;
+    }
+    Ok(())
+}
+
 impl<'a> RawSink for Looking<'a> {
     ghost use Rattle.text_notes.specs.Looks.{looking};
 
@@ -210,17 +236,14 @@ impl<'a> RawSink for Looking<'a> {
 
     ghost step = { looking };
 
+    #[tactic(auto, using(crate::proofs::Looked::looked_so))]
     fn on_call(&mut self, raw: &RawCall, call: Call) -> Result<(), Memory> {
         let alloc = *self.sites.allocator();
         let site = site_where(alloc, self.wanted, self.calls, raw)?;
         let size = size_of(alloc, raw)?;
         self.sites.reserve(1)?;
-        if self.calls < self.limit && is_local(&call) {
-            count_call(&mut self.local, raw.name(), self.calls)?;
-        }
-        if let Some(site) = site {
-            self.sites.push(site)?;
-        }
+        count_local(&mut self.local, self.limit, self.calls, raw, &call)?;
+        push_site(&mut self.sites, site)?;
         self.size = greater(self.size, size);
         self.calls = self.calls.saturating_add(1);
         Ok(())

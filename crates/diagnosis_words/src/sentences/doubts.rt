@@ -124,7 +124,7 @@ impl<'a> Writer<'a> {
     }
 
     /// That the run has more ranks than the layout.
-    fn put_size(&mut self) {
+    fn put_run_size(&mut self) {
         let ranks = self.source.diagnosis.ranks as u64;
         if let Some(size) = self.source.texts.size.filter(|size| *size > ranks) {
             self.put(b"  MPI_Comm_size tells of ");
@@ -160,6 +160,6 @@ impl<'a> Writer<'a> {
             b": nothing is known of any\n",
         );
         self.put_cut();
-        self.put_size();
+        self.put_run_size();
     }
 }
