@@ -1,0 +1,4 @@
+mod Shapes
+mod Holds
+mod Needing
+mod Ranges
