@@ -129,19 +129,22 @@ named_same : (object : Object) (a b : TextCall) → text_of Comm a ≡ text_of C
 unfolding named_in
 named_same object a b e = rw (number_same Comm a b e) refl
 
--- objects by parameters that say the same
-abbrev AreAlike : List Parameter → TextCall → TextCall → Type 0
-AreAlike [] a b = Unit {0}
-AreAlike (parameter ∷ parameters) a b = (text_of parameter a ≡ text_of parameter b) × AreAlike parameters a b
+-- the parameters say the same in both
+abbrev AreSame : List Parameter → TextCall → TextCall → Type 0
+AreSame [] a b = Unit {0}
+AreSame (parameter ∷ parameters) a b = (text_of parameter a ≡ text_of parameter b) × AreSame parameters a b
 
-first_object_same : (object : Object) (parameters : List Parameter) (a b : TextCall) → AreAlike parameters a b → first_object object parameters a ≡ first_object object parameters b
+one_object : (object : Object) (parameter : Parameter) (a b : TextCall) (first second : Option CommRef) (x y : Option (List ℕ)) → number_in parameter a ≡ number_in parameter b → first ≡ second → x ≡ y
+    → or_the_next object parameter x a first ≡ or_the_next object parameter y b second
+one_object object parameter a b first second None y number same e = subst (λ (t : Option (List ℕ)). first ≡ or_the_next object parameter t b second) e same
+one_object object parameter a b first second (Some x) y number same e =
+    subst (λ (t : Option (List ℕ)). object_from object (number_in parameter a) ≡ or_the_next object parameter t b second) e (ap (object_from object) number)
+
+first_object_same : (object : Object) (parameters : List Parameter) (a b : TextCall) → AreSame parameters a b → first_object object parameters a ≡ first_object object parameters b
 first_object_same object [] a b same = refl
-first_object_same object (parameter ∷ parameters) a b same = one (text_of parameter a) (text_of parameter b) same.0
-  where
-    one : (x y : Option (List ℕ)) → x ≡ y → or_the_next object parameter x a (first_object object parameters a) ≡ or_the_next object parameter y b (first_object object parameters b)
-    one None y e = subst (λ (t : Option (List ℕ)). first_object object parameters a ≡ or_the_next object parameter t b (first_object object parameters b)) e (first_object_same object parameters a b same.1)
-    one (Some x) y e = subst (λ (t : Option (List ℕ)). object_from object (number_in parameter a) ≡ or_the_next object parameter t b (first_object object parameters b)) e
-        (ap (object_from object) (number_same parameter a b same.0))
+first_object_same object (parameter ∷ parameters) a b same =
+    one_object object parameter a b (first_object object parameters a) (first_object object parameters b) (text_of parameter a) (text_of parameter b) (number_same parameter a b same.0)
+    (first_object_same object parameters a b same.1) same.0
 
 request_same : (a b : TextCall) → text_of Request a ≡ text_of Request b → request_in a ≡ request_in b
 unfolding request_in
@@ -221,10 +224,6 @@ unfolding any_done
 any_done_same requests a b f i s = rw (number_same Flag a b f, index_same requests a b i s) refl
 
 -- ---- parameters that are missing
-
-abbrev AreSame : List Parameter → TextCall → TextCall → Type 0
-AreSame [] a b = Unit {0}
-AreSame (parameter ∷ parameters) a b = (text_of parameter a ≡ text_of parameter b) × AreSame parameters a b
 
 missing_same : (parameters : List Parameter) (a b : TextCall) → AreSame parameters a b → first_missing parameters a ≡ first_missing parameters b
 missing_same [] a b same = refl
@@ -498,17 +497,17 @@ icollective_typed kind name a b s =
 
 -- ---- collective calls on objects, and probes that don't wait
 
-alike_of : (parameter : ObjectParameter) (a b : TextCall) → SameTold (object_parameters parameter) a b → AreAlike (object_parameters parameter) a b
-alike_of objects.Comm a b s = (s.texts Comm refl, tt)
-alike_of objects.OldComm a b s = (s.texts OldComm refl, (s.texts Comm refl, tt))
-alike_of objects.CommOld a b s = (s.texts OldComm refl, (s.texts CommOld refl, (s.texts Comm refl, tt)))
-alike_of objects.LocalComm a b s = (s.texts LocalComm refl, tt)
-alike_of objects.Win a b s = (s.texts Win refl, tt)
-alike_of objects.File a b s = (s.texts Fh refl, (s.texts File refl, tt))
+same_of : (parameter : ObjectParameter) (a b : TextCall) → SameTold (object_parameters parameter) a b → AreSame (object_parameters parameter) a b
+same_of objects.Comm a b s = (s.texts Comm refl, tt)
+same_of objects.OldComm a b s = (s.texts OldComm refl, (s.texts Comm refl, tt))
+same_of objects.CommOld a b s = (s.texts OldComm refl, (s.texts CommOld refl, (s.texts Comm refl, tt)))
+same_of objects.LocalComm a b s = (s.texts LocalComm refl, tt)
+same_of objects.Win a b s = (s.texts Win refl, tt)
+same_of objects.File a b s = (s.texts Fh refl, (s.texts File refl, tt))
 
 object_same : (kind : Kind) (a b : TextCall) → SameTold (object_parameters (kind_row kind).parameter) a b → object_in kind a ≡ object_in kind b
 unfolding object_in
-object_same kind a b s = first_object_same (kind_row kind).object (object_parameters (kind_row kind).parameter) a b (alike_of (kind_row kind).parameter a b s)
+object_same kind a b s = first_object_same (kind_row kind).object (object_parameters (kind_row kind).parameter) a b (same_of (kind_row kind).parameter a b s)
 
 object_outcome : (f : KindFunction) (found : Option CommRef) (a b : TextCall) → text_of Request a ≡ text_of Request b → outcome_in (object_or_local f found) a ≡ outcome_in (object_or_local f found) b
 object_outcome f None a b e = refl

@@ -316,7 +316,7 @@ pub fn usual_name(function: Function) -> &'static str
 
 /// The function whose entering line may stand in front of a text, by a few bytes of its name: no other of those that are
 /// read in place has them.
-#[tactic(auto, unfolding(crate::specs::Rows::function_named, crate::specs::Rows::collective_named, mpi_model::specs::Kinds::all_kinds, mpi_model::specs::Kinds::row))]
+#[tactic(auto, unfolding(crate::specs::Rows::function_named, crate::specs::Rows::collective_named))]
 fn likely_function(text: &[u8]) -> Option<Function>
     ensures word { IfSome result (λ function. is_word (usual_name function) ≡ true) }
     ensures named { IfSome result (λ function. function_named (usual_name function) ≡ function) }

@@ -73,7 +73,7 @@ fn looked_parameters(function: Function) -> &'static [Parameter]
         Function::Collective(_) => &[Comm],
         Function::Icollective(kind) if kind.kind().has_root() => &[Request, Root, Comm],
         Function::Icollective(_) => &[Request, Comm],
-        Function::OnObject(function) => looked_on(function.kind().row().parameter),
+        Function::OnObject(function) => looked_on(function.function().kind().row().parameter),
         Function::Unread | Function::Finalize | Function::Other => &[],
     }
 }
