@@ -19,7 +19,7 @@ use Rattle.command_line.specs.declared.CommandFault.{CommandFault}
 use Rattle.command_line.specs.declared.CommandFault.TheVariants.{Memory, Shown, Unread}
 use Rattle.command_line.specs.declared.Wanted.{Wanted}
 use Rattle.command_line.specs.declared.Verb.{Verb}
-use Rattle.command_line.specs.declared.Verb.TheVariants.{Explain, ExplainRank, Graph, Report, ReportJson, Replay, Cluster, Check, Pack}
+use Rattle.command_line.specs.declared.Verb.TheVariants.{Explain, ExplainRank, Graph, Report, ReportJson, Replay, Check, Pack}
 
 -- the texts behind these references
 abbrev pub texts_of : List (Bor Text) → List Text
@@ -127,7 +127,6 @@ verb_named name = if bytes_eq name (codes "explain") then Some Explain
     else if bytes_eq name (codes "graph") then Some Graph
     else if bytes_eq name (codes "report") then Some Report
     else if bytes_eq name (codes "replay") then Some Replay
-    else if bytes_eq name (codes "cluster") then Some Cluster
     else if bytes_eq name (codes "check") then Some Check
     else if bytes_eq name (codes "pack") then Some Pack else None
 
@@ -142,16 +141,23 @@ pub record Wish : Type 0 where
 abbrev pub wish_of : Wanted → Wish
 wish_of m = record { sends = m.sends; layout = m.layout.now; manifest = m.manifest.now; force = m.force }
 
--- what the words ask for: a verb over a layout and a manifest, a verb over its files, or `init` over its texts
+-- what the words ask for: a verb over a layout and a manifest, a verb over its files, a cluster of a layout and a manifest, or `init` over its texts
 pub data Request : Type 0 where
   pair : Verb → Text → Text → Request
   files : Verb → List Text → Request
+  cluster : Text → Text → Request
   init : List Text → Wish → Request
+
+-- the rank that a verb asks for, where it asks for one
+abbrev pub asked_rank : Verb → Option ℕ
+asked_rank (ExplainRank rank) = Some rank
+asked_rank verb = None
 
 -- what the words ask for
 abbrev pub request_of : Asked → Request
 request_of (asked.Pair verb layout manifest) = pair verb layout.now manifest.now
 request_of (asked.Files verb names) = files verb (texts_of names.items)
+request_of (asked.Cluster layout manifest) = cluster layout.now manifest.now
 request_of (asked.Init names wanted) = init (texts_of names.items) (wish_of wanted)
 
 -- a report, as JSON where the value of the flag says so
@@ -194,6 +200,15 @@ over verb None rows = pair_in verb rows
 abbrev pub files_in : Verb → List Row → Option Request
 files_in verb rows = over verb (all_of (codes "FILE") rows) rows
 
+-- a cluster of a layout and a manifest, where both are named
+abbrev pub cluster_of : Option Text → Option Text → Option Request
+cluster_of (Some layout) (Some manifest) = Some (cluster layout manifest)
+cluster_of layout manifest = None
+
+-- what the words of a cluster ask for
+abbrev pub cluster_in : List Row → Option Request
+cluster_in rows = cluster_of (first_of (codes "LAYOUT") rows) (first_of (codes "MANIFEST") rows)
+
 -- how sends of standard mode complete, by the word
 abbrev pub sends_named : Text → Option Sends
 sends_named word = if bytes_eq word (codes "wait") then Some Wait else if bytes_eq word (codes "buffer") then Some Buffer else None
@@ -215,7 +230,7 @@ init_in rows = option_and_then (λ wish. option_map (λ texts. init texts wish) 
 
 -- what a subcommand asks for, with its values
 abbrev pub asks_for : Text → List Row → Option Request
-asks_for name rows = if bytes_eq name (codes "init") then init_in rows else option_and_then (λ verb. files_in verb rows) (form_in name rows)
+asks_for name rows = if bytes_eq name (codes "init") then init_in rows else if bytes_eq name (codes "cluster") then cluster_in rows else option_and_then (λ verb. files_in verb rows) (form_in name rows)
 
 -- what the subcommand that was met asks for
 abbrev pub request_in : Option (Text × List Row) → Option Request

@@ -12,7 +12,7 @@
 ghost use Rattle.std.specs.Prelude.{◌≡◌, [], IfErr, IfOk, OnOk, Some, codes, false, option_and_then, option_map};
 ghost use Rattle.clap.specs.Words.{app_of, fault_of, found_of, new_app, rows_of, rule_of, subcommand_of, subcommand_rows_of};
 ghost use Rattle.clap.specs.declared.builder.command.Command.TheViews.{out-Command};
-ghost use Rattle.command_line.specs.Program.{Refuses, answering, bare, explain_app, explain_in, file_rule, files_app, files_in, force_rule, form_in, in_form, init_app, init_in, json_rule, layout_rule, wanted_of, wish_in, wish_of, manifest_rule, option_rule, pair_app, pair_in, pair_of, program, rank_rule, report_app, report_in, request_in, request_of, sends_named, sends_rule, several_rule, shown_status_of, text_of, texts_of, verb_named, with_explain as and_explain, with_files as and_files, with_init as and_init, with_pair as and_pair, with_report as and_report};
+ghost use Rattle.command_line.specs.Program.{Refuses, answering, bare, cluster_in, cluster_of, explain_app, explain_in, file_rule, files_app, files_in, force_rule, form_in, in_form, init_app, init_in, json_rule, layout_rule, wanted_of, wish_in, wish_of, manifest_rule, option_rule, pair_app, pair_in, pair_of, program, rank_rule, report_app, report_in, request_in, request_of, sends_named, sends_rule, several_rule, shown_status_of, text_of, texts_of, verb_named, with_explain as and_explain, with_files as and_files, with_init as and_init, with_pair as and_pair, with_report as and_report};
 
 use clap::builder::ValueParser;
 use clap::error::ErrorKind;
@@ -37,13 +37,25 @@ pub enum Verb {
     /// Run a schedule of posts, takes, shipments, deliveries and restarts, and print the report of
     /// each node.
     Replay,
-    /// Read the pieces of two nodes by two workers each, let the nodes exchange what they know, and
-    /// print the report of each and whether both say the same.
-    Cluster,
     /// Make what a report tells once more straight from the rules, and print whether both agree.
     Check,
     /// Write what the pieces tell together, as bytes that are a piece of another run.
     Pack,
+}
+
+impl Verb {
+    ghost use Rattle.std.specs.Prelude.{◌≡◌};
+    ghost use Rattle.command_line.specs.Program.{asked_rank};
+
+    /// The rank that the verb asks for, where it asks for one.
+    pub fn asked_rank(self) -> Option<u32>
+        ensures { result ≡ asked_rank self }
+    {
+        match self {
+            Verb::ExplainRank(rank) => Some(rank),
+            _ => None,
+        }
+    }
 }
 
 /// What `init` is to make of the texts.
@@ -72,6 +84,12 @@ pub enum Asked<'a> {
     Files {
         verb: Verb,
         files: Vec<&'a str>,
+    },
+    /// The pieces of a manifest are read by two nodes with two workers each, the nodes exchange what they know, and the
+    /// report of each is printed, and whether both say the same.
+    Cluster {
+        layout: &'a str,
+        manifest: &'a str,
     },
     /// A layout and a manifest for the texts of all ranks.
     Init {
@@ -621,8 +639,6 @@ fn verb_of(name: &str) -> Option<Verb>
         Some(Verb::Report)
     } else if name == "replay" {
         Some(Verb::Replay)
-    } else if name == "cluster" {
-        Some(Verb::Cluster)
     } else if name == "check" {
         Some(Verb::Check)
     } else if name == "pack" {
@@ -714,6 +730,25 @@ fn files_in<'a>(
     }
 }
 
+/// A cluster of a layout and a manifest, where both are named.
+fn cluster_of<'a>(layout: Option<&'a str>, manifest: Option<&'a str>) -> Option<Asked<'a>>
+    ensures { option_map request_of result ≡ cluster_of (text_of layout.entry) (text_of manifest.entry) }
+{
+    match (layout, manifest) {
+        (Some(layout), Some(manifest)) => Some(Asked::Cluster { layout, manifest }),
+        _ => None,
+    }
+}
+
+/// A cluster of its layout and its manifest.
+fn cluster_in<'a>(inner: &ArgMatches<'a>) -> Option<Asked<'a>>
+    ensures { option_map request_of result ≡ cluster_in (rows_of (found_of inner.now)) }
+{
+    let layout = inner.get_str("LAYOUT");
+    let manifest = inner.get_str("MANIFEST");
+    cluster_of(layout, manifest)
+}
+
 /// How sends of standard mode complete, by the word.
 fn sends_of(word: &str) -> Option<Sends>
     ensures { result ≡ sends_named word.now }
@@ -792,6 +827,9 @@ fn asked_in<'a>(alloc: Global, matches: &ArgMatches<'a>) -> Result<Option<Asked<
     };
     if name == "init" {
         return init_in(alloc, inner);
+    }
+    if name == "cluster" {
+        return Ok(cluster_in(inner));
     }
     match form_in(name, inner) {
         Some(verb) => files_in(alloc, verb, inner),

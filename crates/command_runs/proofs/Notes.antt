@@ -8,7 +8,7 @@ use Rattle.trace_node.specs.Answer.{Stopped}
 use Rattle.trace_node.specs.Stopped.{stopped}
 use Rattle.trace_node.specs.declared.stuck.Stuck.{Stuck}
 use Rattle.dumpi_calls.specs.declared.walking.Walked.{Walked}
-use Rattle.input_files.specs.Manifests.{PieceParts}
+use Rattle.run_files.specs.Manifests.{PieceParts}
 use Rattle.text_notes.specs.Starts.{IsStartOf}
 use Rattle.text_notes.specs.Values.{IsValueAt}
 use Rattle.text_notes.specs.declared.start.Start.{Start}

@@ -1,19 +1,18 @@
 -- What `explain` prints.
-use Rattle.std.specs.Prelude.{◌≡◌, ◌-◌, ◌++◌, false, ℕ, List, Option, length, take}
+use Rattle.std.specs.Prelude.{◌≡◌, ◌-◌, ◌++◌, ℕ, List, Option, length, take}
 use Rattle.mpi_model.specs.Layouts.{Parts}
 use Rattle.mpi_model.specs.declared.layout.Sends.{Sends}
 use Rattle.mpi_model.specs.declared.layout.Sends.TheVariants.{Wait, Buffer}
 use Rattle.trace_know.specs.View.{View}
 use Rattle.trace_node.specs.Answer.{Answered, IsAnswer}
-use Rattle.trace_node.specs.Node.{Held, held}
+use Rattle.trace_node.specs.Node.{Held}
 use Rattle.trace_explain.specs.Explained.{IsExplained, unknown_in}
 use Rattle.text_notes.specs.Words.{NoteParts, PlaceParts, notes_text, pieceless, pieceless_text, places_text}
 use Rattle.text_notes.specs.declared.totals.TheConstants.{MOST_SHOWN}
-use Rattle.input_files.specs.Manifests.{ManifestParts}
-use Rattle.command_runs.specs.Inputs.{TellsLayout, TellsManifest}
-use Rattle.command_runs.specs.Known.{TellAll}
+use Rattle.run_files.specs.Manifests.{ManifestParts}
+use Rattle.command_runs.specs.Known.{OfAllTold}
+use Rattle.command_runs.specs.Nodes.{IsNodeOf}
 use Rattle.command_runs.specs.Notes.{AreNotesOf, ArePlacesOf}
-use Rattle.command_runs.specs.declared.fault.RunFault.{RunFault}
 
 -- the other way in which sends of standard mode can complete
 abbrev pub other_sends : Sends → Sends
@@ -42,14 +41,10 @@ IsTold file l view notes text = (answer : Answered) × (said : List ℕ) × (pla
 abbrev pub IsNodeTold : (List ℕ → Option (List ℕ)) → Held → List NoteParts → List ℕ → Type 0
 IsNodeTold file node notes text = IsTold file node.layout node.know notes text
 
--- The node knows, for this layout, all that the pieces tell that the manifest names, and these are the notes of their texts.
-abbrev pub IsNotedNodeOf : (List ℕ → Option (List ℕ)) → Parts → List ℕ → Held → List NoteParts → Type 0
-IsNotedNodeOf file l manifest node notes = (m : ManifestParts) × (view : View)
-    × TellsManifest (file manifest) m × TellAll file l.ranks m view × AreNotesOf file m.pieces notes
-    × (node ≡ held l view false)
+-- The node knows, for this layout, all that the pieces tell, and these are the notes of their texts.
+abbrev pub IsNotedNodeOf : (List ℕ → Option (List ℕ)) → Parts → ManifestParts → Held → List NoteParts → Type 0
+IsNotedNodeOf file l m node notes = IsNodeOf file l m node × AreNotesOf file m.pieces notes
 
--- The text says what the files tell: all that the pieces tell that the manifest names, for the layout, and what is noted of their texts.
-abbrev pub IsExplainOf : (List ℕ → Option (List ℕ)) → List ℕ → List ℕ → List ℕ → Type 0
-IsExplainOf file layout manifest text = (l : Parts) × (m : ManifestParts) × (view : View) × (notes : List NoteParts)
-    × TellsLayout (file layout) l × TellsManifest (file manifest) m × TellAll file l.ranks m view
-    × AreNotesOf file m.pieces notes × IsTold file l view notes text
+-- The text says what the files tell: all that the pieces tell, for the layout, and what is noted of their texts.
+abbrev pub IsExplainOf : (List ℕ → Option (List ℕ)) → Parts → ManifestParts → List ℕ → Type 0
+IsExplainOf file l m text = OfAllTold file l m (λ view. (notes : List NoteParts) × AreNotesOf file m.pieces notes × IsTold file l view notes text)

@@ -3,7 +3,7 @@ use Rattle.std.specs.Prelude.{◌≡◌, ◌-◌, ℕ, List, [], ◌∷◌, ◌+
 use Rattle.std.specs.List.{All}
 use Rattle.std.specs.declared.alloc.Global.{Global}
 use Rattle.trace_node.specs.Answer.{Stopped}
-use Rattle.input_files.specs.Manifests.{PieceParts}
+use Rattle.run_files.specs.Manifests.{PieceParts}
 use Rattle.text_notes.specs.Lines.{IsLineOf}
 use Rattle.text_notes.specs.Noted.{TellsNotes}
 use Rattle.text_notes.specs.Starts.{IsStartOf}

@@ -1,0 +1,16 @@
+//! What each verb does over a run.
+
+pub(crate) mod answerer;
+pub(crate) mod check;
+pub(crate) mod cluster;
+pub(crate) mod explain;
+pub(crate) mod graph;
+pub(crate) mod init;
+pub(crate) mod node;
+pub(crate) mod one_rank;
+pub(crate) mod pack;
+pub(crate) mod places;
+pub(crate) mod replay;
+pub(crate) mod report;
+pub(crate) mod schedule;
+pub(crate) mod writing;

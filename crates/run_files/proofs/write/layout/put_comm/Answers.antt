@@ -1,0 +1,17 @@
+use Rattle.std.proofs.Common.{◌≡◌, ◌∷◌, ℕ, List, ap, codes}
+use Rattle.json.specs.Token.{begin_array, key}
+use Rattle.json.specs.Tree.{items_tokens, json_tokens}
+use Rattle.mpi_model.specs.Communicators.{Communicator}
+use Rattle.run_files.specs.Values.{items_of, number_of}
+use Rattle.run_files.proofs.Putting.{one, reads, then}
+use Rattle.run_files.proofs.write.layout.put_comm.Goals as goal
+
+pub returns : goal.returns
+returns c =
+    let id : c.comm.inside.id ≡ c.args.comm.now.comm = ap (λ (g : Communicator). g.comm) c.comm.view_is in
+    let listed : c.comm.inside.members.items ≡ c.args.comm.now.members = ap (λ (g : Communicator). g.members) c.comm.view_is in
+    let members : c.deref.result.now ≡ c.args.comm.now.members = cc in
+    then (one c.in_ok-begin_object.ensures)
+    (then (reads c.in_ok-put_number_field.ensures (ap (λ (n : ℕ). key (codes "id") ∷ json_tokens (number_of n)) id))
+    (then (one c.in_ok-key.ensures)
+    (then (reads c.in_ok-put_numbers.ensures (ap (λ (ms : List ℕ). begin_array ∷ items_tokens (items_of number_of ms)) members)) c.put_field.ensures)))
