@@ -12,7 +12,7 @@ use crate::state::{Made, Member, Order, comm_at, copy_of};
 use crate::uses::{HandleUses, count_at};
 use crate::view::RankView;
 use indexmap::IndexMap;
-use mpi_model::{Comm, Stretch};
+use mpi_model::{Comm, Object, Stretch};
 use std::alloc::{AllocError, Global};
 
 /// Which communicator of the layout a number is of.
@@ -257,6 +257,7 @@ fn world_comm(alloc: Global, world: u32, ranks: u32) -> Result<Comm, AllocError>
 {
     Ok(Comm {
         id: world,
+        object: Object::Communicator,
         members: first_places(alloc, ranks)?,
         numbers: Vec::new(alloc),
     })
@@ -278,11 +279,13 @@ fn written_comm(
     match id {
         Some(id) => Ok(Comm {
             id,
+            object: Object::Communicator,
             members,
             numbers: Vec::new(alloc),
         }),
         None => Ok(Comm {
             id: other,
+            object: Object::Communicator,
             members,
             numbers: entries_of(alloc, views, uses, &comm.members)?,
         }),
