@@ -185,12 +185,13 @@ fn put_messages<'a>(
 
 /// Whether each message of the place may have been taken by open receives with these ends.
 fn are_taken(waiting: &mut Waiting<'_>, ends: &Ends, reaches: &Reaches<'_>) -> bool {
-    while waiting.passed < waiting.messages.len() {
-        if !ends.may_take(reaches, waiting.messages[waiting.passed]) {
+    for at in waiting.passed..waiting.messages.len() {
+        if !ends.may_take(reaches, waiting.messages[at]) {
+            waiting.passed = at;
             return false;
         }
-        waiting.passed += 1;
     }
+    waiting.passed = waiting.messages.len();
     true
 }
 
@@ -214,14 +215,16 @@ fn add_open(
     call: u64,
     ends: &mut Ends,
 ) -> Result<usize, AllocError> {
-    let mut place = from;
-    while place < receives.len() && receives[place].name.call < call {
-        if receives[place].is_open() {
-            ends.insert(&receives[place])?;
+    for place in from..receives.len() {
+        let q = &receives[place];
+        if q.name.call >= call {
+            return Ok(place);
         }
-        place += 1;
+        if q.is_open() {
+            ends.insert(q)?;
+        }
     }
-    Ok(place)
+    Ok(receives.len().max(from))
 }
 
 /// The receives of a rank.
