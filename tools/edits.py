@@ -2,8 +2,7 @@
 
 An edit is a file NAME.edit with a line `file: src/x.rt` and then pairs of lines `old: TEXT` and `new: TEXT`, each TEXT one
 line and each `old` standing once. It turns the meaning of a function, and the prover must refuse that function. The edits of
-a crate stand in edits/CRATE/. Those that every `rt ci` tries are links there to crates/CRATE/must-fail/, below which rt takes
-no link.
+a crate stand in edits/CRATE/. Those that every `rt ci` tries stand in crates/CRATE/must-fail/ too: rt takes no links.
 """
 import pathlib
 import re
@@ -169,8 +168,9 @@ def below(name, uses):
 
 
 def edit_files(name):
-    """The files of a crate's edits, those last that are links to what `rt ci` tries."""
-    return sorted((TOP / "edits" / name).glob("*.edit"), key=lambda it: (it.is_symlink(), it))
+    """The files of a crate's edits, those last that `rt ci` tries too."""
+    of_ci = {it.name for it in (TOP / "crates" / name / "must-fail").glob("*.edit")}
+    return sorted((TOP / "edits" / name).glob("*.edit"), key=lambda it: (it.name in of_ci, it))
 
 
 def sources_of(name):

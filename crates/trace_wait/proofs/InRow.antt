@@ -11,15 +11,25 @@ use Rattle.trace_wait.specs.Patterns.{Place, place_cmp}
 use Rattle.trace_wait.specs.Ranks.{ops_of}
 use Rattle.trace_wait.specs.Sets.{AreFirsts, NotesFirst}
 
+one_less : (k : ℕ) → suc k - 1 ≡ k
+one_less k = omega arith
+
+-- the test of a round with another before it
+behind : (rounds : List Round) (c k : ℕ) → (nat_lt 0 (suc k) && is_mismatched_in rounds c (suc k - 1)) ≡ is_mismatched_in rounds c k
+behind rounds c k =
+    let above : nat_lt 0 (suc k) ≡ true = grind (arith, nat_tests) in
+    ap (λ (b : Bool). b && is_mismatched_in rounds c (suc k - 1)) above ∙ ap (λ (n : ℕ). is_mismatched_in rounds c n) (one_less k)
+
 -- the round before it is mismatched
 pub one_back : (rounds : List Round) (c k : ℕ) → (nat_lt 0 k && is_mismatched_in rounds c (k - 1)) ≡ true → first_in_row rounds c k ≡ first_in_row rounds c (k - 1)
 one_back rounds c zero h = refl
-one_back rounds c (suc k) h = ap (λ (b : Bool). if b then first_in_row rounds c k else suc k) h
+one_back rounds c (suc k) h =
+    ap (λ (b : Bool). if b then first_in_row rounds c k else suc k) (sym (behind rounds c k) ∙ h) ∙ ap (λ (n : ℕ). first_in_row rounds c n) (sym (one_less k))
 
 -- the row begins with it
 pub at_first : (rounds : List Round) (c k : ℕ) → (nat_lt 0 k && is_mismatched_in rounds c (k - 1)) ≡ false → first_in_row rounds c k ≡ k
 at_first rounds c zero h = refl
-at_first rounds c (suc k) h = ap (λ (b : Bool). if b then first_in_row rounds c k else suc k) h
+at_first rounds c (suc k) h = ap (λ (b : Bool). if b then first_in_row rounds c k else suc k) (sym (behind rounds c k) ∙ h)
 
 both_equal : (a c k n : ℕ) → ((a == c) && (k == n)) ≡ true → (a ≡ c) × (k ≡ n)
 both_equal a c k n h = (one a c (fst (a == c) (k == n) h), one k n (snd (a == c) (k == n) h))
