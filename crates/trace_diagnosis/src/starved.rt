@@ -183,16 +183,21 @@ fn put_messages<'a>(
     Ok(())
 }
 
-/// Whether each message of the place may have been taken by open receives with these ends.
-fn are_taken(waiting: &mut Waiting<'_>, ends: &Ends, reaches: &Reaches<'_>) -> bool {
-    for at in waiting.passed..waiting.messages.len() {
-        if !ends.may_take(reaches, waiting.messages[at]) {
-            waiting.passed = at;
-            return false;
+/// The first message from a place on that none of the open receives with these ends may have taken.
+fn first_free(messages: &[&Message], from: usize, ends: &Ends, reaches: &Reaches<'_>) -> usize {
+    for at in from..messages.len() {
+        if !ends.may_take(reaches, messages[at]) {
+            return at;
         }
     }
-    waiting.passed = waiting.messages.len();
-    true
+    messages.len()
+}
+
+/// Whether each message of the place may have been taken by open receives with these ends.
+fn are_taken(waiting: &mut Waiting<'_>, ends: &Ends, reaches: &Reaches<'_>) -> bool {
+    let first = first_free(&waiting.messages, waiting.passed, ends, reaches);
+    waiting.passed = first;
+    first >= waiting.messages.len()
 }
 
 /// Whether the receive starves, beside open receives with these ends.
