@@ -96,19 +96,19 @@ pub(crate) fn tail_of(events: &Readable<'_>) -> Tail {
         first: calls,
         count: 0,
     };
-    while tail.first > 0 {
-        let part = part_at(events, tail.first - 1);
-        match part {
+    for behind in 0..calls {
+        let number = calls - 1 - behind;
+        match part_at(events, number) {
             Part::Poll => tail.count = tail.count.saturating_add(1),
             Part::Local => {}
             Part::Pending => {
-                if tail.first < calls {
+                if behind > 0 {
                     return tail;
                 }
             }
             Part::Other => return tail,
         }
-        tail.first -= 1;
+        tail.first = number;
     }
     tail
 }
@@ -199,9 +199,9 @@ pub(crate) fn asked_of<'a>(
 ) -> Result<Vec<Asked<'a>>, AllocError> {
     let mut seen = BTreeSet::new(alloc);
     let mut polls = Vec::new(alloc);
-    let mut number = count_of(events);
-    while number > tail.first {
-        number -= 1;
+    let calls = count_of(events);
+    for behind in 0..calls.saturating_sub(tail.first) {
+        let number = calls - 1 - behind;
         if let Some(asked) = asked_at(events, number) {
             if seen.insert(key_of(alloc, asked.call)?)? {
                 polls.push(asked)?;
