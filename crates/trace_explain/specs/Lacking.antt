@@ -1,7 +1,9 @@
 -- The communicators that calls name and the layout doesn't have: by the number in the call, with how many calls name it.
 use Rattle.std.specs.Prelude.{ℕ, zero, suc, ◌+◌, ◌/◌, ◌%◌, ◌==◌, Bool, if◌then◌else◌, is_none, nat_lt, position, Option, Some, None, List, [], ◌∷◌, ◌++◌, codes, decimal, length, slice_get, unwrap_or}
 use Rattle.std.specs.List.{flat_map}
-use Rattle.mpi_model.specs.Calls.{comm_of}
+use Rattle.mpi_model.specs.Calls.{comm_of, object_of}
+use Rattle.mpi_model.specs.declared.object.Object.{Object}
+use Rattle.mpi_model.specs.declared.object.Object.TheVariants.{Communicator, Window, File}
 use Rattle.mpi_model.specs.Failures.{one_more}
 use Rattle.mpi_model.specs.Layouts.{Parts, named}
 use Rattle.mpi_model.specs.declared.envelope.CommRef.{CommRef}
@@ -20,11 +22,17 @@ use Rattle.trace_explain.specs.declared.shown.TheConstants.{MOST_SHOWN}
 abbrev pub lacked_number : Parts → ℕ → ℕ → Option CommRef → Option ℕ
 lacked_number layout rank n None = None
 lacked_number layout rank n (Some World) = None
-lacked_number layout rank n (Some (Id number)) = if is_none (named layout rank n (Id number)) then Some number else None
+lacked_number layout rank n (Some (Id number)) = if is_none (named layout rank n Communicator (Id number)) then Some number else None
+
+-- a window or a file that a call names isn't told
+abbrev pub lacked_of : Parts → ℕ → ℕ → Object → Option CommRef → Option ℕ
+lacked_of layout rank n Communicator comm = lacked_number layout rank n comm
+lacked_of layout rank n Window comm = None
+lacked_of layout rank n File comm = None
 
 -- that of the call that is entered by an event
 abbrev pub lacked_by : Parts → ℕ → ℕ → Option Event → Option ℕ
-lacked_by layout rank n (Some (Enter call time)) = lacked_number layout rank n (comm_of call)
+lacked_by layout rank n (Some (Enter call time)) = lacked_of layout rank n (object_of call) (comm_of call)
 lacked_by layout rank n (Some (Return outs time)) = None
 lacked_by layout rank n None = None
 

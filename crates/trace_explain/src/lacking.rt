@@ -6,11 +6,11 @@ ghost use Rattle.call_words.specs.Texts.{Adds};
 ghost use Rattle.trace_know.specs.Cell.{shown};
 ghost use Rattle.trace_know.specs.Prefix.{event_at, event_of};
 ghost use Rattle.trace_explain.specs.Sections.{entry_of};
-ghost use Rattle.trace_explain.specs.Lacking.{calls_read, calls_word, has_number, lacked_by, lacked_number, lacked_text, lacking_below, lacking_line, lacking_line_of, lacking_text, next_lacked_text, no_lacking, once_more, other_lacked_text, some_lacking_text, with_calls, with_new, with_number, with_place};
+ghost use Rattle.trace_explain.specs.Lacking.{calls_read, calls_word, has_number, lacked_by, lacked_number, lacked_of, lacked_text, lacking_below, lacking_line, lacking_line_of, lacking_text, next_lacked_text, no_lacking, once_more, other_lacked_text, some_lacking_text, with_calls, with_new, with_number, with_place};
 
 use crate::shown::MOST_SHOWN;
 use call_words::Text;
-use mpi_model::{Call, CommRef, Event, Layout};
+use mpi_model::{Call, CommRef, Event, Layout, Object};
 use std::alloc::{AllocError, Global};
 use std::marker::Model;
 use trace_know::{Cell, Knowledge};
@@ -108,7 +108,10 @@ fn lacked_number(layout: &Layout, rank: u32, n: u64, comm: Option<CommRef>) -> O
 {
     match comm {
         Some(CommRef::Id(number)) => {
-            if layout.named(rank, n, CommRef::Id(number)).is_none() {
+            if layout
+                .named(rank, n, Object::Communicator, CommRef::Id(number))
+                .is_none()
+            {
                 Some(number)
             } else {
                 None
@@ -119,12 +122,28 @@ fn lacked_number(layout: &Layout, rank: u32, n: u64, comm: Option<CommRef>) -> O
     }
 }
 
+/// The same by the sort of the object: a window or a file isn't told.
+fn lacked_of(
+    layout: &Layout,
+    rank: u32,
+    n: u64,
+    object: Object,
+    comm: Option<CommRef>,
+) -> Option<u32>
+    ensures { result ≡ lacked_of layout.now rank n object comm }
+{
+    match object {
+        Object::Communicator => lacked_number(layout, rank, n, comm),
+        Object::Window | Object::File => None,
+    }
+}
+
 /// That of the call that is entered by an event.
 fn lacked_by(layout: &Layout, rank: u32, n: u64, cell: Cell<'_>) -> Option<u32>
     ensures { result ≡ lacked_by layout.now rank n (event_of (shown cell.entry)) }
 {
     match cell {
-        Cell::One(Event::Enter(call, _)) => lacked_number(layout, rank, n, call.comm()),
+        Cell::One(Event::Enter(call, _)) => lacked_of(layout, rank, n, call.object(), call.comm()),
         Cell::One(Event::Return(_, _)) => None,
         Cell::Nothing | Cell::Contradiction => None,
     }

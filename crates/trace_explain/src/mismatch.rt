@@ -135,7 +135,7 @@ fn is_same_root(a: Option<u32>, b: Option<u32>) -> bool
 fn is_same_function(a: CollectiveFunction, b: CollectiveFunction) -> bool
     ensures { result ≡ same_function a b }
 {
-    a.kind.number() == b.kind.number() && a.nonblocking == b.nonblocking
+    a.kind().number() == b.kind().number() && a.is_nonblocking() == b.is_nonblocking()
 }
 
 /// Whether the two calls match.

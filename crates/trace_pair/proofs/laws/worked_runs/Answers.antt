@@ -60,7 +60,7 @@ returns-clause-cancelled_message c = (refl, refl)
 
 pub returns-clause-behind_a_barrier : goal.returns-clause-behind_a_barrier
 unfolding paired paired_below obeys
-returns-clause-behind_a_barrier c = (refl, refl, refl)
+returns-clause-behind_a_barrier c = (refl, refl, refl, refl)
 
 pub returns-clause-not_behind_a_barrier : goal.returns-clause-not_behind_a_barrier
 unfolding paired paired_below obeys
