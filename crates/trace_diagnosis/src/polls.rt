@@ -19,7 +19,12 @@ fn is_poll(call: &Call) -> bool
 {
     matches!(
         call,
-        Call::Test(_) | Call::Testall(_) | Call::Testany(_) | Call::Testsome(_) | Call::Improbe(_)
+        Call::Test(_)
+            | Call::Testall(_)
+            | Call::Testany(_)
+            | Call::Testsome(_)
+            | Call::Iprobe(_)
+            | Call::Improbe(_)
     )
 }
 
@@ -32,6 +37,7 @@ fn is_unsuccessful(call: &Call, outs: &Outs) -> bool
         (Call::Testall(_), Outs::Flag(done, _)) => !*done,
         (Call::Testany(_), Outs::Index(position, _)) => position.is_none(),
         (Call::Testsome(_), Outs::Several(elements)) => elements.as_slice().is_empty(),
+        (Call::Iprobe(_), Outs::Flag(done, _)) => !*done,
         (Call::Improbe(_), Outs::Flag(done, _)) => !*done,
         _ => false,
     }
@@ -161,6 +167,10 @@ fn key_of(alloc: Global, call: &Call) -> Result<Vec<i64>, AllocError> {
         Call::Testsome(requests) => {
             key.push(3)?;
             key.extend_from_slice(requests.as_slice())?;
+        }
+        Call::Iprobe(envelope) => {
+            key.push(5)?;
+            push_envelope(&mut key, *envelope)?;
         }
         Call::Improbe(envelope) => {
             key.push(4)?;

@@ -117,8 +117,8 @@ fn missing_of(
 /// By which calls match: their kind, whether they block, and their root.
 fn key_of(entered: &Entered) -> (u8, bool, Option<u32>) {
     (
-        entered.function.kind.number(),
-        entered.function.nonblocking,
+        entered.function.kind().number(),
+        entered.function.is_nonblocking(),
         entered.root,
     )
 }

@@ -75,7 +75,7 @@ fn push_probe(
 /// What a probe looks for that takes nothing by itself.
 fn probe_of(call: &Call) -> Option<ProbeEnvelope> {
     match call {
-        Call::Probe(envelope) | Call::Improbe(envelope) => Some(*envelope),
+        Call::Probe(envelope) | Call::Iprobe(envelope) | Call::Improbe(envelope) => Some(*envelope),
         _ => None,
     }
 }
