@@ -6,16 +6,16 @@ use Rattle.dumpi_text.specs.declared.fault.LineFault.{LineFault}
 use Rattle.dumpi_text.specs.declared.fault.LineFault.TheVariants as lines
 use Rattle.dumpi_calls.specs.declared.parameter.Parameter.{Parameter}
 use Rattle.dumpi_calls.specs.declared.parameter.Parameter.TheVariants as parameters
-use Rattle.input_files.specs.declared.fault.Field.{Field}
-use Rattle.input_files.specs.declared.fault.Field.TheVariants as fields
+use Rattle.run_files.specs.declared.fault.Field.{Field}
+use Rattle.run_files.specs.declared.fault.Field.TheVariants as fields
 use Rattle.trace_wire.specs.declared.fault.WireFault.{WireFault}
 use Rattle.trace_wire.specs.declared.fault.WireFault.TheVariants as wires
 use Rattle.trace_wire.specs.declared.packed.fault.PackedCause.{PackedCause}
 use Rattle.trace_wire.specs.declared.packed.fault.PackedCause.TheVariants as packs
 use Rattle.text_notes.specs.declared.start.Start.{Start}
 use Rattle.text_notes.specs.declared.start.Start.TheVariants as starts
-use Rattle.command_runs.specs.declared.fault.RunFault.{RunFault}
-use Rattle.command_runs.specs.declared.fault.RunFault.TheVariants.{Piece, Packed, Missing, Place, Rank, Outside, Write}
+use Rattle.command_runs.specs.declared.faults.fault.RunFault.{RunFault}
+use Rattle.command_runs.specs.declared.faults.fault.RunFault.TheVariants.{Piece, Packed, Missing, Place, Rank, Outside, Write}
 
 -- a sentence on its line
 abbrev pub said : List ℕ → List ℕ

@@ -5,6 +5,5 @@ use Rattle.command_runs.proofs.ending.are_texts.Given as goal
 
 abbrev pub invariant-loop-name : goal.invariant-loop-name
 invariant-loop-name g l = record {
-  files : g.O.Opener.file l.files ≡ g.O.Opener.file l.fn.files;
-  behind : BeginsWithText (g.O.Opener.file l.fn.files) (texts_of (drop l.name-index l.names)) → BeginsWithText (g.O.Opener.file l.fn.files) (texts_of l.names);
+  behind : BeginsWithText (g.O.Opener.file l.files) (texts_of (drop l.name-index l.names)) → BeginsWithText (g.O.Opener.file l.files) (texts_of l.names);
 }
