@@ -1,4 +1,5 @@
 pub mod Names
+mod Called
 pub mod QuickNumber
 pub mod NumberLines
 pub mod FieldByField
