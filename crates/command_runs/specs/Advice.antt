@@ -74,7 +74,7 @@ IsFound file fault found = found.start ≡ None
 
 -- whether a verb answers a person in words
 abbrev pub is_in_words : Verb → Bool
-is_in_words verbs.Explain = true
+is_in_words (verbs.Explain extent) = true
 is_in_words (verbs.ExplainRank rank) = true
 is_in_words _ = false
 

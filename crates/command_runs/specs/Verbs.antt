@@ -5,7 +5,7 @@ use Rattle.mpi_model.specs.Layouts.{Parts}
 use Rattle.trace_check.specs.Checker.{IsCheckOf}
 use Rattle.trace_wire.specs.Packed.{IsPacked}
 use Rattle.command_line.specs.declared.Verb.{Verb}
-use Rattle.command_line.specs.declared.Verb.TheVariants.{Explain, ExplainRank, Graph, Report, ReportJson, Replay, Check, Pack}
+use Rattle.command_line.specs.declared.Verb.TheVariants.{Explain, ExplainJson, ExplainRank, Graph, Report, ReportJson, Replay, Check, Pack}
 use Rattle.run_files.specs.Manifests.{ManifestParts}
 use Rattle.command_runs.specs.Clusters.{IsClusterOf, RefusesCluster}
 use Rattle.command_runs.specs.Explains.{IsExplainOf}
@@ -13,7 +13,7 @@ use Rattle.command_runs.specs.Known.{OfAllTold}
 use Rattle.command_runs.specs.Packs.{RefusesPack}
 use Rattle.command_runs.specs.Refusals.{RefusesNamed}
 use Rattle.command_runs.specs.Replays.{BeginsReplayOf, IsReplayOf, RefusesReplay}
-use Rattle.command_runs.specs.Said.{IsDrawn, IsRankTold, IsReported, IsReportedJson}
+use Rattle.command_runs.specs.Said.{IsReported, IsReportedJson}
 use Rattle.command_runs.specs.Writing.{BreaksOff, Writes}
 use Rattle.command_runs.specs.declared.faults.fault.RunFault.{RunFault}
 use Rattle.command_runs.specs.declared.faults.fault.RunFault.TheVariants.{Write}
@@ -22,9 +22,10 @@ use Rattle.command_runs.specs.declared.run.Outcome.TheVariants.{Good}
 
 -- What a verb prints over this layout and this manifest, whole.
 abbrev pub IsOutputOf : (List ℕ → Option (List ℕ)) → Verb → Parts → ManifestParts → List ℕ → Type 0
-IsOutputOf file Explain l m text = IsExplainOf file l m text
-IsOutputOf file (ExplainRank rank) l m text = OfAllTold file l m (λ view. IsRankTold rank l view text)
-IsOutputOf file Graph l m text = OfAllTold file l m (λ view. IsDrawn l view text)
+IsOutputOf file (Explain extent) l m text = IsExplainOf file l m text
+IsOutputOf file ExplainJson l m text = IsExplainOf file l m text
+IsOutputOf file (ExplainRank rank) l m text = IsExplainOf file l m text
+IsOutputOf file (Graph extent) l m text = IsExplainOf file l m text
 IsOutputOf file Report l m text = OfAllTold file l m (λ view. IsReported l view text)
 IsOutputOf file ReportJson l m text = OfAllTold file l m (λ view. IsReportedJson l view text)
 IsOutputOf file Replay l m text = IsReplayOf file l m text

@@ -11,9 +11,7 @@ use crate::faults::fault::RunFault;
 use crate::load::opener::Opener;
 use crate::load::watch::Watcher;
 use crate::verbs::check::check;
-use crate::verbs::explain::explain;
-use crate::verbs::graph::graph;
-use crate::verbs::one_rank::explain_one_rank;
+use crate::verbs::explain::{Printing, explain};
 use crate::verbs::pack::pack;
 use crate::verbs::replay::replay;
 use crate::verbs::report::{report, report_as_json};
@@ -85,9 +83,10 @@ pub fn run_with<O: Opener, V: Watcher, W: Write>(
 {
     keep_freed_memory(run.alloc);
     match verb {
-        Verb::Explain => explain(run, watcher, out),
-        Verb::ExplainRank(rank) => explain_one_rank(rank, run, watcher, out),
-        Verb::Graph => graph(run, watcher, out),
+        Verb::Explain(extent) => explain(Printing::Words(extent), run, watcher, out),
+        Verb::ExplainJson => explain(Printing::Json, run, watcher, out),
+        Verb::ExplainRank(rank) => explain(Printing::Rank(rank), run, watcher, out),
+        Verb::Graph(extent) => explain(Printing::Picture(extent), run, watcher, out),
         Verb::Report => report(run, watcher, out),
         Verb::ReportJson => report_as_json(run, watcher, out),
         Verb::Replay => replay(run, watcher, out),

@@ -164,9 +164,9 @@ pub fn is_in_words(verb: Verb) -> bool
     ensures { result ≡ is_in_words verb }
 {
     match verb {
-        Verb::Explain | Verb::ExplainRank(_) => true,
-        Verb::Graph | Verb::Report | Verb::ReportJson | Verb::Replay | Verb::Check | Verb::Pack =>
-            false,
+        Verb::Explain(_) | Verb::ExplainRank(_) => true,
+        Verb::ExplainJson | Verb::Graph(_) => false,
+        Verb::Report | Verb::ReportJson | Verb::Replay | Verb::Check | Verb::Pack => false,
     }
 }
 

@@ -1,13 +1,12 @@
-//! An answer in words, with who would be stuck under the other kind of sends.
+//! What holds up a run: in words, as JSON, or as a picture.
 
-ghost use Rattle.std.specs.Prelude.{◌≡◌, false, IfErr, IfOk, take};
+ghost use Rattle.std.specs.Prelude.{◌≡◌, false, IfErr, IfOk, OnOk};
 ghost use Rattle.dumpi_text.specs.Failing.{Fails};
-ghost use Rattle.text_notes.specs.declared.totals.TheConstants.{MOST_SHOWN};
-ghost use Rattle.command_runs.specs.Explains.{IsExplainOf, IsNodeTold, IsNotedNodeOf, other_sends, told_text, under_other};
+ghost use Rattle.command_runs.specs.Explains.{IsExplainOf, IsNotedNodeOf};
 ghost use Rattle.command_runs.specs.Files.{NamesFailed};
-ghost use Rattle.command_runs.specs.Notes.{WhereTrue};
 ghost use Rattle.command_runs.specs.Refusals.{RefusesNamed};
-ghost use Rattle.command_runs.specs.Verbs.{Ran};
+ghost use Rattle.command_runs.specs.Said.{IsDiagnosed};
+ghost use Rattle.command_runs.specs.Verbs.{RanSo};
 
 use crate::faults::fault::RunFault;
 use crate::load::opener::Opener;
@@ -17,39 +16,59 @@ use crate::pieces::noted::noted_of;
 use crate::pieces::packed::{joined, packed_of};
 use crate::run::{Outcome, Run};
 use crate::verbs::answerer::Answerer;
+use crate::verbs::facts::facts_of;
 use crate::verbs::node::node_with;
-use crate::verbs::places::places_of;
 use crate::verbs::writing::write_text;
 use call_words::Text;
-use command_line::Verb;
-use mpi_model::{Layout, Sends, Write};
+use command_line::Extent;
+use diagnosis_words::{
+    TextFacts, diagnosis_json, diagnosis_picture, diagnosis_words, last_calls, rank_words,
+};
+use mpi_model::{Layout, Write};
 use std::alloc::{AllocError, Global};
-use text_notes::{CallPlace, MOST_SHOWN, TextNote, put_notes, put_pieceless, put_places};
-use trace_explain::unknown_ranks;
-use trace_node::{Node, Stuck};
+use text_notes::{TextNote, put_notes, put_pieceless};
+use trace_diagnosis::{Diagnosis, diagnose};
+use trace_know::Knowledge;
+use trace_node::{Answer, Node};
 
-/// Writes in words what the pieces tell.
+/// How a diagnosis is printed.
+#[derive(Clone, Copy, Debug, PartialEq, Eq)]
+pub(crate) enum Printing {
+    Words(Extent),
+    Json,
+    /// What it says of one rank, in words.
+    Rank(u32),
+    /// In the language of Graphviz.
+    Picture(Extent),
+}
+
+/// Writes what holds up the run, by all that the pieces tell.
 pub(crate) fn explain<O: Opener, V: Watcher, W: Write>(
+    printing: Printing,
     run: &Run<'_, O>,
     watcher: &mut V,
     out: &mut W,
 ) -> Result<Outcome, RunFault>
-    ensures ran { Ran (O.file run.now.files.now) Verb.Explain run.now.layout.now run.now.manifest.now result W.written W.failures out.old out.new }
+    ensures ran { RanSo (IsExplainOf (O.file run.now.files.now) run.now.layout.now run.now.manifest.now) (IsExplainOf (O.file run.now.files.now) run.now.layout.now run.now.manifest.now)
+        (RefusesNamed (O.file run.now.files.now) run.now.layout.now.ranks run.now.manifest.now) result W.written W.failures out.old out.new }
     ensures failed { IfErr result (NamesFailed (Fails O.R.failures)) }
 {
-    let text = text_with(run, watcher)?;
+    let text = text_with(printing, run, watcher)?;
     write_text(&text, out)
 }
 
-/// What the pieces tell, in words.
-fn text_with<O: Opener, V: Watcher>(run: &Run<'_, O>, watcher: &mut V) -> Result<Vec<u8>, RunFault>
+/// What holds up the run, printed so.
+fn text_with<O: Opener, V: Watcher>(
+    printing: Printing,
+    run: &Run<'_, O>,
+    watcher: &mut V,
+) -> Result<Vec<u8>, RunFault>
     ensures ok { IfOk result (λ text. IsExplainOf (O.file run.now.files.now) run.now.layout.now run.now.manifest.now text.items) }
     ensures err { IfErr result (RefusesNamed (O.file run.now.files.now) run.now.layout.now.ranks run.now.manifest.now) }
     ensures failed { IfErr result (NamesFailed (Fails O.R.failures)) }
 {
-    let other = under_other(run.alloc, run.layout)?;
     let (node, notes) = noted_node(run, watcher)?;
-    let text = explained(run.alloc, run.layout, node, &other, &notes)?;
+    let text = diagnosed(printing, run.alloc, run.layout, node, notes, run.files)?;
     Ok(text)
 }
 
@@ -71,72 +90,64 @@ fn noted_node<'a, O: Opener, V: Watcher>(
     Ok((node, notes))
 }
 
-/// The layout, but for its sends, which complete in the other way.
-fn under_other(alloc: Global, layout: &Layout) -> Result<Layout, AllocError>
-    ensures { IfOk result (λ other. other ≡ under_other layout.now) }
-{
-    layout.with_sends(alloc, other_sends(layout.sends()))
-}
-
-/// The other way in which sends of standard mode can complete.
-fn other_sends(sends: Sends) -> Sends
-    ensures { result ≡ other_sends sends }
-{
-    match sends {
-        Sends::Wait => Sends::Buffer,
-        Sends::Buffer => Sends::Wait,
-    }
-}
-
-/// What a node tells, in words, with who would be stuck under the other layout, and with what is noted of the texts. It
-/// lets go of the node.
-fn explained<N: Answerer>(
+/// What holds up the run by what a node knows, printed so, with what is noted of the texts. It lets go of the node.
+fn diagnosed<N: Answerer, O: Opener>(
+    printing: Printing,
     alloc: Global,
     layout: &Layout,
     node: N,
-    other: &Layout,
-    notes: &[TextNote],
+    notes: Vec<TextNote>,
+    files: &O,
 ) -> Result<Vec<u8>, AllocError>
     requires fresh { (N.held node).is_stale ≡ false }
     requires own { layout.now ≡ (N.held node).layout }
-    requires other { other.now ≡ under_other (N.held node).layout }
-    ensures { WhereTrue notes.now (λ file. IfOk result (λ text. IsNodeTold file (N.held node) notes.now text.items)) }
+    ensures { OnOk result (IsDiagnosed (N.held node).layout (N.held node).know) }
 {
     // (a new node isn't stale)
     let Ok(answer) = node.told() else {
         unreachable!()
     };
-    let said = trace_explain::explain(alloc, layout, other, answer, node.knowledge())?;
-    let unknown = unknown_ranks(alloc, answer)?;
-    let places = places_of(alloc, shown_first(answer.stuck()), notes)?;
-    let more = answer.stuck().len().saturating_sub(places.len());
-    let text = text_of(alloc, &said, &unknown, notes, &places, more)?;
-    Ok(text)
+    let know = node.knowledge();
+    let diagnosis = diagnose(alloc, layout, answer, know, &[])?;
+    let texts = facts_of(alloc, &diagnosis, notes, files)?;
+    match printing {
+        Printing::Words(extent) => in_words(alloc, layout, &diagnosis, &texts, extent),
+        Printing::Json => diagnosis_json(alloc, layout, &diagnosis, &texts),
+        Printing::Rank(rank) => of_rank(alloc, layout, &diagnosis, &texts, answer, know, rank),
+        Printing::Picture(extent) => {
+            diagnosis_picture(alloc, layout, &diagnosis, &texts, extent == Extent::Whole)
+        }
+    }
 }
 
-/// What was said, with which of the ranks of which nothing is known have no text, what is noted of the texts, and where
-/// stuck calls stand in them.
-fn text_of(
+/// In words, and below them what is noted of the texts.
+fn in_words(
     alloc: Global,
-    said: &[u8],
-    unknown: &[u32],
-    notes: &[TextNote],
-    places: &[CallPlace],
-    more: usize,
-) -> Result<Vec<u8>, AllocError>
-    ensures { IfOk result (λ text. text.items ≡ told_text said.now unknown.now notes.now places.now more) }
-{
+    layout: &Layout,
+    diagnosis: &Diagnosis,
+    texts: &TextFacts,
+    extent: Extent,
+) -> Result<Vec<u8>, AllocError> {
+    let said = diagnosis_words(alloc, layout, diagnosis, texts, extent == Extent::Whole)?;
     let mut text = Text::new(alloc);
-    text.put(said);
-    put_pieceless(alloc, &mut text, notes, unknown);
-    put_notes(alloc, &mut text, notes);
-    put_places(&mut text, places, more);
+    text.put(&said);
+    put_pieceless(alloc, &mut text, &texts.notes, &diagnosis.doubts.no_calls);
+    put_notes(alloc, &mut text, &texts.notes);
     text.into_bytes()
 }
 
-/// The first ten stuck ranks.
-fn shown_first(stuck: &[Stuck]) -> &[Stuck]
-    ensures { result.now ≡ take MOST_SHOWN stuck.now }
-{
-    &stuck[..stuck.len().min(MOST_SHOWN)]
+/// Of one rank, and below that its last calls.
+fn of_rank(
+    alloc: Global,
+    layout: &Layout,
+    diagnosis: &Diagnosis,
+    texts: &TextFacts,
+    answer: &Answer,
+    know: &Knowledge,
+    rank: u32,
+) -> Result<Vec<u8>, AllocError> {
+    let mut text = rank_words(alloc, layout, diagnosis, texts, rank, false)?;
+    let calls = last_calls(alloc, layout, diagnosis, texts, answer, know, rank)?;
+    text.extend_from_slice(&calls)?;
+    Ok(text)
 }

@@ -5,13 +5,17 @@ pub returns-in-Explain-clause-ran : goal.returns-in-Explain-clause-ran
 returns-in-Explain-clause-ran g c =
     ran_as (g.O.Opener.file c.args.run.now.files.now) c.args.verb _ c.args.run.now.layout.now c.args.run.now.manifest.now c.explain.result g.W.Write.written g.W.Write.failures c.args.out.now c.explain.new.out c.in-Explain.is c.explain.ensures.ran
 
+pub returns-in-ExplainJson-clause-ran : goal.returns-in-ExplainJson-clause-ran
+returns-in-ExplainJson-clause-ran g c =
+    ran_as (g.O.Opener.file c.args.run.now.files.now) c.args.verb _ c.args.run.now.layout.now c.args.run.now.manifest.now c.explain-in-ExplainJson.result g.W.Write.written g.W.Write.failures c.args.out.now c.explain-in-ExplainJson.new.out c.in-ExplainJson.is c.explain-in-ExplainJson.ensures.ran
+
 pub returns-in-ExplainRank-clause-ran : goal.returns-in-ExplainRank-clause-ran
 returns-in-ExplainRank-clause-ran g c =
-    ran_as (g.O.Opener.file c.args.run.now.files.now) c.args.verb _ c.args.run.now.layout.now c.args.run.now.manifest.now c.explain_one_rank.result g.W.Write.written g.W.Write.failures c.args.out.now c.explain_one_rank.new.out c.in-ExplainRank.is c.explain_one_rank.ensures.ran
+    ran_as (g.O.Opener.file c.args.run.now.files.now) c.args.verb _ c.args.run.now.layout.now c.args.run.now.manifest.now c.explain-in-ExplainRank.result g.W.Write.written g.W.Write.failures c.args.out.now c.explain-in-ExplainRank.new.out c.in-ExplainRank.is c.explain-in-ExplainRank.ensures.ran
 
 pub returns-in-Graph-clause-ran : goal.returns-in-Graph-clause-ran
 returns-in-Graph-clause-ran g c =
-    ran_as (g.O.Opener.file c.args.run.now.files.now) c.args.verb _ c.args.run.now.layout.now c.args.run.now.manifest.now c.graph.result g.W.Write.written g.W.Write.failures c.args.out.now c.graph.new.out c.in-Graph.is c.graph.ensures.ran
+    ran_as (g.O.Opener.file c.args.run.now.files.now) c.args.verb _ c.args.run.now.layout.now c.args.run.now.manifest.now c.explain-in-Graph.result g.W.Write.written g.W.Write.failures c.args.out.now c.explain-in-Graph.new.out c.in-Graph.is c.explain-in-Graph.ensures.ran
 
 pub returns-in-Report-clause-ran : goal.returns-in-Report-clause-ran
 returns-in-Report-clause-ran g c =

@@ -1,0 +1,341 @@
+//! A diagnosis in words.
+
+use crate::groups::{Group, groups_of};
+use crate::sentences::headline_of;
+use crate::source::Source;
+use crate::texts::TextFacts;
+use crate::writer::Writer;
+use mpi_model::Layout;
+use std::alloc::{AllocError, Global};
+use trace_diagnosis::{Diagnosis, LeftOver, RootKind, Starving};
+
+/// The most lines of a list, and the fewest to which it is cut where there is much to say.
+const MOST_SHOWN: usize = 10;
+
+const FEWEST_SHOWN: usize = 3;
+
+/// The most groups of ranks that are told.
+const MOST_GROUPS: usize = 20;
+
+/// The most ranks of a cycle that are told one by one.
+const MOST_MEMBERS: usize = 8;
+
+/// The most lines of all, and the most bytes of a line.
+const MOST_LINES: usize = 60;
+
+const LONGEST_LINE: usize = 400;
+
+/// Lines that are said beside the lists: the first two, the other sends and the doubts with their heads.
+const OTHER_LINES: usize = 14;
+
+/// Says a diagnosis in words: what holds up the run, where all ranks stand, and what else is known. A list is cut at ten
+/// lines, unless `all` is asked for.
+pub fn diagnosis_words(
+    alloc: Global,
+    layout: &Layout,
+    diagnosis: &Diagnosis,
+    texts: &TextFacts,
+    all: bool,
+) -> Result<Vec<u8>, AllocError> {
+    let source = Source {
+        alloc,
+        layout,
+        diagnosis,
+        texts,
+    };
+    let lists = lists_of(source)?;
+    let cap = cap_of(&lists, all);
+    let mut writer = Writer::new(source, all);
+    let headline = headline_of(&writer)?;
+    writer.put_headline(headline);
+    writer.put_summary();
+    writer.put_roots(&lists, cap)?;
+    writer.put_groups(&lists, cap);
+    writer.put_round_lists(cap);
+    writer.put_message_lists(&lists, cap);
+    writer.put_end();
+    let Writer { out, .. } = writer;
+    clipped(alloc, &out.into_bytes()?, all)
+}
+
+/// What is told in lists, in the order in which it is told.
+#[derive(Drop)]
+struct Lists {
+    groups: Vec<Group>,
+    /// The places of left-over messages and of starving receives.
+    left_over: Vec<usize>,
+    starving: Vec<usize>,
+    /// How many lines each list would have.
+    lengths: Vec<usize>,
+}
+
+/// The places of a list, those with a nearest miss first, then those of which none came through before.
+fn places_by<F: Fn(usize) -> u8>(
+    alloc: Global,
+    count: usize,
+    rank: F,
+) -> Result<Vec<usize>, AllocError> {
+    let mut places = Vec::new(alloc);
+    for wanted in 0..3 {
+        for i in 0..count {
+            if rank(i) == wanted {
+                places.push(i)?;
+            }
+        }
+    }
+    Ok(places)
+}
+
+/// In which order a message is told.
+fn order_of_left(left: &LeftOver) -> u8 {
+    order_of(left.near.is_empty(), left.before)
+}
+
+/// In which order a receive is told.
+fn order_of_starving(starving: &Starving) -> u8 {
+    order_of(starving.near.is_empty(), starving.before)
+}
+
+fn order_of(is_far: bool, before: u64) -> u8 {
+    if !is_far {
+        0
+    } else if before == 0 {
+        1
+    } else {
+        2
+    }
+}
+
+/// The lists of a diagnosis.
+fn lists_of(source: Source<'_>) -> Result<Lists, AllocError> {
+    let alloc = source.alloc;
+    let diagnosis = source.diagnosis;
+    let mut ranks = Vec::new(alloc);
+    for standing in diagnosis.waiting.standing.iter() {
+        ranks.push(standing.rank)?;
+    }
+    let groups = groups_of(source, ranks.as_slice())?;
+    let unmatched = &diagnosis.unmatched;
+    let left = unmatched.left_over.as_slice();
+    let starving = unmatched.starving.as_slice();
+    let mut lengths = Vec::new(alloc);
+    lengths.push(diagnosis.waiting.roots.len())?;
+    lengths.push(groups.len())?;
+    lengths.push(diagnosis.rounds.mismatched.len())?;
+    lengths.push(diagnosis.rounds.open.len())?;
+    lengths.push(left.len())?;
+    lengths.push(starving.len())?;
+    lengths.push(unmatched.unfinished.len())?;
+    Ok(Lists {
+        groups,
+        left_over: places_by(alloc, left.len(), |i| match left.get(i) {
+            Some(one) => order_of_left(one),
+            None => 3,
+        })?,
+        starving: places_by(alloc, starving.len(), |i| match starving.get(i) {
+            Some(one) => order_of_starving(one),
+            None => 3,
+        })?,
+        lengths,
+    })
+}
+
+/// How many lines a list has that is cut: its own, its head with a blank line before it, and how many more there are.
+fn lines_of(length: usize, cap: usize) -> usize {
+    if length == 0 {
+        0
+    } else if length <= cap {
+        length.saturating_add(2)
+    } else {
+        cap.saturating_add(3)
+    }
+}
+
+/// At how many lines the lists are cut, so that all of them have room.
+fn cap_of(lists: &Lists, all: bool) -> usize {
+    if all {
+        return usize::MAX;
+    }
+    let room = MOST_LINES
+        .saturating_sub(OTHER_LINES)
+        .saturating_sub(MOST_MEMBERS);
+    let mut cap = MOST_GROUPS;
+    while cap > FEWEST_SHOWN {
+        let mut lines: usize = 0;
+        for (i, length) in lists.lengths.iter().enumerate() {
+            let most = if i == 1 { cap } else { cap.min(MOST_SHOWN) };
+            lines = lines.saturating_add(lines_of(*length, most));
+        }
+        if lines <= room {
+            return cap;
+        }
+        cap -= 1;
+    }
+    FEWEST_SHOWN
+}
+
+/// The front of a list.
+pub(crate) fn front<T>(list: &[T], cap: usize) -> &[T] {
+    list.get(..cap).unwrap_or(list)
+}
+
+impl<'a> Writer<'a> {
+    /// How many more there are than are told.
+    pub(crate) fn put_more(&mut self, length: usize, cap: usize) {
+        if length > cap {
+            self.put(b"  and ");
+            self.put_number(length.saturating_sub(cap) as u64);
+            self.put(b" more\n");
+        }
+    }
+
+    /// What holds up the run.
+    fn put_roots(&mut self, lists: &Lists, cap: usize) -> Result<(), AllocError> {
+        let roots = self.source.diagnosis.waiting.roots.as_slice();
+        if roots.is_empty() {
+            return Ok(());
+        }
+        self.put(b"\nWhat holds up the run:\n");
+        let cap = self.list_cap(cap);
+        let mut members: usize = 0;
+        for root in front(roots, cap) {
+            self.put_root(root);
+            if matches!(root.kind, RootKind::Cycle) {
+                members = self.put_members_of(root.ranks.as_slice(), members)?;
+            }
+        }
+        self.put_more(roots.len(), cap);
+        let _ = lists;
+        Ok(())
+    }
+
+    /// At how many lines a list is cut that isn't one of groups of ranks.
+    fn list_cap(&self, cap: usize) -> usize {
+        if self.all { cap } else { cap.min(MOST_SHOWN) }
+    }
+
+    /// The ranks of a cycle, those that stand alike together, where so many were told before: how many are told then.
+    fn put_members_of(&mut self, ranks: &[u32], told: usize) -> Result<usize, AllocError> {
+        let groups = groups_of(self.source, ranks)?;
+        let mut count = told;
+        for (i, group) in groups.iter().enumerate() {
+            let is_last = count.saturating_add(1) >= MOST_MEMBERS
+                && i.saturating_add(1) < groups.len();
+            if is_last && !self.all {
+                self.put(b"    and ");
+                self.put_number(groups.len().saturating_sub(i) as u64);
+                self.put(b" more\n");
+                return Ok(count.saturating_add(1));
+            }
+            if count >= MOST_MEMBERS && !self.all {
+                return Ok(count);
+            }
+            self.put_member(group);
+            count = count.saturating_add(1);
+        }
+        Ok(count)
+    }
+
+    /// Where the ranks stand.
+    fn put_groups(&mut self, lists: &Lists, cap: usize) {
+        self.put(b"\nWhere the ranks stand:\n");
+        for group in front(lists.groups.as_slice(), cap) {
+            self.put_group_line(group);
+        }
+        self.put_more(lists.groups.len(), cap);
+    }
+
+    /// Rounds that don't match, and open ones.
+    fn put_round_lists(&mut self, cap: usize) {
+        let cap = self.list_cap(cap);
+        let rounds = &self.source.diagnosis.rounds;
+        let mismatched = rounds.mismatched.as_slice();
+        if !mismatched.is_empty() {
+            self.put(b"\nRounds of collective calls that don't match:\n");
+            for round in front(mismatched, cap) {
+                self.put_mismatched_line(round);
+            }
+            self.put_more(mismatched.len(), cap);
+        }
+        let open = rounds.open.as_slice();
+        if !open.is_empty() {
+            self.put(b"\nRounds of collective calls that not all have entered:\n");
+            for round in front(open, cap) {
+                self.put_open_line(round);
+            }
+            self.put_more(open.len(), cap);
+        }
+    }
+
+    /// Messages, receives and requests that found no end.
+    fn put_message_lists(&mut self, lists: &Lists, cap: usize) {
+        let cap = self.list_cap(cap);
+        let unmatched = &self.source.diagnosis.unmatched;
+        if !lists.left_over.is_empty() {
+            self.put(b"\nMessages that nobody has received:\n");
+            for at in front(lists.left_over.as_slice(), cap) {
+                if let Some(left) = unmatched.left_over.as_slice().get(*at) {
+                    self.put_left_over(left);
+                }
+            }
+            self.put_more(lists.left_over.len(), cap);
+        }
+        if !lists.starving.is_empty() {
+            self.put(b"\nReceives that wait for a message that nobody has sent:\n");
+            for at in front(lists.starving.as_slice(), cap) {
+                if let Some(starving) = unmatched.starving.as_slice().get(*at) {
+                    self.put_starving(starving);
+                }
+            }
+            self.put_more(lists.starving.len(), cap);
+        }
+        let unfinished = unmatched.unfinished.as_slice();
+        if !unfinished.is_empty() {
+            self.put(b"\nRequests that were never completed, of ranks that have ended:\n");
+            for name in front(unfinished, cap) {
+                self.put_unfinished(*name);
+            }
+            self.put_more(unfinished.len(), cap);
+        }
+    }
+
+    /// The other kind of sends, and the doubts.
+    fn put_end(&mut self) {
+        let diagnosis = self.source.diagnosis;
+        if let Some(ranks) = &diagnosis.other_sends {
+            self.put_other_sends(ranks.as_slice());
+        }
+        self.put(b"\nWhat may make this wrong:\n");
+        self.put_doubts(&diagnosis.doubts);
+        self.put(b"  calls of functions that mpimatch doesn't know count as local\n");
+    }
+}
+
+/// Where a line is cut: before a character of UTF-8.
+fn cut_of(line: &[u8]) -> usize {
+    let mut at = LONGEST_LINE.saturating_sub(3);
+    while at > 0 {
+        match line.get(at) {
+            Some(byte) if *byte & 0xC0 == 0x80 => at -= 1,
+            _ => return at,
+        }
+    }
+    0
+}
+
+/// The words, each line cut that is too long.
+pub(crate) fn clipped(alloc: Global, words: &[u8], all: bool) -> Result<Vec<u8>, AllocError> {
+    let mut text = Vec::new(alloc);
+    for (i, line) in words.split(|byte| *byte == b'\n').enumerate() {
+        if i > 0 {
+            text.push(b'\n')?;
+        }
+        if all || line.len() <= LONGEST_LINE {
+            text.extend_from_slice(line)?;
+        } else {
+            text.extend_from_slice(line.get(..cut_of(line)).unwrap_or(line))?;
+            text.extend_from_slice(b" ..")?;
+        }
+    }
+    Ok(text)
+}

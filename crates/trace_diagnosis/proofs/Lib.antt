@@ -1,0 +1,5 @@
+mod Shapes
+mod Holds
+mod Needing
+mod Ranges
+mod Leading

@@ -1,0 +1,11 @@
+pub mod Holding
+pub mod Needs
+pub mod Parts
+pub mod Graph
+pub mod Roots
+pub mod LeftOver
+pub mod Standing
+pub mod Polls
+pub mod Rounds
+pub mod Near
+pub mod Missed

@@ -1,0 +1,124 @@
+//! Messages and receives in no pair.
+
+ghost use Rattle.std.specs.Prelude.{◌≡◌, ◌++◌, List, IfOk, OnOk, filter};
+ghost use Rattle.mpi_model.specs.declared.message.Receive.{Receive as Wanted};
+ghost use Rattle.trace_pair.specs.Ends.{AreLast};
+ghost use Rattle.trace_wait.specs.Matching.{is_unpaired_receive};
+ghost use Rattle.trace_diagnosis.specs.LeftOver.{is_left_beside, is_loose, loose};
+
+use mpi_model::{Message, OpName, Receive};
+use std::alloc::{AllocError, Global};
+use trace_ops::RankOps;
+use trace_pair::{Ends, Pair, PairTable, PairsByReceive, Reaches};
+
+/// Whether the message of that name is in one of the pairs, which go by message; looked for at a place first.
+fn is_in(pairs: &[Pair], place: &mut usize, name: OpName) -> bool {
+    if let Some(pair) = pairs.get(*place) {
+        if pair.message == name {
+            *place = place.saturating_add(1);
+            return true;
+        }
+    }
+    match pairs.binary_search_by_key(&name, |pair| pair.message) {
+        Ok(found) => {
+            *place = found.saturating_add(1);
+            true
+        }
+        Err(_) => false,
+    }
+}
+
+/// Whether one of the messages is sure and in no pair.
+fn has_loose(pairs: &[Pair], place: &mut usize, sends: &[Message]) -> bool {
+    for m in sends {
+        if m.trust.is_sure() && !is_in(pairs, place, m.name) {
+            return true;
+        }
+    }
+    false
+}
+
+/// Whether some message is sure and in no pair.
+pub(crate) fn is_some_loose(pairs: &[Pair], ops: &[RankOps]) -> bool {
+    let mut place = 0;
+    for own in ops {
+        if has_loose(pairs, &mut place, own.sends()) {
+            return true;
+        }
+    }
+    false
+}
+
+/// Whether a message is in no pair and wasn't cancelled.
+fn is_loose(pairs: &PairTable, place: &mut usize, m: &Message) -> bool
+    ensures { result ≡ is_loose pairs.now.pairs m.now }
+{
+    !m.trust.is_void() && pairs.receive_near(m.name, place).is_none()
+}
+
+/// Adds the messages that are in no pair and weren't cancelled.
+fn push_loose(
+    pairs: &PairTable,
+    sends: &[Message],
+    place: &mut usize,
+    found: &mut Vec<Message>,
+) -> Result<(), AllocError>
+    ensures { OnOk result (found.new.items ≡ found.old.items ++ filter (is_loose pairs.now.pairs) sends.now) }
+{
+    for m in sends {
+        if is_loose(pairs, place, m) {
+            found.push(*m)?;
+        }
+    }
+    Ok(())
+}
+
+/// The messages that are in no pair and weren't cancelled, by name.
+pub(crate) fn loose_messages(
+    alloc: Global,
+    pairs: &PairTable,
+    ops: &[RankOps],
+) -> Result<Vec<Message>, AllocError>
+    ensures { IfOk result (λ found. found.items ≡ loose ops.now pairs.now.pairs) }
+{
+    let mut place = 0;
+    let mut found = Vec::new(alloc);
+    for own in ops {
+        push_loose(pairs, own.sends(), &mut place, &mut found)?;
+    }
+    Ok(found)
+}
+
+/// Whether the receive is in no pair.
+pub(crate) fn is_unpaired(pairs: &PairsByReceive<'_>, place: &mut usize, q: &Receive) -> bool
+    ensures { result ≡ is_unpaired_receive pairs.now q.now }
+{
+    pairs.message_near(q.name, place).is_none()
+}
+
+/// Whether a message in no pair is left over: it is sure, and no receive in no pair may have taken it. `ends` are those of
+/// these receives.
+fn is_left(ends: &Ends, reaches: &Reaches<'_>, m: &Message) -> bool
+    ensures { (free : List Wanted) → AreLast free ends.now → result ≡ is_left_beside reaches.now free m.now }
+{
+    m.trust.is_sure() && !ends.may_take(reaches, m)
+}
+
+/// Those of the messages in no pair that are left over.
+pub(crate) fn left_over_of(
+    alloc: Global,
+    ends: &Ends,
+    reaches: &Reaches<'_>,
+    messages: &[Message],
+) -> Result<Vec<Message>, AllocError>
+    ensures { IfOk result (λ left. (free : List Wanted) → AreLast free ends.now
+        → left.items ≡ filter (is_left_beside reaches.now free) messages.now) }
+{
+    let mut left = Vec::new(alloc);
+    for m in messages {
+        if is_left(ends, reaches, m) {
+            left.push(*m)?;
+        }
+    }
+    Ok(left)
+}
