@@ -1,5 +1,5 @@
 -- The table of functions: its callback, its entry and outcome parameters, and how these are read.
-use Rattle.std.specs.Prelude.{ℕ, ◌-◌, List, [], ◌∷◌, length, take, drop, Option, Some, None, option_map, Result, Ok, Err, Bool, true, false, ◌||◌, ◌&&◌, ◌==◌, slice_get, codes, if◌then◌else◌}
+use Rattle.std.specs.Prelude.{ℕ, ◌-◌, List, [], ◌∷◌, length, take, drop, Option, Some, None, option_map, Result, Ok, Err, Bool, true, false, ◌||◌, ◌&&◌, codes, if◌then◌else◌}
 use Rattle.std.specs.Str.{bytes_eq}
 use Rattle.mpi_model.specs.Kinds.{KindFunction, all_kinds, function_name, has_nonblocking, has_root, row as kind_row}
 use Rattle.mpi_model.specs.Ranges.{CollectiveCall, Probed}
