@@ -1,5 +1,4 @@
 pub mod Names
-mod Called
 pub mod QuickNumber
 pub mod NumberLines
 pub mod FieldByField
