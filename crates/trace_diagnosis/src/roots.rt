@@ -4,7 +4,7 @@
 //! of, and the rounds that don't match. Where one root of a kind holds up the same ranks as another, the two are one thing to
 //! say.
 
-ghost use Rattle.std.specs.Prelude.{◌≡◌, ◌≤◌, ◌<◌, ◌+◌, ◌^◌, ◌++◌, ℕ, All, IfOk, OnOk, true, false, filter, is_some, vec_len};
+ghost use Rattle.std.specs.Prelude.{◌≡◌, ◌≤◌, ◌<◌, ◌+◌, ◌^◌, ◌++◌, ◌∷◌, [], if◌then◌else◌, ℕ, All, IfOk, OnOk, true, false, filter, is_some, vec_len};
 ghost use Rattle.std.specs.List.Sorted.{IsPermutation};
 ghost use Rattle.std.specs.List.{range_with_len};
 ghost use Rattle.trace_stuck.specs.Graph.{edge, is_up, label_at};
@@ -20,7 +20,7 @@ use trace_ops::State;
 use trace_stuck::{RoundName, firsts, hearts};
 
 /// What is asked of the ranks.
-#[derive(Clone, Copy, Debug)]
+#[derive(Clone, Copy)]
 pub(crate) struct Ranks<'a> {
     pub count: u32,
     pub states: &'a [State],
@@ -81,8 +81,17 @@ fn is_labelled(labels: &[Option<u32>], least: u32, node: u32) -> bool
     }
 }
 
+/// Adds the rank, where it is to be kept.
+fn push_if(found: &mut Vec<u32>, keep: bool, rank: u32) -> Result<(), AllocError>
+    ensures { OnOk result (found.new.items ≡ found.old.items ++ (if keep then rank ∷ [] else [])) }
+{
+    if keep {
+        found.push(rank)?;
+    }
+    Ok(())
+}
+
 /// The ranks with this label.
-#[tactic(auto, using(crate::proofs::Ranges::filter_more))]
 fn members(
     alloc: Global,
     labels: &[Option<u32>],
@@ -93,9 +102,7 @@ fn members(
 {
     let mut found = Vec::new(alloc);
     for rank in 0..ranks {
-        if is_labelled(labels, least, rank) {
-            found.push(rank)?;
-        }
+        push_if(&mut found, is_labelled(labels, least, rank), rank)?;
     }
     Ok(found)
 }
@@ -176,15 +183,12 @@ fn askers_of(alloc: Global, graph: &Graph, nodes: &[u32]) -> Result<Vec<u32>, Al
 }
 
 /// The ranks whose flags are up.
-#[tactic(auto, using(crate::proofs::Ranges::filter_more))]
 fn ranks_up(alloc: Global, flags: &[bool], count: u32) -> Result<Vec<u32>, AllocError>
     ensures { IfOk result (λ found. found.items ≡ filter (is_up flags.now) (range_with_len 0 count)) }
 {
     let mut found = Vec::new(alloc);
     for rank in 0..count {
-        if is_up(flags, rank) {
-            found.push(rank)?;
-        }
+        push_if(&mut found, is_up(flags, rank), rank)?;
     }
     Ok(found)
 }
