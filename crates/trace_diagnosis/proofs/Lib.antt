@@ -3,4 +3,3 @@ mod Holds
 mod Needing
 mod Ranges
 mod Leading
-mod Rooted
