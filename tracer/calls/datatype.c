@@ -102,7 +102,7 @@ WRAP(MPI_Op_create, (MPI_User_function *user_fn, int commute, MPI_Op *op), (user
 WRAP(MPI_Op_create_c, (MPI_User_function_c *user_fn, int commute, MPI_Op *op), (user_fn, commute, op),
      INT(commute), GIVES_OP(op))
 #endif
-WRAP_WITH(struct handle *h, MPI_Op_free, (MPI_Op *op), (op),
+WRAP_WITH(struct handle *h = NULL;, MPI_Op_free, (MPI_Op *op), (op),
           h = handle_of(OPERATION, KEY(*op)); put_operation("op", *op);,
           if (code == MPI_SUCCESS)
               handle_freed(OPERATION, h);)

@@ -42,7 +42,6 @@ WRAP_POLL(MPI_Win_sync, (MPI_Win win), (win), WIN(win), 0, found = code != MPI_S
 
 /* ---- transfers: each is there with a request, too ---------------------------------------------------------------- */
 
-#define OPENED(...) __VA_ARGS__     /* a list without its parentheses */
 #define TRANSFER(name, rname, c, parameters, arguments, entry)                                              \
     WRAP(MPI_##name##c, (OPENED parameters), (OPENED arguments), entry, )                                   \
     WRAP(MPI_R##rname##c, (OPENED parameters, MPI_Request *request), (OPENED arguments, request), entry, GIVES_REQUEST)
