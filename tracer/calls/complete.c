@@ -175,7 +175,7 @@ WRAP(MPI_Cancel, (MPI_Request *request), (request), put_request(request);, )
 WRAP_WITH(struct handle *h = NULL;, MPI_Request_free, (MPI_Request *request), (request),
           h = put_request(request);,
           if (code == MPI_SUCCESS)
-              handle_freed(REQUEST, h);)
+              handle_freed(REQUESTS, h);)
 
 /* ---- requests of the program's own ----------------------------------------------------------------------------- */
 

@@ -67,10 +67,10 @@
 #define COLOR(x) put_color(#x, x);
 #define STRING(x) put_string(#x, x);
 #define OP(x) put_operation(#x, x);
-#define TYPE(x) put_handle("MPI_Datatype", #x, handle_of(DATATYPE, KEY(x)));
-#define COMM(x) put_handle("MPI_Comm", #x, handle_of(COMM, KEY(x)));
-#define GROUP(x) put_handle("MPI_Group", #x, handle_of(GROUP, KEY(x)));
-#define WIN(x) put_handle("MPI_Win", #x, handle_of(WINDOW, KEY(x)));
+#define TYPE(x) put_handle("MPI_Datatype", #x, handle_of(DATATYPES, KEY(x)));
+#define COMM(x) put_handle("MPI_Comm", #x, handle_of(COMMUNICATORS, KEY(x)));
+#define GROUP(x) put_handle("MPI_Group", #x, handle_of(GROUPS, KEY(x)));
+#define WIN(x) put_handle("MPI_Win", #x, handle_of(WINDOWS, KEY(x)));
 #define FH(x) put_handle("MPI_File", #x, handle_of(FILES, KEY(x)));
 /* Lists of counts in a collective call: of all ranks, and of the root alone. */
 #define COUNTS(x) put_list(#x, counts_of(comm), x);
