@@ -2,10 +2,8 @@
 use Rattle.std.proofs.Common.{◌≡◌, ℕ, ℤ, ◌++◌, false, true, is_some, List, [], ◌∷◌, Option, Some, None, All, Vec, length, ap, ◌∙◌, sym, inl, inr, refl, subst}
 use Rattle.std.specs.List.{list_any, slice_get}
 use Rattle.std.specs.declared.alloc.Global.{Global}
-use Rattle.mpi_model.specs.Communicators.{Communicator}
 use Rattle.comm_groups.specs.Groups.{has}
 use Rattle.comm_makings.specs.ByGroups.{AreFound, AreRightOffers, IsAmong, IsFound, IsRightOffer}
-use Rattle.comm_makings.specs.Derived.{IsSound}
 use Rattle.comm_makings.specs.Derives.{ArePlaces, Derives, IsCreation, IsGroupCall, IsGroupMaking, IsMaking, IsOfOffered, by_group, communicator, created, kth_calls, made, member_with, members_at, own, ranks_in, ranks_of, world, world_members}
 use Rattle.comm_makings.specs.Here.{HasFunction, first_of, gives_later, gives_unknown}
 use Rattle.comm_makings.specs.Makes.{AreGiven, IsMadeBy, IsOneMaking}
@@ -13,7 +11,6 @@ use Rattle.comm_makings.specs.Offers.{AreKnown, AreOfWanted, IsOfWanted, IsWante
 use Rattle.comm_makings.specs.Selection.{Selection}
 use Rattle.comm_makings.specs.State.{AreAllDerivedGroups, AreDerived, AreMadeOf, IsDerivedComm, IsDerivedOutcome, IsFirstComm, IsOfPart, dims_of, parts_in}
 use Rattle.comm_makings.specs.Views.{AreViews}
-use Rattle.comm_makings.specs.Written.{AreWrittenOf, IsWorld, IsWritten, IsWrittenOf, IsWrittenOfOne}
 use Rattle.comm_makings.specs.declared.answer.MadeBy.{MadeBy}
 use Rattle.comm_makings.specs.declared.answer.MadeBy.TheVariants as functions
 use Rattle.comm_makings.specs.declared.by_groups.Offer.{Offer}
@@ -193,31 +190,6 @@ module _ (ranks : List RankCalls) (views : List RankView) where
       → IsFirstComm (member_with 1 rank ∷ []) comm → IsDerivedComm ranks views comm
   own_some rank calls comm here some first = own_by rank calls comm calls.own refl some here first
 
-  -- What is written of derived communicators derives.
-  pub written_derives : (number : ℕ) (uses : List HandleUses) (comms : List Made) (all : List Communicator) → AreDerived ranks views comms
-      → AreViews number ranks views → IsWritten number (length ranks) views uses comms all → IsSound number ranks all
-  written_derives number uses comms all derived read is = record {
-    views = views;
-    uses = uses;
-    read = read;
-    derived = record {
-      first = is.first;
-      others = is.others;
-      starts = is.starts;
-      is_world = is.is_world;
-      all_derive = λ at comm e.
-          let of = is.all_made.each at comm e in
-          let one : IsDerivedComm ranks views of.1 = derived.each of.0 of.1 of.2 in
-          record {
-            members = of.1.members.items;
-            dims = dims_of of.1;
-            derives = one.derives;
-            same = of.3.members ∙ one.same_ranks;
-            named = of.3.named;
-          };
-    };
-  }
-
 -- one more communicator of the parts
 pub made_none : (members : List Member) (all : List (Option Here)) (parts : List Selection) → AreMadeOf members all parts []
 made_none members all parts = record { each = λ at comm e. absurd (cc) }
@@ -228,15 +200,3 @@ pub made_more : (members : List Member) (all : List (Option Here)) (parts : List
 made_more members all parts done i part comm here chosen same_ranks dims are = record {
   each = each_more (IsOfPart members all parts) done comm are.each (i, part, here, record { chosen = chosen; same_ranks = same_ranks; dims = dims });
 }
-
--- one more communicator that is written
-pub written_none : (views : List RankView) (uses : List HandleUses) (done : List Made) → AreWrittenOf views uses done []
-written_none views uses done = record { each = λ at comm e. absurd (cc) }
-
-pub written_more : (views : List RankView) (uses : List HandleUses) (done : List Made) (comms : List Communicator) (comm : Communicator) (place : ℕ) (one : Made)
-    → AreWrittenOf views uses done comms → slice_get done place ≡ Some one → IsWrittenOf views uses one comm → AreWrittenOf views uses done (comms ++ comm ∷ [])
-written_more views uses done comms comm place one are here is = record { each = each_more (IsWrittenOfOne views uses done) comms comm are.each (place, one, here, is) }
-
-pub is_written : (number count : ℕ) (views : List RankView) (uses : List HandleUses) (done : List Made) (first : Communicator) (others all : List Communicator)
-    → IsWorld number count first → AreWrittenOf views uses done others → all ≡ first ∷ others → IsWritten number count views uses done all
-is_written number count views uses done first others all is are starts = record { first = first; others = others; starts = starts; is_world = is; all_made = are }

@@ -4,6 +4,7 @@ pub mod Here
 pub mod Parts
 pub mod Splits
 pub mod World
+pub mod Uses
 pub mod Names
 pub mod Made
 pub mod Groups
@@ -16,4 +17,5 @@ pub mod Derives
 pub mod Offers
 pub mod State
 pub mod ByGroups
+pub mod Left
 pub mod Derived

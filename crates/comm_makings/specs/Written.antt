@@ -1,14 +1,20 @@
 -- By which numbers, over which calls, the members of a communicator name it in a layout.
-use Rattle.std.specs.Prelude.{◌≡◌, ◌⊎◌, ℕ, Bool, false, List, [], ◌∷◌, Option, Some, None, All, cond, map}
-use Rattle.std.specs.List.{range_with_len, slice_get}
+use Rattle.std.specs.Prelude.{◌≡◌, ◌⊎◌, ◌<◌, ◌&&◌, ℕ, Bool, false, List, [], ◌∷◌, Option, Some, None, All, cond, length, map, nat_lt}
+use Rattle.std.specs.List.{filter_map, list_any, range_with_len, slice_get}
+use Rattle.std.specs.List.Sorted.{IsPermutation, IsSorted}
 use Rattle.std.specs.Option.{option_and_then, option_map}
+use Rattle.std.specs.Ordering.{nat_cmp, ordering_then}
+use Rattle.std.specs.declared.cmp.Ordering.{Ordering}
 use Rattle.mpi_model.specs.Communicators.{Communicator}
 use Rattle.mpi_model.specs.declared.layout.comm.Stretch.{Stretch}
 use Rattle.comm_makings.specs.Names.{always}
+use Rattle.comm_makings.specs.Uses.{count_at}
 use Rattle.comm_makings.specs.declared.state.Made.{Made}
 use Rattle.comm_makings.specs.declared.state.Member.{Member}
+use Rattle.comm_makings.specs.declared.state.Order.{Order}
 use Rattle.comm_makings.specs.declared.uses.HandleUses.{HandleUses}
 use Rattle.comm_makings.specs.declared.view.RankView.{RankView}
+use Rattle.comm_makings.specs.declared.written.Named.{Named}
 
 -- a handle of a rank
 abbrev pub handle_at : List RankView → ℕ → ℕ → Option Stretch
@@ -67,18 +73,52 @@ pub record IsWorld (world count : ℕ) (comm : Communicator) : Type 0 where
   pub members : comm.members ≡ range_with_len 0 count
   pub numbers : comm.numbers ≡ []
 
--- A communicator of a layout is one of these derived ones.
-abbrev pub IsWrittenOfOne : List RankView → List HandleUses → List Made → Communicator → Type 0
-IsWrittenOfOne views uses made comm = (place : ℕ) × (one : Made) × (slice_get made place ≡ Some one) × IsWrittenOf views uses one comm
+-- a call of the profile names the communicator
+abbrev pub is_named : List HandleUses → Made → Bool
+is_named uses made = list_any (λ m. nat_lt 0 (count_at uses m.rank m.handle)) made.members.items
 
--- Each of these communicators of a layout is a derived one.
-pub record AreWrittenOf (views : List RankView) (uses : List HandleUses) (made : List Made) (comms : List Communicator) : Type 0 where
-  pub each : (at : ℕ) (comm : Communicator) → slice_get comms at ≡ Some comm → IsWrittenOfOne views uses made comm
+-- a communicator with its order, where it isn't the world and a call of the profile names it
+abbrev pub named_with : List HandleUses → ℕ → Made → Option Named
+named_with uses place made = cond (nat_lt 0 made.order.class && is_named uses made) (Some (record { order = made.order; place = place })) None
 
--- The world comes first, and then communicators that are derived.
+-- the same of the one at this place
+abbrev pub named_at : List HandleUses → List Made → ℕ → Option Named
+named_at uses made place = option_and_then (named_with uses place) (slice_get made place)
+
+-- In a layout MPI_COMM_SELF comes before others, by rank, and the others by the making call of their smallest member whose
+-- text has it, and then by that member.
+abbrev pub order_cmp : Order → Order → Ordering
+order_cmp x y = ordering_then (nat_cmp x.class y.class) (ordering_then (nat_cmp x.call y.call) (nat_cmp x.rank y.rank))
+
+-- the same, and then as they were derived
+abbrev pub named_cmp : Named → Named → Ordering
+named_cmp x y = ordering_then (order_cmp x.order y.order) (nat_cmp x.place y.place)
+
+-- All communicators but the world that a call of the profile names, in the order of a layout.
+pub record AreChosen (uses : List HandleUses) (made : List Made) (chosen : List Named) : Type 0 where
+  pub same : IsPermutation (filter_map (named_at uses made) (range_with_len 0 (length made))) chosen
+  pub sorted : IsSorted named_cmp chosen
+
+-- These communicators of a layout are the chosen ones, in their order.
+pub record AreWrittenOf (views : List RankView) (uses : List HandleUses) (made : List Made) (chosen : List Named) (comms : List Communicator) : Type 0 where
+  pub same : length comms ≡ length chosen
+  pub each : (i : ℕ) (named : Named) (one : Made) (comm : Communicator) → slice_get chosen i ≡ Some named → slice_get made named.place ≡ Some one
+      → slice_get comms i ≡ Some comm → IsWrittenOf views uses one comm
+
+-- Each of these stands at its place.
+pub record AreIn (made : List Made) (chosen : List Named) : Type 0 where
+  pub each : (i : ℕ) (named : Named) → slice_get chosen i ≡ Some named → named.place < length made
+
+-- These communicators of a layout are those that calls of the profile name.
+pub record AreOthers (views : List RankView) (uses : List HandleUses) (made : List Made) (comms : List Communicator) : Type 0 where
+  pub chosen : List Named
+  pub are_chosen : AreChosen uses made chosen
+  pub written : AreWrittenOf views uses made chosen comms
+
+-- The world comes first, and then the communicators that calls of the profile name.
 pub record IsWritten (world count : ℕ) (views : List RankView) (uses : List HandleUses) (made : List Made) (comms : List Communicator) : Type 0 where
   pub first : Communicator
   pub others : List Communicator
   pub starts : comms ≡ first ∷ others
   pub is_world : IsWorld world count first
-  pub all_made : AreWrittenOf views uses made others
+  pub rest : AreOthers views uses made others

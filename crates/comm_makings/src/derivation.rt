@@ -1,17 +1,17 @@
 //! From what the ranks called to their communicators.
 
 ghost use Rattle.std.specs.Prelude.{◌≡◌, ◌≢◌, ◌<◌, ◌^◌, IfErr, IfOk, None, OnOk, Some, length};
-ghost use Rattle.comm_makings.specs.Derived.{IsSound};
+ghost use Rattle.comm_makings.specs.Derived.{IsDerivedFrom};
+ghost use Rattle.comm_makings.specs.State.{IsRight};
 ghost use Rattle.comm_makings.specs.Views.{AreViews};
 ghost use Rattle.comm_makings.specs.World.{first_told, other_told, world_fault, world_of};
-ghost use Rattle.comm_makings.specs.Written.{IsWritten};
 ghost use Rattle.comm_makings.specs.declared.answer.DeriveFault.TheVariants.{Memory};
 
 use crate::answer::{DeriveFault, Derived};
 use crate::calls::RankCalls;
 use crate::left::left_out;
 use crate::run::{Run, run_of};
-use crate::uses::{HandleUses, uses_of_all};
+use crate::uses::uses_of_all;
 use crate::view::{RankView, views_of};
 use crate::written::written;
 use std::alloc::{AllocError, Global};
@@ -76,43 +76,28 @@ fn world_of(ranks: &[RankCalls]) -> Result<u32, DeriveFault>
 }
 
 /// What derives as a layout has it, and what is left out.
+#[tactic(auto, using(crate::proofs::Accounts::derives))]
 fn answer_of(
     alloc: Global,
     world: u32,
     ranks: &[RankCalls],
     views: &[RankView],
     run: &Run,
-    uses: &[HandleUses],
 ) -> Result<Derived, AllocError>
-    requires { length ranks.now < 2 ^ 32 }
-    ensures world { IfOk result (λ d. d.world ≡ world) }
-    ensures written { IfOk result (λ d. IsWritten world (length ranks.now) views.now uses.now run.now.comms.items d.comms.items) }
+    requires few { length ranks.now < 2 ^ 32 }
+    requires world { world ≡ world_of ranks.now }
+    requires views { AreViews world ranks.now views.now }
+    requires right { IsRight ranks.now views.now run.now.standings.items run.now.values.items run.now.comms.items }
+    ensures { IfOk result (IsDerivedFrom ranks.now) }
 {
-    let left_out = left_out(alloc, ranks, views, &run.standings, uses)?;
-    let comms = written(alloc, world, ranks.len() as u32, views, uses, &run.comms)?;
+    let uses = uses_of_all(alloc, ranks, views)?;
+    let left_out = left_out(alloc, ranks, views, &uses, &run.standings)?;
+    let comms = written(alloc, world, ranks.len() as u32, views, &uses, &run.comms)?;
     Ok(Derived {
         world,
         comms,
         left_out,
     })
-}
-
-/// What derives from what the ranks called on each of their handles.
-#[tactic(auto, using(crate::proofs::Derivations::written_derives))]
-fn derived_from(
-    alloc: Global,
-    world: u32,
-    ranks: &[RankCalls],
-    views: &[RankView],
-) -> Result<Derived, AllocError>
-    requires few { length ranks.now < 2 ^ 32 }
-    requires views { AreViews world ranks.now views.now }
-    ensures world { IfOk result (λ d. d.world ≡ world) }
-    ensures sound { IfOk result (λ d. IsSound world ranks.now d.comms.items) }
-{
-    let run = run_of(alloc, ranks, views)?;
-    let uses = uses_of_all(alloc, ranks, views)?;
-    answer_of(alloc, world, ranks, views, &run, &uses)
 }
 
 /// The communicators that the calls of the ranks make: the world, and those that calls of the profile name, as a layout
@@ -123,9 +108,10 @@ pub fn derive(alloc: Global, ranks: &[RankCalls]) -> Result<Derived, DeriveFault
     ensures world { IfOk result (λ d. d.world ≡ world_of ranks.now) }
     ensures none { OnOk result (world_fault ranks.now ≡ None) }
     ensures fault { IfErr result (λ e. e ≢ Memory → world_fault ranks.now ≡ Some e) }
-    ensures sound { IfOk result (λ d. IsSound (world_of ranks.now) ranks.now d.comms.items) }
+    ensures derived { IfOk result (IsDerivedFrom ranks.now) }
 {
     let world = world_of(ranks)?;
     let views = views_of(alloc, world, ranks)?;
-    Ok(derived_from(alloc, world, ranks, &views)?)
+    let run = run_of(alloc, ranks, &views)?;
+    Ok(answer_of(alloc, world, ranks, &views, &run)?)
 }

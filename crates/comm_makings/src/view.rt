@@ -1,10 +1,8 @@
 //! What each rank called on each of its communicators.
 
 ghost use Rattle.std.specs.Prelude.{◌≡◌, ◌==◌, ◌++◌, [], IfOk, OnOk};
-ghost use Rattle.std.specs.List.{slice_get};
-ghost use Rattle.std.specs.Option.{option_and_then};
 ghost use Rattle.comm_makings.specs.Each.{EachBecomes, EachIs, ListsAre, ListsBecome};
-ghost use Rattle.comm_makings.specs.Views.{AreViews, IsView, first_told_on, is_by_group, is_kind, makings_on, place_if, rank_told, told_now};
+ghost use Rattle.comm_makings.specs.Views.{AreViews, IsEnd, IsView, comm_at, first_told_on, is_by_group, is_kind, is_orphan, makings_on, place_if, rank_told, told_now};
 
 use crate::calls::{Action, CommCall, Making, RankCalls};
 use crate::handle::{Handle, Meant};
@@ -50,15 +48,23 @@ fn add_to(lists: &mut Vec<Vec<usize>>, at: usize, call: usize) -> Result<(), All
 }
 
 /// The first call that makes communicators of a parent that is unknown; where there is none, one behind the last.
-fn end_of(calls: &[CommCall], meant: &[Meant]) -> usize {
+#[tactic(auto, using(crate::proofs::Ends::none_more, crate::proofs::Ends::found_end, crate::proofs::Ends::all_known))]
+fn end_of(calls: &[CommCall], meant: &[Meant]) -> usize
+    ensures { IsEnd calls.now meant.now result }
+{
     for (at, call) in calls.iter().enumerate() {
-        if let Action::Make { .. } = &call.action {
-            if comm_at(meant, at).is_none() {
-                return at;
-            }
+        if is_orphan(call, comm_at(meant, at)) {
+            return at;
         }
     }
     calls.len()
+}
+
+/// Whether a call makes communicators, of a parent that is unknown.
+fn is_orphan(call: &CommCall, parent: Option<usize>) -> bool
+    ensures { result ≡ is_orphan call.now parent }
+{
+    making_of(&call.action).is_some() && parent.is_none()
 }
 
 /// Whether a making is collective over a group and not over the parent.
@@ -94,7 +100,7 @@ fn is_kind(by_group: bool, making: &Making) -> bool
 
 /// The handle that the call at this place names.
 fn comm_at(meant: &[Meant], at: usize) -> Option<usize>
-    ensures { result ≡ option_and_then (λ m. m.comm) (slice_get meant.now at) }
+    ensures { result ≡ comm_at meant.now at }
 {
     meant.get(at)?.comm
 }

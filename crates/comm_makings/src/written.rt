@@ -1,18 +1,18 @@
 //! The communicators as a layout has them: which are written, their ids, and by which numbers their members name them.
 
-ghost use Rattle.std.specs.Prelude.{◌≡◌, All, IfOk, IfSome, map};
-ghost use Rattle.std.specs.List.{slice_get};
+ghost use Rattle.std.specs.Prelude.{◌≡◌, All, IfOk, IfSome, length, map};
+ghost use Rattle.std.specs.List.{filter_map, range_with_len, slice_get};
 ghost use Rattle.std.specs.Option.{option_and_then};
-ghost use Rattle.comm_makings.specs.Written.{AreWrittenOf, IsNamedOnly, IsWorld, IsWritten, IsWrittenOf, entry_of, handle_at, is_only, only_number, stretch_of};
+ghost use Rattle.comm_makings.specs.Written.{AreChosen, AreIn, AreOthers, AreWrittenOf, IsNamedOnly, IsWorld, IsWritten, IsWrittenOf, entry_of, handle_at, is_named, is_only, named_at, only_number, stretch_of};
 
 use crate::handle::Handle;
 use crate::names::always;
 use crate::parts::first_places;
 use crate::state::{Made, Member, Order, comm_at, copy_of};
-use crate::uses::HandleUses;
+use crate::uses::{HandleUses, count_at};
 use crate::view::RankView;
 use indexmap::IndexMap;
-use mpi_model::{Comm, Stretch};
+use mpi_model::{Comm, Object, Stretch};
 use std::alloc::{AllocError, Global};
 
 /// Which communicator of the layout a number is of.
@@ -46,27 +46,13 @@ fn is_only(uses: &[HandleUses], rank: u32, handle: usize) -> bool
     }
 }
 
-/// How many calls of the profile name a handle of a rank.
-fn count_at(uses: &[HandleUses], rank: u32, handle: usize) -> u64 {
-    match uses.get(rank as usize) {
-        Some(uses) => match uses.counts.get(handle) {
-            Some(count) => *count,
-            None => 0,
-        },
-        None => 0,
-    }
-}
-
 /// Whether a call of the profile names the communicator.
-fn is_named(uses: &[HandleUses], comm: &Made) -> bool {
-    for member in &comm.members {
-        if let Some(handle) = member.handle {
-            if count_at(uses, member.rank, handle) > 0 {
-                return true;
-            }
-        }
-    }
-    false
+fn is_named(uses: &[HandleUses], comm: &Made) -> bool
+    ensures { result ≡ is_named uses.now comm.now }
+{
+    comm.members
+        .iter()
+        .any(|member| count_at(uses, member.rank, member.handle) > 0)
 }
 
 /// A communicator, by its place among all, in the order of a layout.
@@ -76,21 +62,39 @@ struct Named {
     place: usize,
 }
 
-/// The communicators that are named, but for the world, in their order.
-fn named_comms(
-    alloc: Global,
-    uses: &[HandleUses],
-    comms: &[Made],
-) -> Result<Vec<Named>, AllocError> {
+/// The communicator at this place, where it isn't the world and is named.
+fn named_at(uses: &[HandleUses], comms: &[Made], place: usize) -> Option<Named>
+    ensures { result ≡ named_at uses.now comms.now place }
+{
+    let comm = comm_at(comms, place)?;
+    if comm.order.class > 0 && is_named(uses, comm) {
+        Some(Named {
+            order: comm.order,
+            place,
+        })
+    } else {
+        None
+    }
+}
+
+/// The communicators that are named, but for the world, as they were derived.
+fn all_named(alloc: Global, uses: &[HandleUses], comms: &[Made]) -> Result<Vec<Named>, AllocError>
+    ensures { IfOk result (λ v. v.items ≡ filter_map (named_at uses.now comms.now) (range_with_len 0 (length comms.now))) }
+{
     let mut named = Vec::new(alloc);
-    for (place, comm) in comms.iter().enumerate() {
-        if comm.order.class > 0 && is_named(uses, comm) {
-            named.push(Named {
-                order: comm.order,
-                place,
-            })?;
+    for place in 0..comms.len() {
+        if let Some(one) = named_at(uses, comms, place) {
+            named.push(one)?;
         }
     }
+    Ok(named)
+}
+
+/// The communicators that are named, but for the world, in their order.
+fn named_comms(alloc: Global, uses: &[HandleUses], comms: &[Made]) -> Result<Vec<Named>, AllocError>
+    ensures { IfOk result (λ v. AreChosen uses.now comms.now v.items) }
+{
+    let mut named = all_named(alloc, uses, comms)?;
     named.sort()?;
     Ok(named)
 }
@@ -253,6 +257,7 @@ fn world_comm(alloc: Global, world: u32, ranks: u32) -> Result<Comm, AllocError>
 {
     Ok(Comm {
         id: world,
+        object: Object::Communicator,
         members: first_places(alloc, ranks)?,
         numbers: Vec::new(alloc),
     })
@@ -274,11 +279,13 @@ fn written_comm(
     match id {
         Some(id) => Ok(Comm {
             id,
+            object: Object::Communicator,
             members,
             numbers: Vec::new(alloc),
         }),
         None => Ok(Comm {
             id: other,
+            object: Object::Communicator,
             members,
             numbers: entries_of(alloc, views, uses, &comm.members)?,
         }),
@@ -286,7 +293,7 @@ fn written_comm(
 }
 
 /// These communicators of the layout, with the ids that they have by their numbers. Their free ids begin above this number.
-#[tactic(auto, using(crate::proofs::Derivations::written_none, crate::proofs::Derivations::written_more))]
+#[tactic(auto, using(crate::proofs::Choices::written_none, crate::proofs::Choices::written_all))]
 fn written_comms(
     alloc: Global,
     largest: u32,
@@ -296,23 +303,24 @@ fn written_comms(
     named: &[Named],
     owners: &IndexMap<u32, Owner>,
 ) -> Result<Vec<Comm>, AllocError>
-    ensures { IfOk result (λ all. AreWrittenOf views.now uses.now comms.now all.items) }
+    requires { AreIn comms.now named.now }
+    ensures { IfOk result (λ all. AreWrittenOf views.now uses.now comms.now named.now all.items) }
 {
     let mut free = largest;
     let mut all = Vec::new(alloc);
-    for named in named {
-        if let Some(comm) = comm_at(comms, named.place) {
-            let id = id_of(views, uses, owners, named.place, &comm.members);
-            if id.is_none() {
-                free = free.saturating_add(1);
-            }
-            all.push(written_comm(alloc, views, uses, id, free, comm)?)?;
+    for one in named {
+        let comm = &comms[one.place];
+        let id = id_of(views, uses, owners, one.place, &comm.members);
+        if id.is_none() {
+            free = free.saturating_add(1);
         }
+        all.push(written_comm(alloc, views, uses, id, free, comm)?)?;
     }
     Ok(all)
 }
 
 /// The communicators of the layout but the world. Their free ids begin above this number.
+#[tactic(auto, using(crate::proofs::Choices::chosen_in))]
 fn others(
     alloc: Global,
     largest: u32,
@@ -320,7 +328,7 @@ fn others(
     uses: &[HandleUses],
     comms: &[Made],
 ) -> Result<Vec<Comm>, AllocError>
-    ensures { IfOk result (λ all. AreWrittenOf views.now uses.now comms.now all.items) }
+    ensures { IfOk result (λ all. AreOthers views.now uses.now comms.now all.items) }
 {
     let named = named_comms(alloc, uses, comms)?;
     let owners = owners_of(alloc, views, comms, &named)?;
@@ -328,7 +336,7 @@ fn others(
 }
 
 /// The communicators of the layout, the world first.
-#[tactic(auto, using(crate::proofs::Derivations::is_written))]
+#[tactic(auto, using(crate::proofs::Choices::is_written))]
 pub(crate) fn written(
     alloc: Global,
     world: u32,

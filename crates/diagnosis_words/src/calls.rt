@@ -1,7 +1,7 @@
 //! Calls and operations in words.
 
 use crate::writer::Writer;
-use mpi_model::{Call, Message, OpName, Receive};
+use mpi_model::{Call, Collective, Message, OpName, Receive};
 use trace_diagnosis::{LastCall, Operation, Polled};
 
 /// The most open requests of a call that are told.
@@ -27,6 +27,16 @@ impl<'a> Writer<'a> {
         self.put_name(name);
     }
 
+    /// The object of a collective call, and its root.
+    fn put_collective(&mut self, rank: u32, number: u64, collective: Collective) {
+        self.put(b" on ");
+        self.put_named(rank, number, collective.object(), collective.comm());
+        if let Some(root) = collective.root() {
+            self.put(b", root ");
+            self.put_number(root as u64);
+        }
+    }
+
     /// What a call names beside its function: a peer and a tag, or an object.
     fn put_details(&mut self, rank: u32, number: u64, call: &Call) {
         match call {
@@ -43,14 +53,9 @@ impl<'a> Writer<'a> {
             Call::Probe(envelope) | Call::Mprobe(envelope) | Call::Improbe(envelope) => {
                 self.put_probed(rank, number, *envelope);
             }
-            Call::Collective(collective) | Call::Icollective(collective) => {
-                self.put(b" on ");
-                self.put_comm(rank, number, collective.comm());
-                if let Some(root) = collective.root() {
-                    self.put(b", root ");
-                    self.put_number(root as u64);
-                }
-            }
+            Call::Iprobe(envelope) => self.put_probed(rank, number, *envelope),
+            Call::Collective(collective) => self.put_collective(rank, number, *collective),
+            Call::Icollective(collective) => self.put_collective(rank, number, collective.call()),
             _ => {}
         }
     }

@@ -1,6 +1,6 @@
 //! The functions of calls.
 
-use mpi_model::{Call, CollectiveFunction, Kind, Mode};
+use mpi_model::{Call, Mode, Object};
 
 /// The function of a blocking send of a mode (MPI 4.0, 3.4).
 fn send_name(mode: Mode) -> &'static [u8] {
@@ -32,9 +32,13 @@ fn init_name(mode: Mode) -> &'static [u8] {
     }
 }
 
-/// The function of a collective call.
-fn collective_name(kind: Kind, nonblocking: bool) -> &'static [u8] {
-    CollectiveFunction { kind, nonblocking }.name()
+/// The word for a sort of objects.
+pub(crate) fn sort_word(object: Object) -> &'static [u8] {
+    match object {
+        Object::Communicator => b"communicator",
+        Object::Window => b"window",
+        Object::File => b"file",
+    }
 }
 
 /// The name of a call's function, as far as the call tells it: packed pieces keep no names of local calls.
@@ -56,8 +60,8 @@ pub(crate) fn function_name(call: &Call) -> &'static [u8] {
         Call::Testsome(_) => b"MPI_Testsome",
         Call::Cancel(_) => b"MPI_Cancel",
         Call::Free(_) => b"MPI_Request_free",
-        Call::Collective(call) => collective_name(call.kind(), false),
-        Call::Icollective(call) => collective_name(call.kind(), true),
+        Call::Collective(call) => call.function().name(),
+        Call::Icollective(call) => call.function().name(),
         Call::Probe(_) => b"MPI_Probe",
         Call::SendInit(mode, _) => init_name(*mode),
         Call::RecvInit(_) => b"MPI_Recv_init",
@@ -65,6 +69,7 @@ pub(crate) fn function_name(call: &Call) -> &'static [u8] {
         Call::Startall(_) => b"MPI_Startall",
         Call::Mprobe(_) => b"MPI_Mprobe",
         Call::Improbe(_) => b"MPI_Improbe",
+        Call::Iprobe(_) => b"MPI_Iprobe",
         Call::Imrecv => b"MPI_Imrecv",
         Call::Local => b"a local call",
         Call::Unread => b"a call that is not read",

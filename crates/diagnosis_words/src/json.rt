@@ -1,5 +1,6 @@
 //! A diagnosis as JSON: one object on one line.
 
+use crate::functions::sort_word;
 use crate::source::Source;
 use crate::texts::TextFacts;
 use call_words::{Text, put_seconds};
@@ -473,7 +474,9 @@ impl<'a> Json<'a> {
     }
 
     fn put_foreign(&mut self, foreign: &Foreign) {
-        self.put(b"{\"object\":\"communicator\",\"number\":");
+        self.put(b"{\"object\":\"");
+        self.put(sort_word(foreign.object));
+        self.put(b"\",\"number\":");
         self.put_number(foreign.number as u64);
         self.put(b",\"calls\":");
         self.put_number(foreign.calls);

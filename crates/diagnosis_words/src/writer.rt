@@ -1,8 +1,9 @@
 //! Words that grow, and names of things in them: ranks, objects, calls, times.
 
+use crate::functions::sort_word;
 use crate::source::Source;
 use call_words::{Text, put_ranges};
-use mpi_model::{CommRef, Envelope, Peer, ProbeEnvelope};
+use mpi_model::{CommRef, Envelope, Object, Peer, ProbeEnvelope};
 use std::collections::BTreeSet;
 use trace_diagnosis::RoundName;
 
@@ -224,7 +225,13 @@ impl<'a> Writer<'a> {
             self.put(b"MPI_COMM_WORLD");
             return;
         }
-        self.put(b"communicator ");
+        let sort = self
+            .source
+            .layout
+            .object(object)
+            .unwrap_or(Object::Communicator);
+        self.put(sort_word(sort));
+        self.put(b" ");
         self.put_number(object as u64);
         if self.described.contains(&object) {
             return;
@@ -258,22 +265,36 @@ impl<'a> Writer<'a> {
         self.put_object(round.object);
     }
 
-    /// The object that a call of a rank names.
+    /// The communicator that a call of a rank names.
     pub fn put_comm(&mut self, rank: u32, call: u64, comm: CommRef) {
-        match (self.source.layout.named(rank, call, comm), comm) {
-            (Some(object), _) => self.put_object(object),
+        self.put_named(rank, call, Object::Communicator, comm);
+    }
+
+    /// The object of a sort that a call of a rank names.
+    pub fn put_named(&mut self, rank: u32, call: u64, object: Object, comm: CommRef) {
+        match (self.source.layout.named(rank, call, object, comm), comm) {
+            (Some(id), _) => self.put_object(id),
             (None, CommRef::World) => self.put(b"MPI_COMM_WORLD"),
             (None, CommRef::Id(number)) => {
-                self.put(b"a communicator that the layout doesn't have (number ");
+                self.put(b"a ");
+                self.put(sort_word(object));
+                self.put(b" that the layout doesn't have (number ");
                 self.put_number(number as u64);
                 self.put(b")");
             }
         }
     }
 
+    /// The communicator of the layout that a call of a rank names.
+    fn named(&self, rank: u32, call: u64, comm: CommRef) -> Option<u32> {
+        self.source
+            .layout
+            .named(rank, call, Object::Communicator, comm)
+    }
+
     /// The rank of the run that is a peer of a call.
     fn ranked(&self, rank: u32, call: u64, comm: CommRef, peer: u32) -> Option<u32> {
-        let object = self.source.layout.named(rank, call, comm)?;
+        let object = self.named(rank, call, comm)?;
         self.source
             .layout
             .members(object)?
@@ -312,7 +333,7 @@ impl<'a> Writer<'a> {
 
     /// The object of a message, where it isn't the world.
     pub fn put_behind_tag(&mut self, rank: u32, call: u64, comm: CommRef) {
-        if self.source.layout.named(rank, call, comm) != Some(self.source.layout.world()) {
+        if self.named(rank, call, comm) != Some(self.source.layout.world()) {
             self.put(b", on ");
             self.put_comm(rank, call, comm);
         }

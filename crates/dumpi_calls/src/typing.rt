@@ -7,13 +7,15 @@
 ghost use Rattle.std.specs.Prelude.{◌≡◌, ◌∷◌, [], IfOk, IsSome, None, OnOk};
 ghost use Rattle.dumpi_calls.specs.Outcomes.{brought_by, index_where_set};
 ghost use Rattle.dumpi_calls.specs.Readings.{AreThere, Reads};
-ghost use Rattle.dumpi_calls.specs.Rows.{collective_call, collective_in, collective_parameters, exit_in, first_missing, icollective_call, improbe_call, isend_call, irecv_call, missing_in, mprobe_call, probe_call, probe_parameters, probed_in, read_by, receive_parameters, recv_call, recv_init_call, returned, row, send_call, send_init_call, send_parameters, start_call, startall_call, cancel_call, free_call, test_call, testall_call, testany_call, testsome_call, typed_by, wait_call, waitall_call, waitany_call, waitsome_call};
+ghost use Rattle.dumpi_calls.specs.Rows.{collective_call, collective_in, collective_parameters, exit_in, first_missing, icollective_call, improbe_call, iprobe_call, object_call, isend_call, irecv_call, missing_in, mprobe_call, probe_call, probe_parameters, probed_in, read_by, receive_parameters, recv_call, recv_init_call, returned, row, send_call, send_init_call, send_parameters, start_call, startall_call, cancel_call, free_call, test_call, testall_call, testany_call, testsome_call, typed_by, wait_call, waitall_call, waitany_call, waitsome_call};
 
 use crate::envelope::{receive_envelope_in, send_envelope_in, sendrecv_in, sendrecv_replace_in};
-use crate::function::Function;
+use crate::function::{Function, NonblockingCommunication, ObjectFunction};
 use crate::outcome::{is_flag_set, outcome};
 use crate::parameter::{CallFault, Parameter};
-use crate::reading::{asked_tag, comm, request, requests, root, source, text_in};
+use crate::reading::{
+    asked_tag, comm, named_object, object, request, requests, root, source, text_in,
+};
 use dumpi_text::RawCall;
 use mpi_model::{Call, Collective, Exit, Kind, Mode, ProbeEnvelope, Stamp};
 use std::alloc::{AllocError, Global};
@@ -112,7 +114,9 @@ fn entry_missing(function: Function, raw: &RawCall) -> Option<Parameter>
         Function::Testall | Function::Testany | Function::Testsome | Function::Startall => {
             first_of(raw, &[Parameter::Requests])
         }
-        Function::Collective(kind) | Function::Icollective(kind) => collective_missing(kind, raw),
+        Function::Collective(kind) => collective_missing(kind, raw),
+        Function::Icollective(kind) => collective_missing(kind.kind(), raw),
+        Function::Iprobe | Function::OnObject(_) => None,
         Function::Imrecv | Function::Unread | Function::Finalize | Function::Other => None,
     }
 }
@@ -149,7 +153,7 @@ fn outcome_missing(
         Function::Wait | Function::Waitall | Function::Waitsome | Function::Testsome => Ok(None),
         Function::Cancel | Function::Free | Function::Unread => Ok(None),
         Function::Start | Function::Startall => Ok(None),
-        Function::Collective(_) => Ok(None),
+        Function::Collective(_) | Function::OnObject(_) | Function::Iprobe => Ok(None),
         Function::Finalize | Function::Other => Ok(None),
     }
 }
@@ -419,9 +423,10 @@ fn startall(alloc: Global, raw: &RawCall) -> Result<Call, CallFault>
 fn collective_of(alloc: Global, kind: Kind, raw: &RawCall) -> Result<Collective, CallFault>
     ensures means { Reads result (collective_in kind raw.now) }
     ensures there { OnOk result (AreThere (collective_parameters kind) raw.now) }
+    ensures kind { IfOk result (λ c. c.kind ≡ kind) }
 {
     let root = root(alloc, kind, raw)?;
-    let comm = comm(alloc, raw)?;
+    let comm = named_object(alloc, kind.row().object, raw)?;
     Ok(Collective::new(kind, root, comm).unwrap())
 }
 
@@ -438,13 +443,51 @@ fn collective(alloc: Global, kind: Kind, raw: &RawCall) -> Result<Call, CallFaul
 
 /// A nonblocking collective call of a kind.
 #[tactic(auto, unfolding(crate::specs::Rows::icollective_call))]
-fn icollective(alloc: Global, kind: Kind, raw: &RawCall) -> Result<Call, CallFault>
+fn icollective(
+    alloc: Global,
+    kind: NonblockingCommunication,
+    raw: &RawCall,
+) -> Result<Call, CallFault>
     ensures means { Reads result (icollective_call kind raw.now) }
     ensures there { OnOk result (AreThere (collective_parameters kind) raw.now) }
     ensures brings { IfOk result (λ c. brought_by c raw.now ≡ Parameter.Request ∷ []) }
 {
-    let collective = collective_of(alloc, kind, raw)?;
-    Ok(Call::Icollective(collective))
+    let collective = collective_of(alloc, kind.kind(), raw)?;
+    Ok(Call::Icollective(collective.nonblocking().unwrap()))
+}
+
+/// A collective call of a function on an object: local where it doesn't name its object.
+#[tactic(auto, unfolding(crate::specs::Rows::object_call))]
+fn object_call(alloc: Global, function: ObjectFunction, raw: &RawCall) -> Result<Call, CallFault>
+    ensures means { Reads result (object_call function raw.now) }
+    ensures brings { IfOk result (λ c. brought_by c raw.now ≡ []) }
+{
+    let function = function.function();
+    function.known();
+    match object(alloc, function.kind(), raw)? {
+        Some(comm) => {
+            let call = Collective::new(function.kind(), None, comm).unwrap();
+            if function.is_nonblocking() {
+                Ok(Call::Icollective(call.nonblocking().unwrap()))
+            } else {
+                Ok(Call::Collective(call))
+            }
+        }
+        None => Ok(Call::Local),
+    }
+}
+
+/// A probe that doesn't wait: local where it doesn't say what it looks for.
+#[tactic(auto, unfolding(crate::specs::Rows::iprobe_call))]
+fn iprobe(alloc: Global, raw: &RawCall) -> Result<Call, CallFault>
+    ensures means { Reads result (iprobe_call raw.now) }
+    ensures brings { IfOk result (λ c. brought_by c raw.now ≡ []) }
+{
+    match probed(alloc, raw) {
+        Ok(envelope) => Ok(Call::Iprobe(envelope)),
+        Err(CallFault::Memory) => Err(CallFault::Memory),
+        Err(_) => Ok(Call::Local),
+    }
 }
 
 /// The call by the entry parameters of its row.
@@ -473,6 +516,8 @@ fn call_in(alloc: Global, function: Function, raw: &RawCall) -> Result<Call, Cal
         Function::Free => free(alloc, raw),
         Function::Collective(kind) => collective(alloc, kind, raw),
         Function::Icollective(kind) => icollective(alloc, kind, raw),
+        Function::OnObject(function) => object_call(alloc, function, raw),
+        Function::Iprobe => iprobe(alloc, raw),
         Function::SendInit(mode) => send_init(alloc, mode, raw),
         Function::RecvInit => recv_init(alloc, raw),
         Function::Start => start(alloc, raw),

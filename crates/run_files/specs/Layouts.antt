@@ -6,6 +6,8 @@ use Rattle.serde_json.specs.Find.{as_array, as_str, get}
 use Rattle.mpi_model.specs.declared.layout.Sends.{Sends}
 use Rattle.mpi_model.specs.declared.layout.Sends.TheVariants.{Wait, Buffer}
 use Rattle.mpi_model.specs.declared.layout.comm.Stretch.{Stretch}
+use Rattle.mpi_model.specs.declared.object.Object.{Object}
+use Rattle.mpi_model.specs.declared.object.Object.TheVariants as sorts
 use Rattle.mpi_model.specs.Communicators.{Communicator}
 use Rattle.mpi_model.specs.Layouts.{Holds, Parts, fault_of}
 use Rattle.run_files.specs.Fields.{IsJson, u32_in, u32s_in, with_first}
@@ -15,15 +17,28 @@ use Rattle.run_files.specs.declared.fault.Field.TheVariants as fields
 use Rattle.run_files.specs.declared.fault.InputFault.{InputFault}
 use Rattle.run_files.specs.declared.fault.InputFault.TheVariants.{Memory, Json, Shape, Piece, Packed, Layout}
 
--- a communicator, where all of its fields can be read
-abbrev pub communicator_from : Option ℕ → Option (List ℕ) → Option (List (Option Stretch)) → Option Communicator
-communicator_from None members numbers = None
-communicator_from (Some comm) None numbers = None
-communicator_from (Some comm) (Some members) numbers = option_map (λ ns. record { comm = comm; members = members; numbers = ns }) numbers
+-- a sort of objects, by its word
+abbrev pub object_named : List ℕ → Option Object
+object_named word = if bytes_eq word (codes "communicator") then Some sorts.Communicator
+    else if bytes_eq word (codes "window") then Some sorts.Window
+    else if bytes_eq word (codes "file") then Some sorts.File else None
 
--- a communicator: its id, its members, and by which numbers these name it
+-- the sort of an object: a communicator, where no field tells it
+abbrev pub object_in : Option Data → Option Object
+object_in None = Some sorts.Communicator
+object_in (Some value) = option_and_then object_named (as_str value)
+
+-- an object, where all of its fields can be read
+abbrev pub communicator_from : Option ℕ → Option Object → Option (List ℕ) → Option (List (Option Stretch)) → Option Communicator
+communicator_from None object members numbers = None
+communicator_from (Some comm) None members numbers = None
+communicator_from (Some comm) (Some object) None numbers = None
+communicator_from (Some comm) (Some object) (Some members) numbers = option_map (λ ns. record { comm = comm; object = object; members = members; numbers = ns }) numbers
+
+-- a communicator, a window or a file: its id, its sort, its members, and by which numbers these name it
 abbrev pub communicator_in : Data → Option Communicator
 communicator_in value = communicator_from (option_and_then u32_in (get (codes "id") value))
+    (object_in (get (codes "object") value))
     (option_and_then u32s_in (option_and_then as_array (get (codes "members") value)))
     (numbers_in (get (codes "numbers") value))
 

@@ -3,8 +3,11 @@ use Rattle.std.specs.Prelude.{◌≡◌, ℕ, ◌+◌, ◌==◌, ◌&&◌, Bool,
 use Rattle.json.specs.Json.{Json, null, number, string, array, object, Items, no_items, item, Members, no_members, member}
 use Rattle.json.specs.Print.{print}
 use Rattle.json.specs.Token.{Token}
+use Rattle.json.specs.Token as tokens
 use Rattle.json.specs.Tree.{json_tokens}
 use Rattle.json.specs.Written.{Written}
+use Rattle.mpi_model.specs.declared.object.Object.{Object}
+use Rattle.mpi_model.specs.declared.object.Object.TheVariants as sorts
 use Rattle.mpi_model.specs.Communicators.{Communicator}
 use Rattle.mpi_model.specs.Layouts.{Parts}
 use Rattle.mpi_model.specs.declared.layout.Sends.{Sends}
@@ -43,9 +46,21 @@ abbrev pub numbers_field : List (Option Stretch) → Members
 numbers_field [] = no_members
 numbers_field (e ∷ es) = member (codes "numbers") (array (items_of entry_value (e ∷ es))) no_members
 
--- `{"id":C,"members":[..],"numbers":[..]}`
+-- the field of an object's sort, where it is no communicator, before other fields
+abbrev pub with_object : Object → Members → Members
+with_object sorts.Communicator others = others
+with_object sorts.Window others = member (codes "object") (string (codes "window")) others
+with_object sorts.File others = member (codes "object") (string (codes "file")) others
+
+-- the tokens of that field
+abbrev pub object_tokens : Object → List Token
+object_tokens sorts.Communicator = []
+object_tokens sorts.Window = tokens.key (codes "object") ∷ tokens.string (codes "window") ∷ []
+object_tokens sorts.File = tokens.key (codes "object") ∷ tokens.string (codes "file") ∷ []
+
+-- `{"id":C,"object":"window","members":[..],"numbers":[..]}`, without the second field for a communicator
 abbrev pub communicator_value : Communicator → Json
-communicator_value g = object (member (codes "id") (number_of g.comm) (member (codes "members") (array (items_of number_of g.members)) (numbers_field g.numbers)))
+communicator_value g = object (member (codes "id") (number_of g.comm) (with_object g.object (member (codes "members") (array (items_of number_of g.members)) (numbers_field g.numbers))))
 
 -- how sends of standard mode complete
 abbrev pub sends_word : Sends → List ℕ

@@ -51,6 +51,7 @@ fn copy_of(alloc: Global, comm: &Comm) -> Result<Comm, AllocError>
     let numbers = copy_of_numbers(alloc, &comm.numbers)?;
     Ok(Comm {
         id: comm.id,
+        object: comm.object,
         members,
         numbers,
     })

@@ -2,3 +2,4 @@ mod Shapes
 mod Holds
 mod Needing
 mod Ranges
+mod Leading

@@ -1,7 +1,7 @@
 -- Polls without success (MPI 4.0, 3.7.3, 3.7.5, 3.8.1 and 3.8.2).
 use Rattle.std.specs.Prelude.{Bool, true, false, not, Option, Some, None, is_none, List, [], ◌∷◌}
 use Rattle.mpi_model.specs.declared.call.Call.{Call}
-use Rattle.mpi_model.specs.declared.call.Call.TheVariants.{Local, Test, Testall, Testany, Testsome, Improbe}
+use Rattle.mpi_model.specs.declared.call.Call.TheVariants.{Local, Test, Testall, Testany, Testsome, Iprobe, Improbe}
 use Rattle.mpi_model.specs.declared.outcome.Outs.{Outs}
 use Rattle.mpi_model.specs.declared.outcome.Outs.TheVariants.{Flag, Index, Several}
 use Rattle.trace_diagnosis.specs.declared.polls.Part.{Part}
@@ -13,6 +13,7 @@ is_poll (Test x) = true
 is_poll (Testall xs) = true
 is_poll (Testany xs) = true
 is_poll (Testsome xs) = true
+is_poll (Iprobe e) = true
 is_poll (Improbe e) = true
 is_poll call = false
 
@@ -40,6 +41,7 @@ is_of_none outs = false
 abbrev pub is_unsuccessful : Call → Outs → Bool
 is_unsuccessful (Test x) outs = is_unset outs
 is_unsuccessful (Testall xs) outs = is_unset outs
+is_unsuccessful (Iprobe e) outs = is_unset outs
 is_unsuccessful (Improbe e) outs = is_unset outs
 is_unsuccessful (Testany xs) outs = is_without_index outs
 is_unsuccessful (Testsome xs) outs = is_of_none outs

@@ -12,13 +12,14 @@ use Rattle.trace_diagnosis.specs.declared.diagnosis.Root.{Root}
 use Rattle.trace_diagnosis.specs.declared.diagnosis.RootKind.{RootKind}
 use Rattle.trace_diagnosis.specs.declared.diagnosis.RootKind.TheVariants.{Mismatch, Cycle, Ended, Silent, Open}
 
+-- this is the label
+abbrev pub is_label : ℕ → Option ℕ → Bool
+is_label least None = false
+is_label least (Some label) = label == least
+
 -- the node has this label
 abbrev pub is_labelled : List (Option ℕ) → ℕ → ℕ → Bool
-is_labelled labels least node = is (label_at labels node)
-  where
-    is : Option ℕ → Bool
-    is (Some label) = label == least
-    is None = false
+is_labelled labels least node = is_label least (label_at labels node)
 
 -- the ranks with this label
 abbrev pub members : List (Option ℕ) → ℕ → ℕ → List ℕ

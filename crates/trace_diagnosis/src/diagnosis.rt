@@ -3,7 +3,7 @@
 //! Ranks are those of the trace, and stand in rising order in each list. Objects (communicators, windows, files) are named
 //! by their ids in the layout, and a round by its object and its number `k`, from 0. Times are wall times in nanoseconds.
 
-use mpi_model::{Call, CollectiveFunction, Message, OpName, Receive, Sends};
+use mpi_model::{Call, CollectiveFunction, Message, Object, OpName, Receive, Sends};
 use trace_stuck::{Condition, RoundName};
 
 /// What holds up a run, whether it is proved or not, and what is known beside it.
@@ -289,6 +289,8 @@ pub struct Doubts {
 /// An object that calls name and the layout doesn't know for them.
 #[derive(Clone, Copy, Debug, PartialEq, Eq)]
 pub struct Foreign {
+    /// Of which sort it is.
+    pub object: Object,
     /// The number by which the text names it; of the world its id.
     pub number: u32,
     /// How many calls name it.

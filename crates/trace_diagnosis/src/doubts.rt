@@ -2,36 +2,51 @@
 
 use crate::calls::{called_at, count_of};
 use crate::diagnosis::{Beyond, Doubts, Foreign, Standing};
-use mpi_model::{Call, CommRef, Layout};
+use mpi_model::{Call, CommRef, Layout, Object};
 use std::alloc::{AllocError, Global};
 use std::collections::BTreeMap;
 use trace_know::{Knowledge, Readable};
 use trace_node::Answer;
 use trace_ops::is_foreign;
 
-/// How many calls name each number.
-type Counts = BTreeMap<u32, u64>;
+/// An object as calls name it: its sort, and the number of the text.
+#[derive(Clone, Copy, Debug)]
+struct Named {
+    object: Object,
+    number: u32,
+}
 
-/// A call more of the number.
-fn add(counts: &mut Counts, number: u32) -> Result<(), AllocError> {
-    let count = counts.get(&number).copied().unwrap_or(0);
-    counts.insert(number, count.saturating_add(1))?;
+/// Of each sort and number the object, and how many calls name it.
+type Counts = BTreeMap<(u8, u32), (Named, u64)>;
+
+/// A call more of the object.
+fn add(counts: &mut Counts, named: Named) -> Result<(), AllocError> {
+    let key = (named.object.number(), named.number);
+    let count = match counts.get(&key) {
+        Some(found) => found.1,
+        None => 0,
+    };
+    counts.insert(key, (named, count.saturating_add(1)))?;
     Ok(())
 }
 
-/// The number by which the text names the object of a call; of the world its id.
-fn number_of(layout: &Layout, call: &Call) -> Option<u32> {
-    match call.comm()? {
-        CommRef::World => Some(layout.world()),
-        CommRef::Id(number) => Some(number),
-    }
+/// The object of a call, by the number of the text; of the world by its id.
+fn named_by(layout: &Layout, call: &Call) -> Option<Named> {
+    let number = match call.comm()? {
+        CommRef::World => layout.world(),
+        CommRef::Id(number) => number,
+    };
+    Some(Named {
+        object: call.object(),
+        number,
+    })
 }
 
-/// The number of a foreign call's object.
-fn foreign_at(layout: &Layout, events: &Readable<'_>, rank: u32, number: u64) -> Option<u32> {
+/// The object of a foreign call.
+fn foreign_at(layout: &Layout, events: &Readable<'_>, rank: u32, number: u64) -> Option<Named> {
     let called = called_at(events, number)?;
     if is_foreign(layout, rank, number, called.call) {
-        number_of(layout, called.call)
+        named_by(layout, called.call)
     } else {
         None
     }
@@ -66,10 +81,11 @@ fn foreign_of(
         }
     }
     let mut found = Vec::new(alloc);
-    for (number, calls) in &counts {
+    for (_, of_one) in &counts {
         found.push(Foreign {
-            number: *number,
-            calls: *calls,
+            object: of_one.0.object,
+            number: of_one.0.number,
+            calls: of_one.1,
         })?;
     }
     Ok(found)

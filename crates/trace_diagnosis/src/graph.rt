@@ -91,7 +91,8 @@ fn all_needs(
     conditions: &[Option<Condition>],
     ranks: u32,
 ) -> Result<Vec<Vec<Need>>, AllocError>
-    ensures { IfOk result (λ all. map (λ needs. needs.items) all.items ≡ map (needs_at able.now conditions.now) (range_with_len 0 ranks)) }
+    ensures len { IfOk result (λ all. vec_len all ≡ ranks) }
+    ensures needs { IfOk result (λ all. map (λ needs. needs.items) all.items ≡ map (needs_at able.now conditions.now) (range_with_len 0 ranks)) }
 {
     let mut all = Vec::new(alloc);
     for rank in 0..ranks {

@@ -8,7 +8,9 @@ ghost use Rattle.std.specs.Ordering.{nat_cmp};
 use crate::calls::{call_named, named};
 use crate::inits::Inits;
 use crate::unmatched::Run;
-use mpi_model::{Call, CommRef, Envelope, Layout, Message, Mode, OpName, Peer, Receive, Trust};
+use mpi_model::{
+    Call, CommRef, Envelope, Layout, Message, Mode, Object, OpName, Peer, Receive, Trust,
+};
 use std::alloc::{AllocError, Global};
 use std::collections::BTreeSet;
 use trace_know::Knowledge;
@@ -51,7 +53,7 @@ fn group_of<'a>(
     number: u64,
     comm: CommRef,
 ) -> Option<(u32, &'a [u32])> {
-    let comm = layout.named(rank, number, comm)?;
+    let comm = layout.named(rank, number, Object::Communicator, comm)?;
     Some((comm, layout.members(comm)?))
 }
 

@@ -19,7 +19,12 @@ fn is_poll(call: &Call) -> bool
 {
     matches!(
         call,
-        Call::Test(_) | Call::Testall(_) | Call::Testany(_) | Call::Testsome(_) | Call::Improbe(_)
+        Call::Test(_)
+            | Call::Testall(_)
+            | Call::Testany(_)
+            | Call::Testsome(_)
+            | Call::Iprobe(_)
+            | Call::Improbe(_)
     )
 }
 
@@ -32,6 +37,7 @@ fn is_unsuccessful(call: &Call, outs: &Outs) -> bool
         (Call::Testall(_), Outs::Flag(done, _)) => !*done,
         (Call::Testany(_), Outs::Index(position, _)) => position.is_none(),
         (Call::Testsome(_), Outs::Several(elements)) => elements.as_slice().is_empty(),
+        (Call::Iprobe(_), Outs::Flag(done, _)) => !*done,
         (Call::Improbe(_), Outs::Flag(done, _)) => !*done,
         _ => false,
     }
@@ -96,19 +102,19 @@ pub(crate) fn tail_of(events: &Readable<'_>) -> Tail {
         first: calls,
         count: 0,
     };
-    while tail.first > 0 {
-        let part = part_at(events, tail.first - 1);
-        match part {
+    for behind in 0..calls {
+        let number = calls - 1 - behind;
+        match part_at(events, number) {
             Part::Poll => tail.count = tail.count.saturating_add(1),
             Part::Local => {}
             Part::Pending => {
-                if tail.first < calls {
+                if behind > 0 {
                     return tail;
                 }
             }
             Part::Other => return tail,
         }
-        tail.first -= 1;
+        tail.first = number;
     }
     tail
 }
@@ -162,6 +168,10 @@ fn key_of(alloc: Global, call: &Call) -> Result<Vec<i64>, AllocError> {
             key.push(3)?;
             key.extend_from_slice(requests.as_slice())?;
         }
+        Call::Iprobe(envelope) => {
+            key.push(5)?;
+            push_envelope(&mut key, *envelope)?;
+        }
         Call::Improbe(envelope) => {
             key.push(4)?;
             push_envelope(&mut key, *envelope)?;
@@ -199,9 +209,9 @@ pub(crate) fn asked_of<'a>(
 ) -> Result<Vec<Asked<'a>>, AllocError> {
     let mut seen = BTreeSet::new(alloc);
     let mut polls = Vec::new(alloc);
-    let mut number = count_of(events);
-    while number > tail.first {
-        number -= 1;
+    let calls = count_of(events);
+    for behind in 0..calls.saturating_sub(tail.first) {
+        let number = calls - 1 - behind;
         if let Some(asked) = asked_at(events, number) {
             if seen.insert(key_of(alloc, asked.call)?)? {
                 polls.push(asked)?;

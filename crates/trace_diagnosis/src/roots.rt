@@ -436,7 +436,8 @@ fn joined(alloc: Global, single: Vec<Root>) -> Result<Vec<Root>, AllocError>
 {
     let mut roots = Vec::new(alloc);
     let mut places = Places::new(alloc);
-    for root in single {
+    let mut rest = single;
+    while let Some(root) = rest.pop() {
         add(&mut roots, &mut places, root)?;
     }
     Ok(roots)

@@ -1,6 +1,6 @@
 //! The rounds whose calls don't match, and those that some members haven't entered.
 
-ghost use Rattle.std.specs.Prelude.{◌≡◌, IfOk};
+ghost use Rattle.std.specs.Prelude.{◌≡◌, ◌<◌, IfOk, length};
 ghost use Rattle.std.specs.List.Sorted.{IsPermutation};
 ghost use Rattle.trace_wait.specs.Rounds.{group};
 ghost use Rattle.trace_diagnosis.specs.Rounds.{HasMembers, entered, entered_at, has_entered, missing};
@@ -117,8 +117,8 @@ fn missing_of(
 /// By which calls match: their kind, whether they block, and their root.
 fn key_of(entered: &Entered) -> (u8, bool, Option<u32>) {
     (
-        entered.function.kind.number(),
-        entered.function.nonblocking,
+        entered.function.kind().number(),
+        entered.function.is_nonblocking(),
         entered.root,
     )
 }
@@ -143,15 +143,28 @@ fn group_of(alloc: Global, first: &Entrant, entrants: &[Entrant]) -> Result<Call
     })
 }
 
-/// How many of the entrants from a place on have calls that match the one there.
-fn run_from(entrants: &[Entrant], place: usize) -> usize {
-    let mut end = place;
-    while end < entrants.len()
-        && key_of(&entrants[end].entered) == key_of(&entrants[place].entered)
-    {
-        end += 1;
+/// Whether the two have calls that match.
+fn do_match(one: &Entrant, other: &Entrant) -> bool {
+    key_of(&one.entered) == key_of(&other.entered)
+}
+
+/// The entrants from a place on whose calls match the one there, up to the first whose doesn't.
+fn run_from(entrants: &[Entrant], at: usize) -> &[Entrant]
+    requires { at < length entrants.now }
+{
+    for end in at..entrants.len() {
+        if !do_match(&entrants[at], &entrants[end]) {
+            return &entrants[at..end];
+        }
     }
-    end - place
+    &entrants[at..]
+}
+
+/// Whether the call of the entrant at a place doesn't match the one before.
+fn is_first(entrants: &[Entrant], at: usize) -> bool
+    requires { at < length entrants.now }
+{
+    at == 0 || !do_match(&entrants[at - 1], &entrants[at])
 }
 
 /// The groups of those whose calls match, by their first ranks.
@@ -159,12 +172,10 @@ fn groups_of(alloc: Global, entrants: Vec<Entrant>) -> Result<Vec<CallGroup>, Al
     let mut sorted = entrants;
     sorted.sort_by_key(|one| (key_of(&one.entered), one.rank))?;
     let mut groups = Vec::new(alloc);
-    let mut place = 0;
-    while place < sorted.len() {
-        let count = run_from(&sorted, place).max(1);
-        let end = sorted.len().min(place + count);
-        groups.push(group_of(alloc, &sorted[place], &sorted[place..end])?)?;
-        place = end;
+    for at in 0..sorted.len() {
+        if is_first(&sorted, at) {
+            groups.push(group_of(alloc, &sorted[at], run_from(&sorted, at))?)?;
+        }
     }
     groups.sort_by_key(|group: &CallGroup| group.call.rank)?;
     Ok(groups)

@@ -75,7 +75,7 @@ fn push_probe(
 /// What a probe looks for that takes nothing by itself.
 fn probe_of(call: &Call) -> Option<ProbeEnvelope> {
     match call {
-        Call::Probe(envelope) | Call::Improbe(envelope) => Some(*envelope),
+        Call::Probe(envelope) | Call::Iprobe(envelope) | Call::Improbe(envelope) => Some(*envelope),
         _ => None,
     }
 }
@@ -183,15 +183,21 @@ fn put_messages<'a>(
     Ok(())
 }
 
+/// The first message from a place on that none of the open receives with these ends may have taken.
+fn first_free(messages: &[&Message], from: usize, ends: &Ends, reaches: &Reaches<'_>) -> usize {
+    for at in from..messages.len() {
+        if !ends.may_take(reaches, messages[at]) {
+            return at;
+        }
+    }
+    messages.len()
+}
+
 /// Whether each message of the place may have been taken by open receives with these ends.
 fn are_taken(waiting: &mut Waiting<'_>, ends: &Ends, reaches: &Reaches<'_>) -> bool {
-    while waiting.passed < waiting.messages.len() {
-        if !ends.may_take(reaches, waiting.messages[waiting.passed]) {
-            return false;
-        }
-        waiting.passed += 1;
-    }
-    true
+    let first = first_free(&waiting.messages, waiting.passed, ends, reaches);
+    waiting.passed = first;
+    first >= waiting.messages.len()
 }
 
 /// Whether the receive starves, beside open receives with these ends.
@@ -214,14 +220,16 @@ fn add_open(
     call: u64,
     ends: &mut Ends,
 ) -> Result<usize, AllocError> {
-    let mut place = from;
-    while place < receives.len() && receives[place].name.call < call {
-        if receives[place].is_open() {
-            ends.insert(&receives[place])?;
+    for place in from..receives.len() {
+        let q = &receives[place];
+        if q.name.call >= call {
+            return Ok(place);
         }
-        place += 1;
+        if q.is_open() {
+            ends.insert(q)?;
+        }
     }
-    Ok(place)
+    Ok(receives.len().max(from))
 }
 
 /// The receives of a rank.

@@ -97,6 +97,28 @@ fn askers_of(alloc: Global, receives: &[Receive]) -> Result<BTreeMap<Pattern, As
     Ok(askers)
 }
 
+/// The place at a place: none is so great as where there is none.
+fn place_at(places: &[usize], at: usize) -> usize {
+    places.get(at).copied().unwrap_or(usize::MAX)
+}
+
+/// The call of the receive at a place.
+fn call_at(receives: &[Receive], place: usize) -> u64 {
+    match receives.get(place) {
+        Some(q) => q.name.call,
+        None => 0,
+    }
+}
+
+/// Adds a message to those at a place, and answers whether three are there.
+fn push_at(found: &mut [Vec<TakenBy>], place: usize, taken: TakenBy) -> Result<bool, AllocError> {
+    if place >= found.len() {
+        return Ok(true);
+    }
+    found[place].push(taken)?;
+    Ok(found[place].len() >= MOST_NEAR)
+}
+
 /// Gives a taken message to each of the receives with later calls that haven't found three.
 fn give(
     askers: &mut Askers,
@@ -104,15 +126,14 @@ fn give(
     taken: TakenBy,
     found: &mut [Vec<TakenBy>],
 ) -> Result<(), AllocError> {
-    let mut at = askers.full;
-    while at > 0 {
-        at -= 1;
-        let place = askers.places[at];
-        if receives[place].name.call <= taken.by.call {
+    let full = askers.full;
+    for behind in 0..full {
+        let at = full - 1 - behind;
+        let place = place_at(&askers.places, at);
+        if call_at(receives, place) <= taken.by.call {
             return Ok(());
         }
-        found[place].push(taken)?;
-        if found[place].len() >= MOST_NEAR {
+        if push_at(found, place, taken)? {
             askers.full = at;
         }
     }

@@ -1,6 +1,6 @@
 //! The first and the last time of a run.
 
-use crate::calls::{wall_at, wall_in};
+use crate::calls::{count_of, wall_at, wall_in};
 use crate::diagnosis::Times;
 use trace_know::{Knowledge, Known, Readable};
 
@@ -23,13 +23,9 @@ fn last_of(time: Option<u64>, wall: u64) -> u64 {
 /// With the Enters of a rank.
 fn begin_with(first: Option<u64>, events: &Readable<'_>) -> Option<u64> {
     let mut first = first;
-    let mut place = 0;
-    while place < events.len() {
-        first = Some(first_of(first, wall_at(events, place as u64)));
-        if events.len() - place <= 2 {
-            return first;
-        }
-        place += 2;
+    for number in 0..count_of(events) {
+        let wall = wall_at(events, number.saturating_mul(2));
+        first = Some(first_of(first, wall));
     }
     first
 }

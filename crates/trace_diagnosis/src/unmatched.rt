@@ -2,6 +2,7 @@
 
 ghost use Rattle.std.specs.Prelude.{◌≡◌, ◌++◌, All, IfOk, OnOk, map};
 ghost use Rattle.std.specs.List.{flat_map};
+ghost use Rattle.trace_ops.specs.Ops.{AreOwn};
 ghost use Rattle.trace_diagnosis.specs.LeftOver.{unfinished_of};
 ghost use Rattle.trace_diagnosis.specs.Missed.{IsNearMessage, IsNearReceive};
 
@@ -87,7 +88,9 @@ struct Found {
 }
 
 /// What starves and what is left over.
-fn found_in(alloc: Global, run: &Run<'_>, reaches: &Reaches<'_>) -> Result<Found, AllocError> {
+fn found_in(alloc: Global, run: &Run<'_>, reaches: &Reaches<'_>) -> Result<Found, AllocError>
+    requires { reaches.now ≡ run.now.ops.now }
+{
     let received = run.pairs.by_receive(alloc)?;
     let loose = loose_messages(alloc, run.pairs, run.ops)?;
     let ends = ends_asked(alloc, run.ops, &received)?;
@@ -440,7 +443,10 @@ pub(crate) fn unmatched_of(
     alloc: Global,
     run: &Run<'_>,
     inits: &Inits,
-) -> Result<Unmatched, AllocError> {
+) -> Result<Unmatched, AllocError>
+    requires { AreOwn 0 run.now.ops.now }
+    ensures { IfOk result (λ u. u.unfinished.items ≡ flat_map unfinished_of run.now.ops.now) }
+{
     let table = reaches_of(alloc, run.ops)?;
     let reaches = Reaches::new(run.ops, &table);
     let found = found_in(alloc, run, &reaches)?;

@@ -1,8 +1,11 @@
 //! From what is known of a run to its diagnosis.
 
 ghost use Rattle.std.specs.Prelude.{◌≡◌, ◌<◌, ◌^◌, All, IfOk, length, map};
+ghost use Rattle.std.specs.List.{flat_map};
 ghost use Rattle.trace_node.specs.Answer.{IsAnswer};
 ghost use Rattle.trace_ops.specs.Ops.{AreOwn};
+ghost use Rattle.trace_ops.specs.RankOps.{all_ops};
+ghost use Rattle.trace_diagnosis.specs.LeftOver.{unfinished_of};
 
 use crate::conditions::{Case, Poller, conditions_of, held_of, pollers_of, waits_of};
 use crate::diagnosis::{Diagnosis, Held, Need, Polled, Polling, Root, Rounds, Unmatched, Waiting};
@@ -165,7 +168,9 @@ fn other_stuck(
 }
 
 /// Nothing is left over, and nothing starves.
-fn nothing_unmatched(alloc: Global, ops: &[RankOps]) -> Result<Unmatched, AllocError> {
+fn nothing_unmatched(alloc: Global, ops: &[RankOps]) -> Result<Unmatched, AllocError>
+    ensures { IfOk result (λ u. u.unfinished.items ≡ flat_map unfinished_of ops.now) }
+{
     Ok(Unmatched {
         left_over: Vec::new(alloc),
         starving: Vec::new(alloc),
@@ -183,7 +188,9 @@ struct Matters {
 }
 
 /// The same where no rank waits or polls, and no message is without a pair.
-fn no_matters(alloc: Global, ops: &[RankOps]) -> Result<Matters, AllocError> {
+fn no_matters(alloc: Global, ops: &[RankOps]) -> Result<Matters, AllocError>
+    ensures { IfOk result (λ m. m.unmatched.unfinished.items ≡ flat_map unfinished_of ops.now) }
+{
     Ok(Matters {
         held: Vec::new(alloc),
         roots: Vec::new(alloc),
@@ -199,6 +206,7 @@ fn matters_of(alloc: Global, case: &Case<'_>, rounds: &Rounds) -> Result<Matters
     requires there { All (λ p. p.rank < length case.now.ops.now) case.now.pollers.now }
     requires small { case.now.ranks < 2 ^ 31 }
     requires states { length case.now.answer.now.states < 2 ^ 32 }
+    ensures { IfOk result (λ m. m.unmatched.unfinished.items ≡ flat_map unfinished_of case.now.ops.now) }
 {
     let pairs = pair_all(alloc, case.ops)?;
     let conditions = conditions_of(alloc, case, &pairs)?;
@@ -235,6 +243,81 @@ fn matters_of(alloc: Global, case: &Case<'_>, rounds: &Rounds) -> Result<Matters
     })
 }
 
+/// Whether a run has matters: a rank waits or polls, or a message is without a pair.
+fn has_matters(case: &Case<'_>) -> bool {
+    does_one_wait(case.answer.states())
+        || !case.pollers.is_empty()
+        || is_some_loose(case.answer.pairs(), case.ops)
+}
+
+/// What matters of a run, where something does.
+fn matters_in(alloc: Global, case: &Case<'_>, rounds: &Rounds) -> Result<Matters, AllocError>
+    requires few { length case.now.ops.now < 2 ^ 32 }
+    requires own { AreOwn 0 case.now.ops.now }
+    requires there { All (λ p. p.rank < length case.now.ops.now) case.now.pollers.now }
+    requires small { case.now.ranks < 2 ^ 31 }
+    requires states { length case.now.answer.now.states < 2 ^ 32 }
+    ensures { IfOk result (λ m. m.unmatched.unfinished.items ≡ flat_map unfinished_of case.now.ops.now) }
+{
+    if has_matters(case) {
+        matters_of(alloc, case, rounds)
+    } else {
+        no_matters(alloc, case.ops)
+    }
+}
+
+/// The diagnosis of a run.
+fn diagnosis_of(alloc: Global, case: &Case<'_>) -> Result<Diagnosis, AllocError>
+    requires few { length case.now.ops.now < 2 ^ 32 }
+    requires own { AreOwn 0 case.now.ops.now }
+    requires there { All (λ p. p.rank < length case.now.ops.now) case.now.pollers.now }
+    requires small { case.now.ranks < 2 ^ 31 }
+    requires states { length case.now.answer.now.states < 2 ^ 32 }
+    ensures ranks { IfOk result (λ d. d.ranks ≡ case.now.ranks) }
+    ensures sends { IfOk result (λ d. d.sends ≡ case.now.answer.now.sends) }
+    ensures stuck { IfOk result (λ d. d.stuck.items ≡ case.now.stuck.now) }
+    ensures unfinished { IfOk result (λ d. d.unmatched.unfinished.items ≡ flat_map unfinished_of case.now.ops.now) }
+{
+    let entries = entries_of(alloc, case.ops)?;
+    let standing = standing_of(alloc, case.know, case.ops, &entries, case.cut, case.ranks)?;
+    let doubts = doubts_of(alloc, case.layout, case.answer, case.know, &standing)?;
+    let rounds = rounds_of(alloc, case.layout, &entries, case.answer.rounds())?;
+    let matters = matters_in(alloc, case, &rounds)?;
+    let stuck = Vec::from_slice(alloc, case.stuck)?;
+    let waiting = Waiting {
+        standing,
+        polls: polls_of(alloc, case.pollers, case.ops)?,
+        held: matters.held,
+        roots: matters.roots,
+    };
+    let unmatched = matters.unmatched;
+    let operations = operations_of(alloc, case.know, case.inits, &waiting, &rounds, &unmatched)?;
+    Ok(Diagnosis {
+        ranks: case.ranks,
+        sends: case.answer.sends(),
+        times: times_of(case.know, case.ranks),
+        stuck,
+        other_sends: matters.other_sends,
+        waiting,
+        rounds,
+        unmatched,
+        doubts,
+        operations,
+    })
+}
+
+/// What all ranks did.
+fn ops_in(alloc: Global, layout: &Layout, know: &Knowledge) -> Result<Vec<RankOps>, AllocError>
+    ensures few { IfOk result (λ ops. length ops.items < 2 ^ 32) }
+    ensures own { IfOk result (λ ops. AreOwn 0 ops.items) }
+    ensures ops { IfOk result (λ ops. ops.items ≡ all_ops layout.now know.now) }
+{
+    layout.known();
+    ops_laws();
+    let ops = all_ops(alloc, layout, know)?;
+    Ok(ops)
+}
+
 /// What holds up a run: a function of what is known of it. `answer` is that of the layout and of what is known; `cut[r]` says
 /// that the readable prefix of rank r ends where its text was cut.
 pub fn diagnose(
@@ -245,18 +328,16 @@ pub fn diagnose(
     cut: &[bool],
 ) -> Result<Diagnosis, AllocError>
     requires { IsAnswer layout.now know.now answer.now }
+    ensures ranks { IfOk result (λ d. d.ranks ≡ layout.now.ranks) }
+    ensures sends { IfOk result (λ d. d.sends ≡ layout.now.sends) }
+    ensures stuck { IfOk result (λ d. d.stuck.items ≡ map (λ s. s.rank) answer.now.stuck) }
+    ensures unfinished { IfOk result (λ d. d.unmatched.unfinished.items ≡ flat_map unfinished_of (all_ops layout.now know.now)) }
 {
-    layout.known();
-    ops_laws();
-    let ops = all_ops(alloc, layout, know)?;
-    let entries = entries_of(alloc, &ops)?;
-    let inits = Inits::of(alloc, know, answer.ranks())?;
-    let ranks = answer.ranks();
+    let ranks = layout.ranks();
+    let ops = ops_in(alloc, layout, know)?;
+    let inits = Inits::of(alloc, know, ranks)?;
     let pollers = pollers_of(alloc, know, &ops, cut, ranks)?;
     let stuck = stuck_ranks(alloc, answer)?;
-    let standing = standing_of(alloc, know, &ops, &entries, cut, ranks)?;
-    let doubts = doubts_of(alloc, layout, answer, know, &standing)?;
-    let rounds = rounds_of(alloc, layout, &entries, answer.rounds())?;
     let case = Case {
         layout,
         answer,
@@ -268,31 +349,5 @@ pub fn diagnose(
         inits: &inits,
         stuck: &stuck,
     };
-    let matters = if does_one_wait(answer.states())
-        || !pollers.is_empty()
-        || is_some_loose(answer.pairs(), &ops)
-    {
-        matters_of(alloc, &case, &rounds)?
-    } else {
-        no_matters(alloc, &ops)?
-    };
-    let waiting = Waiting {
-        standing,
-        polls: polls_of(alloc, &pollers, &ops)?,
-        held: matters.held,
-        roots: matters.roots,
-    };
-    let operations = operations_of(alloc, know, &inits, &waiting, &rounds, &matters.unmatched)?;
-    Ok(Diagnosis {
-        ranks: answer.ranks(),
-        sends: answer.sends(),
-        times: times_of(know, answer.ranks()),
-        stuck,
-        other_sends: matters.other_sends,
-        waiting,
-        rounds,
-        unmatched: matters.unmatched,
-        doubts,
-        operations,
-    })
+    diagnosis_of(alloc, &case)
 }

@@ -2,7 +2,7 @@
 
 ghost use Rattle.std.specs.Prelude.{◌≡◌, ◌++◌, decimal};
 ghost use Rattle.trace_report.specs.Page.{Prints};
-ghost use Rattle.trace_report.specs.Words.{function_word, part_text, sends_word, state_word, where_so};
+ghost use Rattle.trace_report.specs.Words.{begun_small, function_word, part_text, sends_word, small, state_word, where_so};
 
 use crate::sink::Sink;
 use itoa::Buffer;
@@ -64,10 +64,34 @@ pub(crate) fn state_word(state: State) -> &'static [u8]
     }
 }
 
-/// The word of a kind, behind an `i` where the function is nonblocking: `bcast`, or `ibcast`.
+/// A letter in its small form.
+fn small(letter: u8) -> u8
+    ensures { result ≡ small letter }
+{
+    if (65..=90).contains(&letter) {
+        letter + 32
+    } else {
+        letter
+    }
+}
+
+/// A name with its first letter in its small form.
+fn put_small<S: Sink>(out: &mut S, name: &[u8])
+    ensures { Prints (S.page out.old) (S.page out.new) (begun_small name.now) }
+{
+    match name.split_first() {
+        Some((first, rest)) => {
+            out.put(&[small(*first)]);
+            out.put(rest);
+        },
+        None => out.put(b""),
+    }
+}
+
+/// The name of a function without `MPI_`, in small letters, of which only the first is none in the name: `bcast`, or
+/// `ibcast`.
 pub(crate) fn put_function<S: Sink>(out: &mut S, function: CollectiveFunction)
     ensures { Prints (S.page out.old) (S.page out.new) (function_word function) }
 {
-    put_where(out, function.nonblocking, b"i");
-    out.put(function.kind.row().word);
+    put_small(out, function.short_name());
 }

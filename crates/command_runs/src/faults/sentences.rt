@@ -223,6 +223,12 @@ pub(crate) fn wanted_text(parameter: Parameter) -> &'static str
         | Parameter::RecvType
         | Parameter::Request
         | Parameter::Index
-        | Parameter::Flag => "a number",
+        | Parameter::Flag
+        | Parameter::OldComm
+        | Parameter::CommOld
+        | Parameter::LocalComm
+        | Parameter::Win
+        | Parameter::Fh
+        | Parameter::File => "a number",
     }
 }

@@ -1,5 +1,6 @@
 //! What is said of what may make all of it wrong, and of the other kind of sends.
 
+use crate::functions::sort_word;
 use crate::writer::Writer;
 use mpi_model::Sends;
 use trace_diagnosis::{Doubts, Foreign};
@@ -37,7 +38,8 @@ impl<'a> Writer<'a> {
 
     /// An object that the layout doesn't have, with how many calls name it.
     fn put_foreign(&mut self, foreign: &Foreign) {
-        self.put(b"communicator ");
+        self.put(sort_word(foreign.object));
+        self.put(b" ");
         self.put_number(foreign.number as u64);
         self.put(b" in ");
         self.put_number(foreign.calls);

@@ -1,14 +1,14 @@
 //! The layout of a run, as its file tells it.
 
-ghost use Rattle.std.specs.Prelude.{◌≡◌, IfErr, IfOk, option_and_then, option_map};
+ghost use Rattle.std.specs.Prelude.{◌≡◌, IfErr, IfOk, codes, option_and_then, option_map};
 ghost use Rattle.serde_json.specs.Find.{as_str, get};
 ghost use Rattle.serde_json.specs.View.{items_view, view};
-ghost use Rattle.run_files.specs.Layouts.{IsLayoutOf, RefusesLayout, communicator_in, communicators_in, parts_in, sends_named, unreadable_field};
+ghost use Rattle.run_files.specs.Layouts.{IsLayoutOf, RefusesLayout, communicator_in, communicators_in, object_in, object_named, parts_in, sends_named, unreadable_field};
 
 use crate::fault::{Field, InputFault};
 use crate::read::fields::{list_at, str_at, u32_at, u32s_of, value_of};
 use crate::read::numbers::numbers_at;
-use mpi_model::{Comm, Layout, LayoutFault, Sends};
+use mpi_model::{Comm, Layout, LayoutFault, Object, Sends};
 use serde_json::Value;
 use std::alloc::{AllocError, Global};
 use std::marker::Model;
@@ -120,11 +120,39 @@ fn communicators_of(alloc: Global, values: &[Value]) -> Result<Option<Vec<Comm>>
     Ok(Some(found))
 }
 
-/// A communicator: its id, its members, and by which numbers these name it.
+/// A sort of objects by its word.
+fn object_named(word: &str) -> Option<Object>
+    ensures { result ≡ object_named word.now }
+{
+    if word == "communicator" {
+        Some(Object::Communicator)
+    } else if word == "window" {
+        Some(Object::Window)
+    } else if word == "file" {
+        Some(Object::File)
+    } else {
+        None
+    }
+}
+
+/// The sort of an object: a communicator, where no field tells it.
+fn object_at(value: &Value) -> Option<Object>
+    ensures { result ≡ object_in (get (codes "object") (view value.now)) }
+{
+    match value.get("object") {
+        None => Some(Object::Communicator),
+        Some(word) => object_named(word.as_str()?),
+    }
+}
+
+/// A communicator, a window or a file: its id, its sort, its members, and by which numbers these name it.
 fn communicator_of(alloc: Global, value: &Value) -> Result<Option<Comm>, AllocError>
     ensures { IfOk result (λ o. o ≡ communicator_in (view value.now)) }
 {
     let Some(id) = u32_at(value, "id") else {
+        return Ok(None);
+    };
+    let Some(object) = object_at(value) else {
         return Ok(None);
     };
     let Some(members) = list_at(value, "members") else {
@@ -136,6 +164,7 @@ fn communicator_of(alloc: Global, value: &Value) -> Result<Option<Comm>, AllocEr
     match numbers_at(alloc, value)? {
         Some(numbers) => Ok(Some(Comm {
             id,
+            object,
             members,
             numbers,
         })),

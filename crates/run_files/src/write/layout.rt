@@ -3,12 +3,12 @@
 ghost use Rattle.std.specs.Prelude.{◌≡◌, ◌∷◌, IfOk};
 ghost use Rattle.json.specs.Token.{begin_array};
 ghost use Rattle.json.specs.Tree.{items_tokens, json_tokens, members_tokens};
-ghost use Rattle.run_files.specs.Values.{Puts, communicator_value, items_of, layout_value, line_of, numbers_field, parts_of, sends_word};
+ghost use Rattle.run_files.specs.Values.{Puts, communicator_value, items_of, layout_value, line_of, numbers_field, object_tokens, parts_of, sends_word};
 
 use crate::write::numbers::put_entries;
 use crate::write::values::{line_of, put_number_field, put_numbers, put_string_field};
 use json::Writer;
-use mpi_model::{Comm, Sends};
+use mpi_model::{Comm, Object, Sends};
 use std::alloc::{AllocError, Global};
 
 /// The file of a layout with these parts: its communicators in this order, each without the field `numbers` where it
@@ -69,15 +69,27 @@ fn put_comms(out: &mut Writer, comms: &[Comm]) -> Result<(), AllocError>
     out.end_array()
 }
 
-/// Puts a communicator: its id, its members, and their entries where it has some.
+/// Puts a communicator, a window or a file: its id, its sort, its members, and their entries where it has some.
 fn put_comm(out: &mut Writer, comm: &Comm) -> Result<(), AllocError>
     ensures { Puts result out.old out.new (json_tokens (communicator_value comm.now)) }
 {
     out.begin_object()?;
     put_number_field(out, "id", comm.id as u64)?;
+    put_object(out, comm.object)?;
     out.key("members")?;
     put_numbers(out, &comm.members)?;
     put_field(out, comm)
+}
+
+/// The field of an object's sort, where it is no communicator.
+fn put_object(out: &mut Writer, object: Object) -> Result<(), AllocError>
+    ensures { Puts result out.old out.new (object_tokens object) }
+{
+    match object {
+        Object::Communicator => Ok(()),
+        Object::Window => put_string_field(out, "object", "window"),
+        Object::File => put_string_field(out, "object", "file"),
+    }
 }
 
 /// The entries, where there are some, and the end of the object.

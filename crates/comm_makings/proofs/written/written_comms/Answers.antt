@@ -1,12 +1,15 @@
-use Rattle.std.proofs.Common.{sym}
-use Rattle.comm_makings.proofs.Derivations.{written_more}
+use Rattle.std.proofs.Common.{◌∙◌, Some, ap, sym, arith}
+use Rattle.std.proofs.lemmas.Option.{slice_get-get_or}
+use Rattle.comm_makings.proofs.Choices.{written_more}
 use Rattle.comm_makings.proofs.written.written_comms.Goals as goal
-use Rattle.comm_makings.proofs.written.written_comms.Goals.{in-Some+in_ok-written_comm+in_ok-push, in_default}
 
-pub loop-named-preserved : goal.loop-named-preserved
-loop-named-preserved c = elim c.match-comm_at.branch [
-  | in-Some+in_ok-written_comm+in_ok-push w ↦
-      rw w.all-is (rw w.in_ok-push.ensures.items
-      (written_more c.args.views.now c.args.uses.now c.args.comms.now c.loop-named.all.items _ _ _ c.loop-named.invariant (sym w.in-Some.ensures) w.in_ok-written_comm.ensures))
-  | in_default w ↦ rw w.all-is c.loop-named.invariant
-]
+pub bounds-comms-one : goal.bounds-comms-one
+bounds-comms-one c = c.requires.each c.loop-one.one-index _ (slice_get-get_or c.args.named.now c.loop-one.one-index _ c.loop-one-test.true)
+
+pub loop-one-preserved : goal.loop-one-preserved
+loop-one-preserved c =
+    rw c.in_ok-push.ensures.items
+    (written_more c.args.views.now c.args.uses.now c.args.comms.now c.args.named.now c.loop-one.all.items c.loop-one.one-index _ c.index-comms-one.result
+    c.in_ok-written_comm.field-0 c.loop-one.invariant (slice_get-get_or c.args.named.now c.loop-one.one-index _ c.loop-one-test.true)
+    (slice_get-get_or c.args.comms.now _ c.index-comms-one.result (c.requires.each c.loop-one.one-index _ (slice_get-get_or c.args.named.now c.loop-one.one-index _ c.loop-one-test.true))
+    ∙ ap Some (sym c.index-comms-one.is)) c.in_ok-written_comm.ensures)

@@ -1,5 +1,5 @@
-use Rattle.comm_makings.specs.Written.{AreWrittenOf}
+use Rattle.comm_makings.proofs.Choices.{AreWrittenTo}
 use Rattle.comm_makings.proofs.written.written_comms.Given as goal
 
-abbrev pub invariant-loop-named : goal.invariant-loop-named
-invariant-loop-named l = AreWrittenOf l.views l.uses l.comms l.all.items
+abbrev pub invariant-loop-one : goal.invariant-loop-one
+invariant-loop-one l = AreWrittenTo l.views l.uses l.comms l.named l.all.items l.one-index

@@ -1,0 +1,143 @@
+-- Which calls of the profile name which handles of a rank. A number names the communicator that it was given to last, and
+-- none once that is freed (MPI 4.0, 7.4.3).
+use Rattle.std.specs.Prelude.{◌≡◌, ◌↔◌, ◌⊎◌, ◌<◌, ◌≤◌, ◌==◌, ◌&&◌, ◌||◌, ◌+◌, ◌-◌, ◌^◌, ℕ, Bool, true, false, List, [], ◌∷◌, Option, Some, None, All, IsTrue, cond, count_by, is_some, length, map, min, not, unwrap_or, nat_le, nat_lt, slice_index_or}
+use Rattle.std.specs.List.{list_any, slice_get, sum_by}
+use Rattle.std.specs.Option.{option_and_then}
+use Rattle.mpi_model.specs.Names.{holds}
+use Rattle.mpi_model.specs.declared.layout.comm.Stretch.{Stretch}
+use Rattle.comm_makings.specs.Each.{EachIs}
+use Rattle.comm_makings.specs.declared.calls.RankCalls.{RankCalls}
+use Rattle.comm_makings.specs.declared.calls.Uses.{Uses}
+use Rattle.comm_makings.specs.declared.uses.HandleUses.{HandleUses}
+use Rattle.comm_makings.specs.declared.uses.HeldUses.{HeldUses}
+use Rattle.comm_makings.specs.declared.uses.Place.{Place}
+use Rattle.comm_makings.specs.declared.view.RankView.{RankView}
+
+-- A handle at a place begins later than another, or with it and stands behind it or in its place.
+abbrev pub IsNotBefore : ℕ → Stretch → ℕ → Stretch → Type 0
+IsNotBefore at handle other earlier = (earlier.first < handle.first) ⊎ ((earlier.first ≡ handle.first) × (other ≤ at))
+
+-- Of the handles of a number that begin at a call or before it, this one begins last.
+pub record IsLatest (handles : List Stretch) (number call at : ℕ) : Type 0 where
+  pub handle : Stretch
+  pub here : slice_get handles at ≡ Some handle
+  pub same : handle.number ≡ number
+  pub begun : handle.first ≤ call
+  pub last : (other : ℕ) (earlier : Stretch) → slice_get handles other ≡ Some earlier → earlier.number ≡ number → earlier.first ≤ call
+      → IsNotBefore at handle other earlier
+
+-- no handle of the number begins at the call or before it
+pub record NoneBegun (handles : List Stretch) (number call : ℕ) : Type 0 where
+  pub none : (at : ℕ) (handle : Stretch) → slice_get handles at ≡ Some handle → handle.number ≡ number → handle.first ≤ call → ⊥
+
+-- the last handle of a number that begins at a call or before it, if any
+abbrev pub IsLatestOf : List Stretch → ℕ → ℕ → Option ℕ → Type 0
+IsLatestOf handles number call None = NoneBegun handles number call
+IsLatestOf handles number call (Some at) = IsLatest handles number call at
+
+-- the handle holds all calls of a group
+abbrev pub holds_all : Uses → Stretch → Bool
+holds_all uses handle = holds handle uses.first && holds handle uses.last
+
+-- The calls of a group name this handle: it is the last one that their number was given to, and holds them.
+pub record IsHolder (handles : List Stretch) (uses : Uses) (at : ℕ) : Type 0 where
+  pub latest : IsLatest handles uses.number uses.first at
+  pub within : holds_all uses latest.handle ≡ true
+
+-- the handle that the calls of a group name, if any
+abbrev pub IsHolderOf : List Stretch → Uses → Option ℕ → Type 0
+IsHolderOf handles uses (Some at) = IsHolder handles uses at
+IsHolderOf handles uses None = (at : ℕ) → IsHolder handles uses at → ⊥
+
+-- the groups, each with the handle that its calls name
+pub record AreHeld (handles : List Stretch) (uses : List Uses) (held : List HeldUses) : Type 0 where
+  pub same : map (λ g. g.uses) held ≡ uses
+  pub each : All (λ g. IsHolderOf handles g.uses g.holder) held
+
+-- the handle is the one at this place
+abbrev pub is_at : ℕ → Option ℕ → Bool
+is_at at None = false
+is_at at (Some holder) = holder == at
+
+-- how many calls of a group name the handle at this place
+abbrev pub count_in : ℕ → HeldUses → ℕ
+count_in at group = cond (is_at at group.holder) group.uses.count 0
+
+-- how many calls of all groups do, up to the greatest number of calls
+abbrev pub count_of : List HeldUses → ℕ → ℕ
+count_of held at = min (sum_by (count_in at) held) (2 ^ 64 - 1)
+
+-- the calls of a group have this number and name no handle
+abbrev pub is_stray_of : ℕ → HeldUses → Bool
+is_stray_of number group = not (is_some group.holder) && (group.uses.number == number)
+
+-- some group is such
+abbrev pub is_stray : List HeldUses → ℕ → Bool
+is_stray held number = list_any (is_stray_of number) held
+
+-- the handle has this number
+abbrev pub has_number : ℕ → Stretch → Bool
+has_number number handle = handle.number == number
+
+-- how many handles have the number
+abbrev pub numbered : List Stretch → ℕ → ℕ
+numbered handles number = count_by (has_number number) handles
+
+-- the handle's number is that of no other, and no calls have it that name no handle
+abbrev pub stands_alone : List Stretch → List HeldUses → Stretch → Bool
+stands_alone handles held handle = (numbered handles handle.number == 1) && not (is_stray held handle.number)
+
+-- The number of the handle at this place names it alone: no other handle of the rank has the number, and all calls of the
+-- profile that name it lie in the handle's stretch.
+pub record IsOnly (handles : List Stretch) (uses : List Uses) (at : ℕ) : Type 0 where
+  pub handle : Stretch
+  pub here : slice_get handles at ≡ Some handle
+  pub alone : (other : ℕ) (twin : Stretch) → slice_get handles other ≡ Some twin → twin.number ≡ handle.number → other ≡ at
+  pub within : (i : ℕ) (group : Uses) → slice_get uses i ≡ Some group → group.number ≡ handle.number → holds_all group handle ≡ true
+
+-- What the calls of the profile say of a rank's handles: how many name each, and which numbers name one alone.
+pub record IsCounted (handles : List Stretch) (uses : List Uses) (counted : HandleUses) : Type 0 where
+  pub held : List HeldUses
+  pub holders : AreHeld handles uses held
+  pub counts : EachIs counted.counts.items (count_of held)
+  pub count_each : length counted.counts.items ≡ length handles
+  pub only : (at : ℕ) (is : Bool) → slice_get counted.only.items at ≡ Some is → IsTrue is ↔ IsOnly handles uses at
+  pub only_each : length counted.only.items ≡ length handles
+
+-- The same of each rank.
+pub record AreCounted (ranks : List RankCalls) (views : List RankView) (uses : List HandleUses) : Type 0 where
+  pub same : length uses ≡ length ranks
+  pub each : (rank : ℕ) (counted : HandleUses) (calls : RankCalls) (view : RankView) → slice_get uses rank ≡ Some counted → slice_get ranks rank ≡ Some calls
+      → slice_get views rank ≡ Some view → IsCounted view.handles.items calls.uses.items counted
+
+-- how many calls of the profile name a handle of a rank
+abbrev pub count_at : List HandleUses → ℕ → Option ℕ → ℕ
+count_at uses rank None = 0
+count_at uses rank (Some handle) = unwrap_or (option_and_then (λ u. slice_get u.counts.items handle) (slice_get uses rank)) 0
+
+-- ---- by halves
+
+-- a handle, as it is ordered
+abbrev pub place_of : ℕ → Stretch → Place
+place_of at handle = record { number = handle.number; first = handle.first; handle = at }
+
+-- the handles, the first of which stands at this place
+abbrev pub places_from : ℕ → List Stretch → List Place
+places_from at [] = []
+places_from at (handle ∷ handles) = place_of at handle ∷ places_from (at + 1) handles
+
+-- A handle comes before another or is it: by its number, its first call and its place.
+pub record Comes (p q : Place) : Type 0 where
+  pub numbers : p.number ≤ q.number
+  pub firsts : p.number ≡ q.number → p.first ≤ q.first
+  pub handles : p.number ≡ q.number → p.first ≡ q.first → p.handle ≤ q.handle
+
+-- All handles, in that order.
+pub record AreOrdered (handles : List Stretch) (places : List Place) : Type 0 where
+  pub each : (i : ℕ) (p : Place) → slice_get places i ≡ Some p → (handle : Stretch) × (slice_get handles p.handle ≡ Some handle) × (p ≡ place_of p.handle handle)
+  pub whole : (at : ℕ) (handle : Stretch) → slice_get handles at ≡ Some handle → (i : ℕ) × (slice_get places i ≡ Some (place_of at handle))
+  pub sorted : (i j : ℕ) (d : Place) → i ≤ j → j < length places → Comes (slice_index_or places i d) (slice_index_or places j d)
+
+-- in that order the handle is of a lower number, or of this one and begins at the call or before it
+abbrev pub precedes : ℕ → ℕ → Place → Bool
+precedes number call p = nat_lt p.number number || ((p.number == number) && nat_le p.first call)
