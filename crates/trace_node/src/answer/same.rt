@@ -50,7 +50,7 @@ fn are_same_pairs(first: &[Pair], second: &[Pair]) -> bool
 fn is_same_function(first: CollectiveFunction, second: CollectiveFunction) -> bool
     ensures { IsTrue result ↔ (first ≡ second) }
 {
-    first.kind().same(second.kind()) && first.is_nonblocking() == second.is_nonblocking()
+    first.same(second)
 }
 
 fn is_same_root(first: Option<u32>, second: Option<u32>) -> bool

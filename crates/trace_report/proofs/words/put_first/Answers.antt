@@ -1,0 +1,6 @@
+use Rattle.std.proofs.Common.{◌∷◌, [], ℕ, ap}
+use Rattle.trace_report.proofs.Printing.{reads}
+use Rattle.trace_report.proofs.words.put_first.Goals as goal
+
+pub returns-in-Some : goal.returns-in-Some
+returns-in-Some g c = reads c.put_letter.ensures (ap (λ (x : ℕ). x ∷ []) c.small.ensures)
