@@ -11,6 +11,6 @@ returns-clause-holds_up c =
     let found = c.in_ok-leading.leading.items in
     let ranks = c.in_ok-holds_up.holds_up.items in
     leading c.args.graph.now.edges.items c.args.graph.now.askers.items c.args.labels.now starts c.args.least found held ranks c.requires.askers c.in_ok-starts.ensures.flags
-    (subst (λ (as : List (Vec ℕ Global)). (x : ℕ) → IsFirst (edge as) (is_up starts) x (label_at found x)) c.deref.ensures.value
-      (subst (λ (ss : List Bool). (x : ℕ) → IsFirst (edge c.deref.result.now) (is_up ss) x (label_at found x)) c.deref-2.ensures.value c.in_ok-leading.ensures.firsts))
+    (subst (λ (es : List (Vec ℕ Global)). (x : ℕ) → IsFirst (edge es) (is_up starts) x (label_at found x)) c.deref.ensures.value
+    (subst (λ (ss : List Bool). (x : ℕ) → IsFirst (edge c.deref.result.now) (is_up ss) x (label_at found x)) c.deref-2.ensures.value c.in_ok-leading.ensures.firsts))
     (subst (λ (ls : List (Option ℕ)). All (λ r. (is_up held r ≡ true) × (is_some (label_at ls r) ≡ true)) ranks) c.deref-3.ensures.value c.in_ok-holds_up.ensures)
