@@ -41,7 +41,7 @@ from_first : (edges askers : List (Vec ℕ Global)) (labels : List (Option ℕ))
     → ((r s : ℕ) → edge askers s r ≡ edge edges r s) → ((s : ℕ) → is_up starts s ≡ true → is_labelled labels least s ≡ true)
     → (o : Option ℕ) → IsFirst (edge askers) (is_up starts) r o → is_some o ≡ true → LeadFrom edges labels least r
 from_first edges askers labels starts least r turn own None f e = absurd (cc)
-from_first edges askers labels starts least r turn own (Some l) f e = (l, own l f.0, leads_back edges askers turn l r f.1.0)
+from_first edges askers labels starts least r turn own (Some l) f e = (l, own l f.0, leads_back edges askers turn l r f.1)
 
 -- who was found by a search from nodes with a label leads to one of them
 pub leading : (edges askers : List (Vec ℕ Global)) (labels : List (Option ℕ)) (starts : List Bool) (least : ℕ) (found : List (Option ℕ)) (held : List Bool) (ranks : List ℕ)
@@ -59,4 +59,4 @@ pub held_up : (edges : List (Vec ℕ Global)) (labels : List (Option ℕ)) → A
     → All (λ r. (is_up held r ≡ true) × ((s : ℕ) × IsInHeart edges s × Reaches edges r s)) ranks
 held_up edges labels hearts least held ranks all =
     All-weaker (λ r. (is_up held r ≡ true) × LeadFrom edges labels least r) (λ r. (is_up held r ≡ true) × ((s : ℕ) × IsInHeart edges s × Reaches edges r s))
-    (λ r h. (h.0, h.1.0, labelled_in_heart edges labels hearts least h.1.0 h.1.1.0, h.1.1.1)) ranks all
+    (λ r h. (h.0, (h.1.0, labelled_in_heart edges labels hearts least h.1.0 h.1.1, h.1.2))) ranks all

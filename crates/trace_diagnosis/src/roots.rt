@@ -8,6 +8,7 @@ ghost use Rattle.std.specs.Prelude.{◌≡◌, ◌≤◌, ◌<◌, ◌+◌, ◌^
 ghost use Rattle.std.specs.List.Sorted.{IsPermutation};
 ghost use Rattle.std.specs.List.{range_with_len};
 ghost use Rattle.trace_stuck.specs.Graph.{edge, is_up, label_at};
+ghost use Rattle.trace_stuck.specs.Hearts.{AreHearts};
 ghost use Rattle.trace_diagnosis.specs.Roots.{IsRoot, LeadFrom, is_labelled, members};
 
 use crate::diagnosis::{MismatchedRound, Need, Root, RootKind};
@@ -275,6 +276,32 @@ fn is_root(graph: &Graph, ranks: &Ranks<'_>, labels: &[Option<u32>], rank: u32) 
     is_labelled(labels, rank, rank) && (is_up(ranks.held, rank) || is_needed(graph, rank))
 }
 
+/// Adds the root of which a rank is the least, where it is that of a component of the graph.
+fn push_root(
+    alloc: Global,
+    graph: &Graph,
+    ranks: &Ranks<'_>,
+    labels: &[Option<u32>],
+    rank: u32,
+    roots: &mut Vec<Root>,
+) -> Result<(), AllocError>
+    requires few { vec_len graph.now.edges ≤ 2 ^ 32 }
+    requires count { vec_len graph.now.edges ≡ ranks.now.count + 1 }
+    requires small { ranks.now.count < 2 ^ 31 }
+    requires same { vec_len graph.now.askers ≡ vec_len graph.now.edges }
+    requires askers { (r s : ℕ) → edge graph.now.askers.items s r ≡ edge graph.now.edges.items r s }
+    requires hearts { AreHearts graph.now.edges.items labels.now }
+    ensures { OnOk result (All (IsRoot graph.now.edges.items ranks.now.held.now ranks.now.count) roots.old.items
+        → All (IsRoot graph.now.edges.items ranks.now.held.now ranks.now.count) roots.new.items) }
+{
+    if !is_root(graph, ranks, labels, rank) {
+        return Ok(());
+    }
+    let root = root_of_rank(alloc, graph, ranks, labels, rank)?;
+    roots.push(root)?;
+    Ok(())
+}
+
 /// The roots that are ranks, each component for itself.
 fn roots_of_ranks(alloc: Global, graph: &Graph, ranks: &Ranks<'_>) -> Result<Vec<Root>, AllocError>
     requires few { vec_len graph.now.edges ≤ 2 ^ 32 }
@@ -287,9 +314,7 @@ fn roots_of_ranks(alloc: Global, graph: &Graph, ranks: &Ranks<'_>) -> Result<Vec
     let labels = hearts(alloc, &graph.edges)?;
     let mut roots = Vec::new(alloc);
     for rank in 0..ranks.count {
-        if is_root(graph, ranks, &labels, rank) {
-            roots.push(root_of_rank(alloc, graph, ranks, &labels, rank)?)?;
-        }
+        push_root(alloc, graph, ranks, &labels, rank, &mut roots)?;
     }
     Ok(roots)
 }

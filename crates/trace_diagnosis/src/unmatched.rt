@@ -124,6 +124,22 @@ fn asked_of(alloc: Global, found: &Found) -> Result<Vec<Pattern>, AllocError> {
     Ok(asked)
 }
 
+/// Adds the receive, where it is a near miss of the message.
+fn push_receive(
+    why: Why,
+    m: &Message,
+    q: &Receive,
+    near: &mut Vec<NearReceive>,
+) -> Result<(), AllocError>
+    ensures { OnOk result (All (IsNearReceive m.now) near.old.items → All (IsNearReceive m.now) near.new.items) }
+{
+    if !is_near(why, m, q) {
+        return Ok(());
+    }
+    near.push(NearReceive { why, receive: *q })?;
+    Ok(())
+}
+
 /// Adds the receives at these places that are near misses of the message.
 fn push_receives(
     why: Why,
@@ -135,12 +151,45 @@ fn push_receives(
     ensures { OnOk result (All (IsNearReceive m.now) near.old.items → All (IsNearReceive m.now) near.new.items) }
 {
     for place in places {
-        if let Some(q) = receives.get(*place) {
-            if is_near(why, m, q) {
-                near.push(NearReceive { why, receive: *q })?;
-            }
-        }
+        push_receive_at(why, m, receives, *place, near)?;
     }
+    Ok(())
+}
+
+/// Adds the receive at a place, where it is a near miss of the message.
+fn push_receive_at(
+    why: Why,
+    m: &Message,
+    receives: &[Receive],
+    place: usize,
+    near: &mut Vec<NearReceive>,
+) -> Result<(), AllocError>
+    ensures { OnOk result (All (IsNearReceive m.now) near.old.items → All (IsNearReceive m.now) near.new.items) }
+{
+    if place >= receives.len() {
+        return Ok(());
+    }
+    push_receive(why, m, &receives[place], near)
+}
+
+/// Adds the message with what has or may have taken it, where it is a near miss of the receive.
+fn push_message(
+    why: Why,
+    q: &Receive,
+    m: &Message,
+    by: Option<OpName>,
+    near: &mut Vec<NearMessage>,
+) -> Result<(), AllocError>
+    ensures { OnOk result (All (IsNearMessage q.now) near.old.items → All (IsNearMessage q.now) near.new.items) }
+{
+    if !is_near(why, m, q) {
+        return Ok(());
+    }
+    near.push(NearMessage {
+        why,
+        message: *m,
+        by,
+    })?;
     Ok(())
 }
 
@@ -155,17 +204,25 @@ fn push_messages(
     ensures { OnOk result (All (IsNearMessage q.now) near.old.items → All (IsNearMessage q.now) near.new.items) }
 {
     for place in places {
-        if let Some(m) = messages.get(*place) {
-            if is_near(why, m, q) {
-                near.push(NearMessage {
-                    why,
-                    message: *m,
-                    by: None,
-                })?;
-            }
-        }
+        push_message_at(why, q, messages, *place, near)?;
     }
     Ok(())
+}
+
+/// Adds the message at a place, where it is a near miss of the receive.
+fn push_message_at(
+    why: Why,
+    q: &Receive,
+    messages: &[Message],
+    place: usize,
+    near: &mut Vec<NearMessage>,
+) -> Result<(), AllocError>
+    ensures { OnOk result (All (IsNearMessage q.now) near.old.items → All (IsNearMessage q.now) near.new.items) }
+{
+    if place >= messages.len() {
+        return Ok(());
+    }
+    push_message(why, q, &messages[place], None, near)
 }
 
 /// Adds messages with what has or may have taken them.
@@ -178,13 +235,7 @@ fn push_taken(
     ensures { OnOk result (All (IsNearMessage q.now) near.old.items → All (IsNearMessage q.now) near.new.items) }
 {
     for one in taken {
-        if is_near(why, &one.message, q) {
-            near.push(NearMessage {
-                why,
-                message: one.message,
-                by: Some(one.by),
-            })?;
-        }
+        push_message(why, q, &one.message, Some(one.by), near)?;
     }
     Ok(())
 }

@@ -8,7 +8,7 @@ pub diagnosis_of-requires-clause-states : goal.diagnosis_of-requires-clause-stat
 diagnosis_of-requires-clause-states c =
     let n = ap length c.requires.states ∙ length-map (all_ops c.args.layout.now c.args.know.now) (λ o. o.state)
     ∙ length-map-range_with_len (ops_of c.args.layout.now c.args.know.now) 0 c.args.layout.now.ranks in
-    omega (arith, n, c.ranks.ensures.value, c.ranks.ensures.range.1)
+    omega (arith, n, c.ranks-ranks.ensures.value, c.ranks-ranks.ensures.range.1)
 
 pub diagnosis_of-requires-clause-small : goal.diagnosis_of-requires-clause-small
-diagnosis_of-requires-clause-small c = omega (arith, c.ranks.ensures.range.1)
+diagnosis_of-requires-clause-small c = omega (arith, c.ranks-ranks.ensures.range.1)
