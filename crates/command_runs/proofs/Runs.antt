@@ -9,7 +9,7 @@ use Rattle.command_runs.specs.Files.{NamesFailed}
 use Rattle.command_runs.specs.Verbs.{Ran, RanSo}
 use Rattle.command_runs.specs.Writing.{BreaksOff}
 use Rattle.command_runs.specs.declared.faults.fault.RunFault.{RunFault}
-use Rattle.command_runs.specs.declared.faults.fault.RunFault.TheVariants.{Write}
+use Rattle.command_runs.specs.declared.faults.fault.RunFault.TheVariants.{Memory, Write}
 use Rattle.command_runs.specs.declared.run.Outcome.{Outcome}
 use Rattle.command_runs.specs.declared.run.Outcome.TheVariants.{Good}
 
@@ -42,3 +42,7 @@ unwritten_untold fails Other (Err fault) h = λ path line is. let one = h.0 in a
 pub ran_as : {W : Type 0} (file : List ℕ → Option (List ℕ)) (verb other : Verb) (l : Parts) (m : ManifestParts) (result : Result Outcome RunFault)
     (written : W → Option (List ℕ)) (failures : W → ℕ) (old new : W) → verb ≡ other → Ran file other l m result written failures old new → Ran file verb l m result written failures old new
 ran_as file verb other l m result written failures old new is ran = subst (λ (v : Verb). Ran file v l m result written failures old new) (sym is) ran
+
+-- want of memory names no reader that failed
+pub want_untold : {T : Type 0} (fails : Type 0) (r : Result T RunFault) → IsErrAnd r (λ e. e ≡ Memory) → IfErr r (NamesFailed fails)
+want_untold fails r is = handed_on r Memory (NamesFailed fails) is (λ path line e. absurd (cc e))
