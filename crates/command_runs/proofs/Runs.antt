@@ -1,5 +1,5 @@
 -- What a run comes to: it is refused, its text was written, or a writer failed.
-use Rattle.std.proofs.Common.{◌≡◌, inl, inr, ℕ, List, Option, Result, Ok, Err, IfErr, IfOk, IsErrAnd, subst, sym}
+use Rattle.std.proofs.Common.{◌≡◌, ◌∙◌, inl, inr, ℕ, List, Option, Result, Ok, Err, IfErr, IfOk, IsErrAnd, subst, sym}
 use Rattle.std.proofs.KnownBytes.{Keeps-refl}
 use Rattle.std.specs.Io.KnownBytes.{Appends}
 use Rattle.mpi_model.specs.Layouts.{Parts}
@@ -32,6 +32,13 @@ pub text_written : {W : Type 0} (Is : List ℕ → Type 0) (Refuse : RunFault �
     → RanSo Is Is Refuse r written failures old new
 text_written Is Refuse text (Ok outcome) written failures old new is ok err = (ok.0, (text, is, ok.1))
 text_written Is Refuse text (Err fault) written failures old new is ok err = inl (err.0, ((err.1.0.0, subst Is (sym err.1.0.1) is, err.1.0.2), err.1.1))
+
+-- ..of which a front was
+pub text_broken : {W : Type 0} (Is : List ℕ → Type 0) (Refuse : RunFault → Type 0) (text : List ℕ) (r : Result Outcome RunFault) (fault : RunFault)
+    (written : W → Option (List ℕ)) (failures : W → ℕ) (old new : W) → IsErrAnd r (λ e. e ≡ fault) → Is text
+    → (fault ≡ Write) × BreaksOff (λ t. t ≡ text) written failures old new → RanSo Is Is Refuse r written failures old new
+text_broken Is Refuse text (Ok outcome) fault written failures old new same is err = absurd same
+text_broken Is Refuse text (Err e) fault written failures old new same is err = inl (same ∙ err.0, ((err.1.0.0, subst Is (sym err.1.0.1) is, err.1.0.2), err.1.1))
 
 -- a writer's failure is no reader's
 pub unwritten_untold : (fails Other : Type 0) (r : Result Outcome RunFault) → IfErr r (λ fault. (fault ≡ Write) × Other) → IfErr r (NamesFailed fails)
