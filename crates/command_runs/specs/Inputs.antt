@@ -11,6 +11,8 @@ use Rattle.command_runs.specs.Files.{IsFile, IsUnreadable}
 use Rattle.command_runs.specs.Pieces.{IsNamed}
 use Rattle.command_runs.specs.declared.faults.fault.RunFault.{RunFault}
 use Rattle.command_runs.specs.declared.faults.fault.RunFault.TheVariants.{Memory, File, Json, Shape, Piece, Packed, Layout, Outside}
+use Rattle.command_runs.specs.declared.load.whole.WholeFault.{WholeFault}
+use Rattle.command_runs.specs.declared.load.whole.WholeFault.TheVariants as wholes
 
 -- The file can't be opened: memory was wanting, or nothing tells its bytes, and the fault names it.
 abbrev pub RefusesOpening : List ℕ → Option (List ℕ) → RunFault → Type 0
@@ -19,6 +21,17 @@ RefusesOpening name file fault = (fault ≡ Memory) ⊎ ((path : String Global) 
 -- The file, which may have so many bytes, can't be read whole, by readers that fail so, and the fault names it.
 abbrev pub RefusesFile : ℕ → Type 0 → List ℕ → Option (List ℕ) → RunFault → Type 0
 RefusesFile most fails name file fault = (fault ≡ Memory) ⊎ ((path : String Global) × (fault ≡ File path) × IsNamed path name × IsUnreadable most fails file)
+
+-- memory wasn't wanting
+abbrev pub IsNoWant : WholeFault → Type 0
+IsNoWant wholes.Memory = ⊥
+IsNoWant cause = Unit {0}
+
+-- The fault says that a file is not read whole for this cause, and names it.
+abbrev pub IsWholeFaultOf : List ℕ → WholeFault → RunFault → Type 0
+IsWholeFaultOf name cause Memory = Unit {0}
+IsWholeFaultOf name cause (File path) = IsNamed path name × IsNoWant cause
+IsWholeFaultOf name cause _ = ⊥
 
 -- The fault is that of the file's text, and names it.
 abbrev pub IsFaultOf : List ℕ → InputFault → RunFault → Type 0

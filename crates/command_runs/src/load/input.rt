@@ -6,7 +6,7 @@ ghost use Rattle.run_files.specs.Layouts.{RefusesLayout};
 ghost use Rattle.run_files.specs.Manifests.{RefusesManifest};
 ghost use Rattle.run_files.specs.declared.input.TheConstants.{LONGEST_FILE};
 ghost use Rattle.command_runs.specs.Files.{IsFile, StandsAtFirst};
-ghost use Rattle.command_runs.specs.Inputs.{HasRank, IsFaultOf, LacksRank, RefusesFile, RefusesInput, RefusesLoading, RefusesOpening, TellInput, TellsLayout, TellsManifest};
+ghost use Rattle.command_runs.specs.Inputs.{HasRank, IsFaultOf, IsWholeFaultOf, LacksRank, RefusesFile, RefusesInput, RefusesLoading, RefusesOpening, TellInput, TellsLayout, TellsManifest};
 
 use crate::faults::fault::RunFault;
 use crate::load::opener::{OpenFault, Opener};
@@ -97,11 +97,20 @@ pub(crate) fn file_at<O: Opener>(
     let mut reader = opened(alloc, path, files)?;
     match read_whole(alloc, &mut reader, most) {
         Ok(bytes) => Ok(bytes),
-        Err(WholeFault::Memory) => Err(RunFault::Memory),
-        Err(_) => Err(RunFault::File {
-            path: path.to_string(alloc)?,
-        }),
+        Err(fault) => Err(fault_of_whole(alloc, fault, path)?),
     }
+}
+
+/// The fault of a file that isn't read whole.
+fn fault_of_whole(alloc: Global, fault: WholeFault, path: &str) -> Result<RunFault, AllocError>
+    ensures { IfOk result (IsWholeFaultOf path.now fault) }
+{
+    let path = path.to_string(alloc)?;
+    Ok(match fault {
+        WholeFault::Memory => RunFault::Memory,
+        WholeFault::Failed => RunFault::File { path },
+        WholeFault::TooLong => RunFault::File { path },
+    })
 }
 
 /// The fault of a file's text.

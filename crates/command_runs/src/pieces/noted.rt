@@ -55,7 +55,7 @@ fn start_where<O: Opener>(calls: u64, path: &str, files: &O) -> Option<Start>
 }
 
 /// The events of a piece whole, none of a text without calls, and what is noted of its text.
-#[tactic(auto, using(crate::proofs::Opening::piece_unopened, crate::proofs::Told::walked_places_told, crate::proofs::Told::walk_told, crate::proofs::Notes::notes_told))]
+#[tactic(auto, using(crate::proofs::Opening::piece_unopened, crate::proofs::Opening::unopened_untold, crate::proofs::Told::walked_places_told, crate::proofs::Told::walk_told, crate::proofs::Notes::notes_told))]
 fn noted_piece<O: Opener, V: Watcher>(
     alloc: Global,
     piece: &Piece,

@@ -22,7 +22,7 @@ use std::alloc::{AllocError, Global};
 use trace_know::{ReadyPiece, ReadySegment, SegmentFault};
 
 /// The events of a piece's text, which is read to its end. The buffer is one for all pieces.
-#[tactic(auto, using(crate::proofs::Opening::piece_unopened, crate::proofs::Told::events_told, crate::proofs::Told::walk_told))]
+#[tactic(auto, using(crate::proofs::Opening::piece_unopened, crate::proofs::Opening::unopened_untold, crate::proofs::Told::events_told, crate::proofs::Told::walk_told))]
 fn events_of<O: Opener, V: Watcher>(
     alloc: Global,
     piece: &Piece,

@@ -12,7 +12,7 @@ use Rattle.std.specs.List.{All}
 use Rattle.command_runs.specs.Traces.{IsFirstStranger, IsInside, IsKnown}
 use Rattle.command_runs.proofs.Traces.{IsOutside, begins, known_more, outside_later}
 use Rattle.command_runs.proofs.Within.{within_more, within_nothing}
-use Rattle.command_runs.proofs.Runs.{handed_on}
+use Rattle.command_runs.proofs.Runs.{handed_on, want_untold}
 use Rattle.command_runs.proofs.pieces.noted.noted_of.Goals as goal
 
 pub loop-piece-init : goal.loop-piece-init
@@ -88,3 +88,9 @@ returns-in-None-clause-inside g c =
     let outside : IsOutside file c.args.run.now.layout.now.ranks (take c.loop-piece.piece-index c.args.pieces.now) None =
     rw c.in-None.is at c.loop-piece.invariant.outside in
     subst (λ (ps : List PieceParts). All (IsInside file c.args.run.now.layout.now.ranks) ps) all outside
+
+pub returns-in_err-stranger-clause-failed : goal.returns-in_err-stranger-clause-failed
+returns-in_err-stranger-clause-failed g c = want_untold _ c.from_residual-in_err-stranger.result c.from_residual-in_err-stranger.ensures.1
+
+pub returns-in_err-know-clause-failed : goal.returns-in_err-know-clause-failed
+returns-in_err-know-clause-failed g c = want_untold _ c.from_residual-in_err-know.result c.from_residual-in_err-know.ensures.1
