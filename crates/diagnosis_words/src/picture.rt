@@ -113,13 +113,28 @@ fn is_one_of(condition: &Condition) -> bool {
     matches!(condition, Condition::One(_) | Condition::OneRank(_))
 }
 
-/// What ranks have in common that are drawn as one: how they stand, and what they need; or their shape alone.
+/// How the node of a rank is drawn: what holds up the run is filled, and bold where it has ended or gives no sign.
+fn style_of(source: Source<'_>, rank: u32) -> &'static [u8] {
+    for root in source.diagnosis.waiting.roots.iter() {
+        if root.ranks.as_slice().binary_search(&rank).is_ok() {
+            return match root.kind {
+                RootKind::Mismatch(_) => b"",
+                RootKind::Cycle | RootKind::Open => b", style=filled",
+                RootKind::Ended | RootKind::Silent => b", style=\"filled,bold\"",
+            };
+        }
+    }
+    b""
+}
+
+/// What ranks have in common that are drawn as one: how they are drawn, how they stand, and what they need; or their shape alone.
 fn node_key(
     source: Source<'_>,
     standing: &Standing,
     is_whole: bool,
 ) -> Result<Vec<u8>, AllocError> {
     let mut key = Text::new(source.alloc);
+    key.put(style_of(source, standing.rank));
     if is_whole {
         key.put(key_of(source, standing)?.as_slice());
         if let Some(held) = source.held(standing.rank) {
@@ -252,28 +267,14 @@ impl<'a> Picture<'a> {
         out.into_bytes()
     }
 
-    /// How a node of ranks is drawn: what holds up the run is filled, and bold where it has ended or gives no sign.
-    fn style_of(&self, node: &Node) -> &'static [u8] {
-        let rank = node.ranks.as_slice().first().copied().unwrap_or(0);
-        for root in self.source.diagnosis.waiting.roots.iter() {
-            if root.ranks.as_slice().binary_search(&rank).is_ok() {
-                return match root.kind {
-                    RootKind::Mismatch(_) => b"",
-                    RootKind::Cycle | RootKind::Open => b", style=filled",
-                    RootKind::Ended | RootKind::Silent => b", style=\"filled,bold\"",
-                };
-            }
-        }
-        b""
-    }
-
     /// A node of ranks.
     fn put_ranks_node(&mut self, at: usize) -> Result<(), AllocError> {
         let Some(node) = self.nodes.nodes.as_slice().get(at) else {
             return Ok(());
         };
         let words = self.words_of(node)?;
-        let style = self.style_of(node);
+        let rank = node.ranks.as_slice().first().copied().unwrap_or(0);
+        let style = style_of(self.source, rank);
         self.out.put(b"  ");
         self.put_name(Name::Ranks(at));
         self.put_label(words.as_slice());
