@@ -3,3 +3,4 @@ mod Holds
 mod Needing
 mod Ranges
 mod Leading
+mod Rooted

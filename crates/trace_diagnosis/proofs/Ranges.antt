@@ -19,3 +19,8 @@ filter_more p n = ap (λ (l : List ℕ). filter p l) (range_more n) ∙ filter-a
 -- the same of what is made of each
 pub map_more : {X : Type 0} (f : ℕ → X) (n : ℕ) → map f (range_with_len 0 (n + 1)) ≡ map f (range_with_len 0 n) ++ f n ∷ []
 map_more f n = map-range_with_len_more f 0 n n (omega arith)
+
+-- what is made of one more
+pub map_push : {X Y : Type 0} (f : X → Y) (xs : List X) (x : X) → map f (xs ++ x ∷ []) ≡ map f xs ++ f x ∷ []
+map_push f [] x = refl
+map_push {Y = Y} f (y ∷ ys) x = ap (λ (l : List Y). f y ∷ l) (map_push f ys x)

@@ -4,7 +4,7 @@
 //! No edge leads out of a round, so that one node for all of them is enough to find who is held up by ranks alone.
 
 ghost use Rattle.std.specs.Prelude.{◌≡◌, ◌++◌, ◌≤◌, ◌+◌, ◌^◌, ℕ, IfOk, OnOk, length, map, vec_len};
-ghost use Rattle.trace_ops.specs.declared.state.State.{State as Stands};
+ghost use Rattle.std.specs.List.{range_with_len};
 ghost use Rattle.trace_stuck.specs.Graph.{edge};
 ghost use Rattle.trace_diagnosis.specs.Graph.{HaveEdges, has_not_ended, needs_at, needs_in, node_of};
 
@@ -89,11 +89,13 @@ fn all_needs(
     conditions: &[Option<Condition>],
     ranks: u32,
 ) -> Result<Vec<Vec<Need>>, AllocError>
-    ensures { IfOk result (λ all. vec_len all ≡ ranks) }
+    ensures len { IfOk result (λ all. vec_len all ≡ ranks) }
+    ensures needs { IfOk result (λ all. map (λ needs. needs.items) all.items ≡ map (needs_at able.now conditions.now) (range_with_len 0 ranks)) }
 {
     let mut all = Vec::new(alloc);
     for rank in 0..ranks {
-        all.push(needs_at(alloc, able, conditions, rank)?)?;
+        let needs = needs_at(alloc, able, conditions, rank)?;
+        all.push(needs)?;
     }
     Ok(all)
 }
@@ -140,6 +142,7 @@ pub(crate) fn graph_of(
     ranks: u32,
 ) -> Result<Graph, AllocError>
     requires { ranks ≤ 2 ^ 31 }
+    ensures needs { IfOk result (λ g. map (λ needs. needs.items) g.needs.items ≡ map (needs_at able.now conditions.now) (range_with_len 0 ranks)) }
     ensures len { IfOk result (λ g. vec_len g.edges ≡ ranks + 1) }
     ensures edges { IfOk result (λ g. HaveEdges ranks g.needs.items g.edges.items) }
     ensures same { IfOk result (λ g. vec_len g.askers ≡ vec_len g.edges) }

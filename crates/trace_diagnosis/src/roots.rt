@@ -9,7 +9,7 @@ ghost use Rattle.std.specs.List.Sorted.{IsPermutation};
 ghost use Rattle.std.specs.List.{range_with_len};
 ghost use Rattle.trace_stuck.specs.Graph.{edge, is_up, label_at};
 ghost use Rattle.trace_stuck.specs.Hearts.{AreHearts};
-ghost use Rattle.trace_diagnosis.specs.Roots.{IsRoot, LeadFrom, is_labelled, members};
+ghost use Rattle.trace_diagnosis.specs.Roots.{AddsRoot, IsRoot, IsSound, JoinsRoots, KeepRoots, LeadFrom, is_labelled, is_round, members};
 
 use crate::diagnosis::{MismatchedRound, Need, Root, RootKind};
 use crate::graph::Graph;
@@ -247,6 +247,7 @@ fn root_of_round(
     requires count { vec_len graph.now.edges ≡ ranks.now.count + 1 }
     requires small { ranks.now.count < 2 ^ 31 }
     requires same { vec_len graph.now.askers ≡ vec_len graph.now.edges }
+    ensures { IfOk result (λ root. is_round root.kind ≡ true) }
 {
     let starts = flags_for(alloc, graph, ranks.count + 1, round)?;
     let leading = firsts(alloc, &graph.askers, &starts)?;
@@ -366,11 +367,13 @@ fn push_roots_of_rounds(
     requires count { vec_len graph.now.edges ≡ ranks.now.count + 1 }
     requires small { ranks.now.count < 2 ^ 31 }
     requires same { vec_len graph.now.askers ≡ vec_len graph.now.edges }
+    ensures { OnOk result (KeepRoots roots.old.items roots.new.items) }
 {
     let rounds = rounds_needed(alloc, &graph.needs)?;
     for round in &rounds {
         let entered = entered_in(alloc, mismatched, *round)?;
-        roots.push(root_of_round(alloc, graph, ranks, *round, entered)?)?;
+        let root = root_of_round(alloc, graph, ranks, *round, entered)?;
+        roots.push(root)?;
     }
     Ok(())
 }
@@ -387,7 +390,9 @@ fn kind_code(kind: RootKind) -> u8 {
 }
 
 /// Whether roots of this kind that hold up the same ranks are one root.
-fn is_joined(kind: RootKind) -> bool {
+fn is_joined(kind: RootKind) -> bool
+    ensures { result ≡ true → is_round kind ≡ false }
+{
     match kind {
         RootKind::Mismatch(_) | RootKind::Cycle => false,
         RootKind::Ended | RootKind::Silent | RootKind::Open => true,
@@ -404,7 +409,9 @@ fn merge(own: &mut Vec<u32>, more: &[u32]) -> Result<(), AllocError>
 }
 
 /// Adds a root's own ranks to another root, which holds up the same.
-fn join(into: &mut Root, root: &Root) -> Result<(), AllocError> {
+fn join(into: &mut Root, root: &Root) -> Result<(), AllocError>
+    ensures { OnOk result (JoinsRoots into.old root.now into.new) }
+{
     merge(&mut into.ranks, &root.ranks)?;
     merge(&mut into.needed_by, &root.needed_by)?;
     into.needed_by.dedup();
@@ -417,13 +424,17 @@ type Places = BTreeMap<(u8, Vec<u32>), usize>;
 
 /// Joins the root at a place with one that holds up the same.
 fn join_at(roots: &mut Vec<Root>, place: usize, root: &Root) -> Result<(), AllocError>
-    requires { place < vec_len roots.old }
+    requires place { place < vec_len roots.old }
+    requires ranks { is_round root.now.kind ≡ false }
+    ensures { OnOk result (AddsRoot roots.old.items root.now roots.new.items) }
 {
     join(&mut roots[place], root)
 }
 
 /// Adds a root, or joins it with one that is there.
-fn add(roots: &mut Vec<Root>, places: &mut Places, root: Root) -> Result<(), AllocError> {
+fn add(roots: &mut Vec<Root>, places: &mut Places, root: Root) -> Result<(), AllocError>
+    ensures { OnOk result (AddsRoot roots.old.items root roots.new.items) }
+{
     if !is_joined(root.kind) {
         roots.push(root)?;
         return Ok(());
@@ -439,7 +450,9 @@ fn add(roots: &mut Vec<Root>, places: &mut Places, root: Root) -> Result<(), All
 }
 
 /// The roots, where those of one kind that hold up the same ranks are one.
-fn joined(alloc: Global, single: Vec<Root>) -> Result<Vec<Root>, AllocError> {
+fn joined(alloc: Global, single: Vec<Root>) -> Result<Vec<Root>, AllocError>
+    ensures { IfOk result (λ roots. KeepRoots single.items roots.items) }
+{
     let mut roots = Vec::new(alloc);
     let mut places = Places::new(alloc);
     let mut rest = single;
@@ -487,6 +500,7 @@ pub(crate) fn roots_of(
     requires small { ranks.now.count < 2 ^ 31 }
     requires same { vec_len graph.now.askers ≡ vec_len graph.now.edges }
     requires askers { (r s : ℕ) → edge graph.now.askers.items s r ≡ edge graph.now.edges.items r s }
+    ensures { IfOk result (λ roots. All (IsSound graph.now.edges.items ranks.now.held.now ranks.now.count) roots.items) }
 {
     let mut single = roots_of_ranks(alloc, graph, ranks)?;
     push_roots_of_rounds(alloc, graph, ranks, mismatched, &mut single)?;
