@@ -338,6 +338,7 @@ pub fn diagnose(
     ensures sends { IfOk result (λ d. d.sends ≡ layout.now.sends) }
     ensures stuck { IfOk result (λ d. d.stuck.items ≡ map (λ s. s.rank) answer.now.stuck) }
     ensures unfinished { IfOk result (λ d. d.unmatched.unfinished.items ≡ flat_map unfinished_of (all_ops layout.now know.now)) }
+    ensures roots { IfOk result (λ d. HaveRoots (map has_not_ended answer.now.states) layout.now.ranks d.waiting.roots.items) }
 {
     let ranks = layout.ranks();
     let ops = ops_in(alloc, layout, know)?;
