@@ -1,5 +1,5 @@
 -- The roots: what holds up ranks and is itself held up by nobody else.
-use Rattle.std.specs.Prelude.{◌≡◌, ℕ, Bool, true, false, ◌==◌, Option, Some, None, List, filter, map, All, Vec}
+use Rattle.std.specs.Prelude.{◌≡◌, ◌⊎◌, [], ℕ, Bool, true, false, ◌==◌, Option, Some, None, List, filter, map, All, Vec}
 use Rattle.std.specs.List.{range_with_len}
 use Rattle.std.specs.declared.alloc.Global.{Global}
 use Rattle.trace_stuck.specs.Graph.{is_up, label_at}
@@ -70,3 +70,7 @@ pub record AreRoots (able : List Bool) (ranks : ℕ) (conditions : List (Option 
   pub needs : map (λ v. v.items) all ≡ map (needs_at able conditions) (range_with_len 0 ranks)
   pub drawn : HaveEdges ranks all edges
   pub sound : All (IsSound edges (map is_held conditions) ranks) roots
+
+-- There are no roots, or they are those of some conditions.
+abbrev pub HaveRoots : List Bool → ℕ → List Root → Type 0
+HaveRoots able ranks roots = (roots ≡ []) ⊎ ((conditions : List (Option Condition)) × AreRoots able ranks conditions roots)

@@ -1,11 +1,13 @@
 //! From what is known of a run to its diagnosis.
 
-ghost use Rattle.std.specs.Prelude.{◌≡◌, ◌<◌, ◌^◌, All, IfOk, length, map};
+ghost use Rattle.std.specs.Prelude.{[], ◌≡◌, ◌<◌, ◌^◌, All, IfOk, length, map};
 ghost use Rattle.std.specs.List.{flat_map};
 ghost use Rattle.trace_node.specs.Answer.{IsAnswer};
 ghost use Rattle.trace_ops.specs.Ops.{AreOwn};
 ghost use Rattle.trace_ops.specs.RankOps.{all_ops};
+ghost use Rattle.trace_diagnosis.specs.Graph.{has_not_ended};
 ghost use Rattle.trace_diagnosis.specs.LeftOver.{unfinished_of};
+ghost use Rattle.trace_diagnosis.specs.Roots.{HaveRoots};
 
 use crate::conditions::{Case, Poller, conditions_of, held_of, pollers_of, waits_of};
 use crate::diagnosis::{Diagnosis, Held, Need, Polled, Polling, Root, Rounds, Unmatched, Waiting};
@@ -189,7 +191,8 @@ struct Matters {
 
 /// The same where no rank waits or polls, and no message is without a pair.
 fn no_matters(alloc: Global, ops: &[RankOps]) -> Result<Matters, AllocError>
-    ensures { IfOk result (λ m. m.unmatched.unfinished.items ≡ flat_map unfinished_of ops.now) }
+    ensures unfinished { IfOk result (λ m. m.unmatched.unfinished.items ≡ flat_map unfinished_of ops.now) }
+    ensures none { IfOk result (λ m. m.roots.items ≡ []) }
 {
     Ok(Matters {
         held: Vec::new(alloc),
@@ -206,7 +209,8 @@ fn matters_of(alloc: Global, case: &Case<'_>, rounds: &Rounds) -> Result<Matters
     requires there { All (λ p. p.rank < length case.now.ops.now) case.now.pollers.now }
     requires small { case.now.ranks < 2 ^ 31 }
     requires states { length case.now.answer.now.states < 2 ^ 32 }
-    ensures { IfOk result (λ m. m.unmatched.unfinished.items ≡ flat_map unfinished_of case.now.ops.now) }
+    ensures unfinished { IfOk result (λ m. m.unmatched.unfinished.items ≡ flat_map unfinished_of case.now.ops.now) }
+    ensures roots { IfOk result (λ m. HaveRoots (map has_not_ended case.now.answer.now.states) case.now.ranks m.roots.items) }
 {
     let pairs = pair_all(alloc, case.ops)?;
     let conditions = conditions_of(alloc, case, &pairs)?;
@@ -257,13 +261,14 @@ fn matters_in(alloc: Global, case: &Case<'_>, rounds: &Rounds) -> Result<Matters
     requires there { All (λ p. p.rank < length case.now.ops.now) case.now.pollers.now }
     requires small { case.now.ranks < 2 ^ 31 }
     requires states { length case.now.answer.now.states < 2 ^ 32 }
-    ensures { IfOk result (λ m. m.unmatched.unfinished.items ≡ flat_map unfinished_of case.now.ops.now) }
+    ensures unfinished { IfOk result (λ m. m.unmatched.unfinished.items ≡ flat_map unfinished_of case.now.ops.now) }
+    ensures roots { IfOk result (λ m. HaveRoots (map has_not_ended case.now.answer.now.states) case.now.ranks m.roots.items) }
 {
-    if has_matters(case) {
-        matters_of(alloc, case, rounds)
-    } else {
-        no_matters(alloc, case.ops)
+    if !has_matters(case) {
+        let nothing = no_matters(alloc, case.ops)?;
+        return Ok(nothing);
     }
+    matters_of(alloc, case, rounds)
 }
 
 /// The diagnosis of a run.
@@ -277,6 +282,7 @@ fn diagnosis_of(alloc: Global, case: &Case<'_>) -> Result<Diagnosis, AllocError>
     ensures sends { IfOk result (λ d. d.sends ≡ case.now.answer.now.sends) }
     ensures stuck { IfOk result (λ d. d.stuck.items ≡ case.now.stuck.now) }
     ensures unfinished { IfOk result (λ d. d.unmatched.unfinished.items ≡ flat_map unfinished_of case.now.ops.now) }
+    ensures roots { IfOk result (λ d. HaveRoots (map has_not_ended case.now.answer.now.states) case.now.ranks d.waiting.roots.items) }
 {
     let entries = entries_of(alloc, case.ops)?;
     let standing = standing_of(alloc, case.know, case.ops, &entries, case.cut, case.ranks)?;
@@ -332,6 +338,7 @@ pub fn diagnose(
     ensures sends { IfOk result (λ d. d.sends ≡ layout.now.sends) }
     ensures stuck { IfOk result (λ d. d.stuck.items ≡ map (λ s. s.rank) answer.now.stuck) }
     ensures unfinished { IfOk result (λ d. d.unmatched.unfinished.items ≡ flat_map unfinished_of (all_ops layout.now know.now)) }
+    ensures roots { IfOk result (λ d. HaveRoots (map has_not_ended answer.now.states) layout.now.ranks d.waiting.roots.items) }
 {
     let ranks = layout.ranks();
     let ops = ops_in(alloc, layout, know)?;
