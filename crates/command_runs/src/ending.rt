@@ -18,7 +18,7 @@ use crate::faults::file_name::FileName;
 use crate::faults::init_advice::shown_init_fault;
 use crate::faults::init_fault::{InitFault, init_fault_line};
 use crate::load::first_look::begins_as_text;
-use crate::load::input::{has_rank, load};
+use crate::load::input::{has_rank, input_at};
 use crate::load::opener::Opener;
 use crate::load::prepared::prepare;
 use crate::load::watch::Watcher;
@@ -100,7 +100,7 @@ fn over_pair<O: Opener, V: Watcher, W: Write>(
     ensures { IfOk result (EndsPair (Fails O.R.failures) (O.file files.now) verb names.entry.0.now names.entry.1.now W.written W.failures out.old out.new) }
 {
     let (layout, manifest) = names;
-    match load(alloc, verb.asked_rank(), layout, manifest, files) {
+    match input_at(alloc, verb.asked_rank(), layout, manifest, files) {
         Ok(input) => {
             let ran = run_with(verb, &Run::new(alloc, &input, files), watcher, out);
             ending_after(alloc, is_in_words(verb), ran, files)
@@ -168,7 +168,7 @@ fn over_cluster<
     ensures { IfOk result (EndsCluster (Fails O.R.failures) (O.file files.now) names.entry.0.now names.entry.1.now W.written W.failures out.old out.new) }
 {
     let (layout, manifest) = names;
-    match load(alloc, None, layout, manifest, files) {
+    match input_at(alloc, None, layout, manifest, files) {
         Ok(input) => {
             let ran = cluster(rt, &Run::new(alloc, &input, files), out);
             ending_after(alloc, false, ran, files)

@@ -16,7 +16,7 @@
 //! texts, what packed files tell, and a copy of each node.
 //!
 //! ```text
-//! ending_of ─▶ load ─────────────▶ a layout and a manifest ─▶ run_with ─▶ a verb ─▶ pieces ─▶ texts, packed files
+//! ending_of ─▶ input_at ─────────▶ a layout and a manifest ─▶ run_with ─▶ a verb ─▶ pieces ─▶ texts, packed files
 //!   words      files, or texts                                             │
 //!                                                                          ▼ output, or a fault
 //! ```
@@ -47,7 +47,7 @@ mod verbs;
 
 pub use ending::{Ending, ending_of, ending_without_words};
 pub use faults::fault::{RunFault, fault_line};
-pub use load::input::load;
+pub use load::input::input_at;
 pub use load::opener::{Disk, OpenFault, Opener};
 pub use load::reason::Reason;
 pub use load::terminal::Terminal;

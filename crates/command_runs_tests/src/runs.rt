@@ -8,7 +8,7 @@ ghost use Rattle.std.specs.Str.{bytes_eq};
 
 use command_line::Verb;
 use command_runs::{
-    OpenFault, Opener, Outcome, Run, RunFault, Unwatched, fault_line, load, run_with,
+    OpenFault, Opener, Outcome, Run, RunFault, Unwatched, fault_line, input_at, run_with,
 };
 use mpi_model::{MemoryReader, MemoryWriter, Write};
 use std::alloc::Global;
@@ -78,7 +78,7 @@ fn ran<W: Write>(
     files: &Shelf,
     out: &mut W,
 ) -> Result<Outcome, RunFault> {
-    let input = load(alloc, None, "layout.json", "manifest.json", files)?;
+    let input = input_at(alloc, None, "layout.json", "manifest.json", files)?;
     let run = Run::new(alloc, &input, files);
     if replays {
         run_with(Verb::Replay, &run, &mut Unwatched, out)

@@ -17,7 +17,7 @@ use std::alloc::{AllocError, Global};
 
 /// The layout and the manifest of these files. The rank that is asked for, where one is, is looked for in the layout before
 /// the manifest is read.
-pub fn load<O: Opener>(
+pub fn input_at<O: Opener>(
     alloc: Global,
     rank: Option<u32>,
     layout: &str,

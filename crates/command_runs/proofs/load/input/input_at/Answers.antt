@@ -1,6 +1,6 @@
 use Rattle.std.proofs.Common.{inl, inr}
 use Rattle.command_runs.proofs.Runs.{handed_on}
-use Rattle.command_runs.proofs.load.input.load.Goals as goal
+use Rattle.command_runs.proofs.load.input.input_at.Goals as goal
 
 pub returns-in_err-layout-clause-err : goal.returns-in_err-layout-clause-err
 returns-in_err-layout-clause-err g c = handed_on c.from_residual.result _ _ c.from_residual.ensures.1 (inl c.in_err-layout.ensures.err)
