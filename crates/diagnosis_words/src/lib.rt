@@ -6,19 +6,19 @@
 //!
 //! - [`named`]: which calls a diagnosis names; [`texts`]: what the texts tell of them; [`source`]: all that is printed from
 //! - [`json`]: the diagnosis as JSON; [`picture`]: in the language of Graphviz
-//! - [`words`]: in words: what is told, in what order, and where a list is cut; [`answer_doubts`]: what makes the answer
-//!   doubtful; [`one_rank`] and [`last_calls`]: of one rank; [`sentences`]:
+//! - [`words`]: in words: what is told, in what order, and where a list is cut; [`doubts_of_answer`]: what makes the answer
+//!   doubtful; [`one_rank`] and [`calls_of_rank`]: of one rank; [`sentences`]:
 //!   all sentences; [`writer`], [`functions`], [`calls`]: names of things; [`groups`]: ranks that stand alike
 //! - [`doubtful`]: which functions may wait or move data and aren't read
 #![tactic(auto)]
 
-mod answer_doubts;
 mod calls;
+mod calls_of_rank;
 mod doubtful;
+mod doubts_of_answer;
 mod functions;
 mod groups;
 mod json;
-mod last_calls;
 mod named;
 mod one_rank;
 mod picture;
@@ -28,9 +28,9 @@ mod texts;
 mod words;
 mod writer;
 
-pub use answer_doubts::answer_doubts;
+pub use calls_of_rank::last_calls;
+pub use doubts_of_answer::answer_doubts;
 pub use json::diagnosis_json;
-pub use last_calls::last_calls;
 pub use named::named_calls;
 pub use one_rank::rank_words;
 pub use picture::diagnosis_picture;

@@ -23,10 +23,12 @@ impl<'a> Source<'a> {
 
     /// The name of a call's function: as its text has it, else by what the call is.
     pub fn function(self, rank: u32, number: u64, call: &Call) -> &'a [u8] {
-        match self.place(rank, number) {
-            Some(place) => place.function.unwrap_or(function_name(call)),
-            None => function_name(call),
+        if let Some(place) = self.place(rank, number) {
+            if let Some(function) = place.function {
+                return function;
+            }
         }
+        function_name(call)
     }
 
     /// How a rank stands.

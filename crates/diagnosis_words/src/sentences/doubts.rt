@@ -11,9 +11,12 @@ const MOST_NAMED: usize = 8;
 impl<'a> Writer<'a> {
     /// Who would be stuck under the other kind of sends.
     pub fn put_other_sends(&mut self, ranks: &[u32]) {
-        self.put(match self.source.diagnosis.sends {
-            Sends::Wait => b"\nIf sends of standard mode were buffered, ".as_slice(),
-            Sends::Buffer => b"\nIf sends of standard mode waited for their receives, ".as_slice(),
+        let diagnosis = self.source.diagnosis;
+        let do_wait = matches!(diagnosis.sends, Sends::Wait);
+        self.put(if do_wait {
+            b"\nIf sends of standard mode were buffered, ".as_slice()
+        } else {
+            b"\nIf sends of standard mode waited for their receives, ".as_slice()
         });
         if !ranks.is_empty() {
             self.put_ranks(ranks);
@@ -21,7 +24,7 @@ impl<'a> Writer<'a> {
             return;
         }
         self.put(b"no rank would be stuck");
-        if matches!(self.source.diagnosis.sends, Sends::Wait) {
+        if do_wait {
             self.put(b": the program hangs only where messages are too large to be buffered");
         }
         self.put(b".\n");
