@@ -2,10 +2,11 @@
 use Rattle.std.proofs.Common.{Vec, Global, ◌≡◌, ℕ, map, sym, ◌∙◌, ap}
 use Rattle.std.specs.declared.sync.Arc.{Arc}
 use Rattle.trace_stuck.specs.declared.condition.Condition.{Condition}
-use Rattle.trace_stuck.specs.declared.condition.Condition.TheOpen.{Yes, Rank, All, One, OneRank, AllRanks}
+use Rattle.trace_stuck.specs.declared.condition.RoundName.{RoundName}
+use Rattle.trace_stuck.specs.declared.condition.Condition.TheOpen.{Yes, Rank, All, One, OneRank, AllRanks, Mismatched}
 use Rattle.trace_stuck.specs.declared.condition.Condition.TheFolds.{fold-roll-Condition}
 use Rattle.trace_stuck.specs.declared.condition.Condition.TheViews as views
-use Rattle.trace_stuck.specs.Shape.{Wait, OnNothing, OnRank, OnAll, OnOne, waits_of, shape_step, shape}
+use Rattle.trace_stuck.specs.Shape.{Wait, OnNothing, OnRank, OnAll, OnOne, OnMismatched, waits_of, shape_step, shape}
 
 pub shape_Yes : shape views.made-Yes ≡ OnNothing
 shape_Yes = ap shape (sym views.rolls-Yes) ∙ fold-roll-Condition Wait shape_step Yes
@@ -24,3 +25,6 @@ shape_OneRank ranks = ap shape (sym (views.rolls-OneRank ranks)) ∙ fold-roll-C
 
 pub shape_AllRanks : (ranks : Arc (Vec ℕ Global) Global) → shape (views.made-AllRanks ranks) ≡ OnAll (waits_of (map OnRank ranks.value.items))
 shape_AllRanks ranks = ap shape (sym (views.rolls-AllRanks ranks)) ∙ fold-roll-Condition Wait shape_step (AllRanks ranks)
+
+pub shape_Mismatched : (first : RoundName) → shape (views.made-Mismatched first) ≡ OnMismatched first
+shape_Mismatched first = ap shape (sym (views.rolls-Mismatched first)) ∙ fold-roll-Condition Wait shape_step (Mismatched first)

@@ -4,7 +4,7 @@ use Rattle.std.specs.List.{find}
 use Rattle.std.specs.Option.{option_and_then, option_map}
 use Rattle.trace_ops.specs.Ops.{Ops}
 use Rattle.trace_stuck.specs.Shape as waits
-use Rattle.trace_stuck.specs.Shape.{Waits, OnNothing, OnRank, OnAll, OnOne, none, and}
+use Rattle.trace_stuck.specs.Shape.{Waits, OnNothing, OnRank, OnAll, OnOne, OnMismatched, none, and}
 use Rattle.trace_wait.specs.Collectives.{round_number}
 use Rattle.trace_node.specs.Answer.{Stopped}
 
@@ -37,6 +37,7 @@ waits_for_several OnNothing = false
 waits_for_several (OnRank r) = false
 waits_for_several (OnAll parts) = has_two parts
 waits_for_several (OnOne parts) = false
+waits_for_several (OnMismatched first) = false
 
 -- A collective call waits for ranks that have not entered its round.
 abbrev pub not_entered_text : Option ℕ → waits.Wait → List ℕ

@@ -1,7 +1,7 @@
 -- For whom a rank waits, in words.
 use Rattle.std.specs.Prelude.{ℕ, zero, suc, Option, Some, None, List, [], ◌∷◌, ◌++◌, codes}
 use Rattle.trace_stuck.specs.Shape as waits
-use Rattle.trace_stuck.specs.Shape.{Waits, OnNothing, OnRank, OnAll, OnOne, none, and}
+use Rattle.trace_stuck.specs.Shape.{Waits, OnNothing, OnRank, OnAll, OnOne, OnMismatched, none, and}
 use Rattle.call_words.specs.Ranges.{ranges_text}
 
 -- the rank for which a part waits, where it is a rank
@@ -42,6 +42,7 @@ abbrev mutual
   wait_text does (OnRank r) = does r
   wait_text does (OnAll parts) = list_text does (codes "all of") (plain_ranks parts) (parts_text does parts)
   wait_text does (OnOne parts) = list_text does (codes "one of") (plain_ranks parts) (parts_text does parts)
+  wait_text does (OnMismatched first) = codes "nothing"
 
   -- the parts in their order
   pub parts_text : (ℕ → List ℕ) → Waits → List ℕ

@@ -2,7 +2,7 @@
 use Rattle.std.specs.Prelude.{ℕ, Bool, ◌&&◌, ◌==◌, List, [], ◌∷◌, ◌++◌, map}
 use Rattle.std.specs.List.{list_any}
 use Rattle.trace_stuck.specs.Shape as waits
-use Rattle.trace_stuck.specs.Shape.{Waits, OnNothing, OnRank, OnAll, OnOne, none, and, shape, waits_of}
+use Rattle.trace_stuck.specs.Shape.{Waits, OnNothing, OnRank, OnAll, OnOne, OnMismatched, none, and, shape, waits_of}
 use Rattle.trace_stuck.specs.declared.condition.Condition.{Condition}
 use Rattle.trace_stuck.specs.Release.{among}
 use Rattle.trace_node.specs.Answer.{Stopped}
@@ -18,6 +18,7 @@ abbrev mutual
   ranks_in (OnRank r) = r ∷ []
   ranks_in (OnAll parts) = ranks_of parts
   ranks_in (OnOne parts) = ranks_of parts
+  ranks_in (OnMismatched first) = []
 
   -- the ranks that stand in some parts, in order
   pub ranks_of : Waits → List ℕ

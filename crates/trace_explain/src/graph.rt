@@ -148,6 +148,7 @@ fn draw_condition(
         Condition::One(parts) => draw_parts(flags, waits, askers, r, parts),
         Condition::OneRank(ranks) => draw_all(flags, waits, askers, r, ranks),
         Condition::AllRanks(ranks) => draw_all(flags, waits, askers, r, ranks),
+        Condition::Mismatched(_) => Ok(()),
     }
 }
 

@@ -79,6 +79,7 @@ fn waits_for_several(condition: &Condition) -> bool
         Condition::One(_) => false,
         Condition::OneRank(_) => false,
         Condition::AllRanks(ranks) => ranks.len() > 1,
+        Condition::Mismatched(_) => false,
     }
 }
 

@@ -85,6 +85,7 @@ pub(crate) fn put_wait(
         Condition::One(parts) => put_list(alloc, out, answer, know, b"one of", parts),
         Condition::OneRank(ranks) => put_ranks(out, answer, know, b"one of", ranks),
         Condition::AllRanks(ranks) => put_ranks(out, answer, know, b"all of", ranks),
+        Condition::Mismatched(_) => out.put(b"nothing"),
     }
 }
 

@@ -3,7 +3,7 @@ use Rattle.std.specs.Prelude.{ℕ, ◌+◌, ◌==◌, Bool, true, false, if◌th
 use denote.Bor.{Bor}
 use Rattle.std.specs.List.{cons_option}
 use Rattle.trace_stuck.specs.Shape as waits
-use Rattle.trace_stuck.specs.Shape.{Waits, OnNothing, OnRank, OnAll, OnOne, none, and, shape, waits_of}
+use Rattle.trace_stuck.specs.Shape.{Waits, OnNothing, OnRank, OnAll, OnOne, OnMismatched, none, and, shape, waits_of}
 use Rattle.trace_stuck.specs.declared.condition.Condition.{Condition}
 use Rattle.call_words.specs.Ranges.{ranges_text}
 
@@ -84,6 +84,7 @@ rank_of (OnRank r) = Some r
 rank_of OnNothing = None
 rank_of (OnAll parts) = None
 rank_of (OnOne parts) = None
+rank_of (OnMismatched first) = None
 
 -- the parts that are ranks
 abbrev pub ranks_among : Waits → List ℕ
@@ -104,6 +105,7 @@ abbrev mutual
       ++ (edges_text nodes true (origin outer true from place) (ranks_among parts) ++ nested_text nodes true (origin outer true from place) place 0 parts)
   wait_text nodes outer from place (OnOne parts) = opening_text outer false from place
       ++ (edges_text nodes false (origin outer false from place) (ranks_among parts) ++ nested_text nodes false (origin outer false from place) place 0 parts)
+  wait_text nodes outer from place (OnMismatched first) = []
 
   -- the parts that are no ranks, each at a place of its own
   pub nested_text : Option (List ℕ) → Bool → List ℕ → List ℕ → ℕ → Waits → List ℕ

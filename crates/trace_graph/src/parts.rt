@@ -74,6 +74,7 @@ pub(crate) fn put_wait(
         Condition::One(parts) => put_list(alloc, out, nodes, outer, false, from, place, parts),
         Condition::OneRank(ranks) => put_ranks(alloc, out, nodes, outer, false, from, place, ranks),
         Condition::AllRanks(ranks) => put_ranks(alloc, out, nodes, outer, true, from, place, ranks),
+        Condition::Mismatched(_) => {}
     }
 }
 

@@ -2,11 +2,11 @@
 use Rattle.std.proofs.Common.{◌≡◌, ℕ, Bool, true, ◌&&◌, ◌||◌, List, [], ◌∷◌, map, refl, sym, ◌∙◌, ap, subst, false}
 use Rattle.std.specs.List.{list_any, list_all}
 use Rattle.trace_stuck.specs.declared.condition.Condition.{Condition}
-use Rattle.trace_stuck.specs.declared.condition.Condition.TheOpen.{Condition-F, Yes, Rank, All, One, OneRank, AllRanks}
+use Rattle.trace_stuck.specs.declared.condition.Condition.TheOpen.{Condition-F, Yes, Rank, All, One, OneRank, AllRanks, Mismatched}
 use Rattle.trace_stuck.specs.declared.condition.Condition.TheFolds.{fold-roll-Condition, ind-Condition, map-Condition}
 use Rattle.trace_stuck.specs.declared.condition.Condition.TheViews.{roll-Condition}
 use Rattle.trace_stuck.specs.Holds.{holds_step, holds}
-use Rattle.trace_stuck.specs.Shape.{Wait, Waits, OnNothing, OnRank, OnAll, OnOne, none, and, shape_step, shape, waits_of}
+use Rattle.trace_stuck.specs.Shape.{Wait, Waits, OnNothing, OnRank, OnAll, OnOne, OnMismatched, none, and, shape_step, shape, waits_of}
 
 abbrev mutual
   -- whether a wait is over where just these ranks can go on
@@ -15,6 +15,7 @@ abbrev mutual
   over able (OnRank r) = able r
   over able (OnAll parts) = all_over able parts
   over able (OnOne parts) = some_over able parts
+  over able (OnMismatched first) = true
 
   pub all_over : (ℕ → Bool) → Waits → Bool
   all_over able none = true
@@ -62,6 +63,7 @@ level able (OneRank ranks) = fold-roll-Condition Bool (holds_step able) (OneRank
     ∙ sym (ap (over able) (fold-roll-Condition Wait shape_step (OneRank ranks)))
 level able (AllRanks ranks) = fold-roll-Condition Bool (holds_step able) (AllRanks ranks) ∙ each_over able ranks.value.items
     ∙ sym (ap (over able) (fold-roll-Condition Wait shape_step (AllRanks ranks)))
+level able (Mismatched first) = fold-roll-Condition Bool (holds_step able) (Mismatched first) ∙ sym (ap (over able) (fold-roll-Condition Wait shape_step (Mismatched first)))
 
 holds-shape : (able : ℕ → Bool) (c : Condition) → IsOver able c
 holds-shape able c = ind-Condition (IsOver able) (λ x y is. subst (λ z. IsOver able (roll-Condition z)) is (level able y)) c

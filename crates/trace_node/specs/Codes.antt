@@ -15,7 +15,7 @@ use Rattle.trace_ops.specs.declared.state.State.{State}
 use Rattle.trace_ops.specs.contracts.state.State as state
 use Rattle.trace_pair.specs.declared.pair.Pair.{Pair}
 use Rattle.trace_pair.specs.contracts.pair.Pair as pair
-use Rattle.trace_stuck.specs.Shape.{Wait, Waits, OnNothing, OnRank, OnAll, OnOne, none, and}
+use Rattle.trace_stuck.specs.Shape.{Wait, Waits, OnNothing, OnRank, OnAll, OnOne, OnMismatched, none, and}
 use Rattle.trace_wait.specs.declared.round.Round.{Round}
 use Rattle.trace_wait.specs.contracts.round.Round as round
 use Rattle.trace_node.specs.Answer.{Stopped, Answered}
@@ -28,24 +28,30 @@ abbrev mutual
   tree (OnRank r) = gnum r
   tree (OnAll parts) = gcons gnil (trees parts)
   tree (OnOne parts) = gcons (gnum 0) (trees parts)
+  tree (OnMismatched first) = gcons (gcons gnil gnil) (gcons (gnum first.object) (gnum first.k))
 
   -- some parts as a tree of numbers
   pub trees : Waits → Gv
   trees none = gnil
   trees (and first rest) = gcons (tree first) (trees rest)
 
--- a wait of some parts, by the number of its kind
-abbrev pub of_kind : Gv → Waits → Wait
-of_kind gnil parts = OnAll parts
-of_kind (gnum n) parts = OnOne parts
-of_kind (gcons a b) parts = OnAll parts
+-- a wait in a mismatched round, by the number of its object and its own
+abbrev pub mismatched_in : Gv → Wait
+mismatched_in (gcons (gnum object) (gnum k)) = OnMismatched (record { object = object; k = k })
+mismatched_in v = OnNothing
+
+-- a wait of some parts, or in a round, by the tree of its kind
+abbrev pub of_kind : Gv → Gv → Waits → Wait
+of_kind gnil v parts = OnAll parts
+of_kind (gnum n) v parts = OnOne parts
+of_kind (gcons a b) v parts = mismatched_in v
 
 abbrev mutual
   -- the wait of a tree
   pub wait_in : Gv → Wait
   wait_in gnil = OnNothing
   wait_in (gnum r) = OnRank r
-  wait_in (gcons kind parts) = of_kind kind (waits_in parts)
+  wait_in (gcons kind parts) = of_kind kind parts (waits_in parts)
 
   -- the parts of a tree
   pub waits_in : Gv → Waits
@@ -60,6 +66,7 @@ mutual
   wait-tree (OnRank r) = refl
   wait-tree (OnAll parts) = ap OnAll (waits-trees parts)
   wait-tree (OnOne parts) = ap OnOne (waits-trees parts)
+  wait-tree (OnMismatched first) = refl
 
   -- The tree of some parts tells those parts.
   pub waits-trees : (ws : Waits) → waits_in (trees ws) ≡ ws

@@ -144,7 +144,7 @@ pub(crate) fn is_foreign_in(group: Option<Group<'_>>, call: &Call) -> bool
 }
 
 /// Whether call `n` of the rank is foreign, by the group in which it takes part.
-pub(crate) fn is_foreign(layout: &Layout, rank: u32, n: u64, call: &Call) -> bool
+pub fn is_foreign(layout: &Layout, rank: u32, n: u64, call: &Call) -> bool
     ensures { result ≡ is_foreign layout.now rank n call.now }
 {
     is_foreign_in(group_of(layout, rank, n, call), call)

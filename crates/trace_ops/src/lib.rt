@@ -45,6 +45,7 @@ mod touched;
 mod trust;
 
 pub use entered::Entered;
+pub use group::is_foreign;
 pub use held::{is_init, started_by};
 pub use laws::{join_law, ops_laws};
 pub use ops::{RankOps, all_ops, ops_of};

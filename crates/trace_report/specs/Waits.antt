@@ -1,7 +1,7 @@
 -- What a stuck rank waits for, in words.
 use Rattle.std.specs.Prelude.{ℕ, zero, suc, List, [], ◌++◌, codes, decimal}
 use Rattle.trace_stuck.specs.Shape as waits
-use Rattle.trace_stuck.specs.Shape.{Waits, OnNothing, OnRank, OnAll, OnOne, none, and}
+use Rattle.trace_stuck.specs.Shape.{Waits, OnNothing, OnRank, OnAll, OnOne, OnMismatched, none, and}
 use Rattle.trace_report.specs.declared.form.Form.{Form}
 use Rattle.trace_report.specs.declared.form.Form.TheVariants.{Lines, Json}
 
@@ -34,6 +34,7 @@ abbrev mutual
   wait_text words (OnRank r) = decimal r
   wait_text words (OnAll parts) = words.all ++ parts_text words parts ++ words.close
   wait_text words (OnOne parts) = words.any ++ parts_text words parts ++ words.close
+  wait_text words (OnMismatched first) = words.yes
 
   -- the parts in their order
   pub parts_text : WaitWords → Waits → List ℕ

@@ -23,6 +23,7 @@ pub(crate) fn put_wait<S: Sink>(out: &mut S, form: Form, condition: &Condition)
         Condition::One(parts) => put_list(out, form, form.any(), parts),
         Condition::OneRank(ranks) => put_rank_list(out, form, form.any(), ranks),
         Condition::AllRanks(ranks) => put_rank_list(out, form, form.all(), ranks),
+        Condition::Mismatched(_) => out.put(form.yes()),
     }
 }
 

@@ -3,7 +3,7 @@ use Rattle.std.proofs.Common.{Vec, Global, ◌⊎◌, subst, ◌≡◌, ℕ, Boo
 use Rattle.std.specs.List.{list_any, list_all}
 use Rattle.std.specs.declared.sync.Arc.{Arc}
 use Rattle.trace_stuck.specs.declared.condition.Condition.{Condition}
-use Rattle.trace_stuck.specs.declared.condition.Condition.TheOpen.{Condition-F, Yes, Rank, All, One, OneRank, AllRanks}
+use Rattle.trace_stuck.specs.declared.condition.Condition.TheOpen.{Condition-F, Yes, Rank, All, One, OneRank, AllRanks, Mismatched}
 use Rattle.trace_stuck.specs.declared.condition.Condition.TheFolds.{fold-roll-Condition, ind-Condition, map-Condition}
 use Rattle.trace_stuck.specs.declared.condition.Condition.TheViews.{out-Condition, roll-Condition}
 use Rattle.trace_stuck.specs.declared.condition.Condition.TheViews as views
@@ -43,6 +43,7 @@ level able (All parts) = list_all (holds able) parts.items
 level able (One parts) = list_any (holds able) parts.items
 level able (OneRank ranks) = list_any able ranks.value.items
 level able (AllRanks ranks) = list_all able ranks.value.items
+level able (Mismatched first) = true
 
 pub holds_roll : (able : ℕ → Bool) (x : Condition-F Condition) → holds able (roll-Condition x) ≡ level able x
 holds_roll able Yes = fold-roll-Condition Bool (holds_step able) Yes
@@ -51,6 +52,7 @@ holds_roll able (All parts) = fold-roll-Condition Bool (holds_step able) (All pa
 holds_roll able (One parts) = fold-roll-Condition Bool (holds_step able) (One parts) ∙ any_map (holds able) parts.items
 holds_roll able (OneRank ranks) = fold-roll-Condition Bool (holds_step able) (OneRank ranks)
 holds_roll able (AllRanks ranks) = fold-roll-Condition Bool (holds_step able) (AllRanks ranks)
+holds_roll able (Mismatched first) = fold-roll-Condition Bool (holds_step able) (Mismatched first)
 
 pub holds_All : (able : ℕ → Bool) (parts : Vec Condition Global) → holds able (views.All parts) ≡ list_all (holds able) parts.items
 holds_All able parts = ap (holds able) (sym (views.rolls-All parts)) ∙ holds_roll able (All parts)
@@ -101,6 +103,7 @@ level_more able more h (All parts) g = all_more able more parts.items g
 level_more able more h (One parts) g = any_more able more parts.items g
 level_more able more h (OneRank ranks) g = some_more able more h ranks.value.items g
 level_more able more h (AllRanks ranks) g = each_more able more h ranks.value.items g
+level_more able more h (Mismatched first) g = refl
 
 pub monotone : (able more : ℕ → Bool) (c : Condition) → ((r : ℕ) → able r ≡ true → more r ≡ true) → holds able c ≡ true → holds more c ≡ true
 monotone able more c h = ind-Condition (IsMonotone able more) (λ x y is g.

@@ -9,3 +9,10 @@ pub mod Noted
 pub mod Checks
 pub mod Rising
 pub mod Kept
+pub mod Chained
+pub mod Labels
+pub mod Spreading
+pub mod Flagged
+pub mod TurnedRound
+pub mod Components
+pub mod Found

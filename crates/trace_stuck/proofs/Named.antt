@@ -5,7 +5,7 @@ use Rattle.std.specs.declared.sync.Arc.{Arc}
 use Rattle.std.proofs.lemmas.List.Folds.{list_any-append, flat_map-map}
 use Rattle.std.proofs.lemmas.Bool.Decides.{nat_tests}
 use Rattle.trace_stuck.specs.declared.condition.Condition.{Condition}
-use Rattle.trace_stuck.specs.declared.condition.Condition.TheOpen.{Condition-F, Yes, Rank, All, One, OneRank, AllRanks}
+use Rattle.trace_stuck.specs.declared.condition.Condition.TheOpen.{Condition-F, Yes, Rank, All, One, OneRank, AllRanks, Mismatched}
 use Rattle.trace_stuck.specs.declared.condition.Condition.TheFolds.{fold-roll-Condition, ind-Condition, map-Condition}
 use Rattle.trace_stuck.specs.declared.condition.Condition.TheViews.{out-Condition, roll-Condition}
 use Rattle.trace_stuck.specs.declared.condition.Condition.TheViews as views
@@ -24,6 +24,7 @@ named_level (All parts) = flat_map named parts.items
 named_level (One parts) = flat_map named parts.items
 named_level (OneRank ranks) = ranks.value.items
 named_level (AllRanks ranks) = ranks.value.items
+named_level (Mismatched first) = []
 
 named_roll : (x : Condition-F Condition) → named (roll-Condition x) ≡ named_level x
 named_roll Yes = fold-roll-Condition (List ℕ) named_step Yes
@@ -32,6 +33,7 @@ named_roll (All parts) = fold-roll-Condition (List ℕ) named_step (All parts) �
 named_roll (One parts) = fold-roll-Condition (List ℕ) named_step (One parts) ∙ flat_parts parts.items
 named_roll (OneRank ranks) = fold-roll-Condition (List ℕ) named_step (OneRank ranks)
 named_roll (AllRanks ranks) = fold-roll-Condition (List ℕ) named_step (AllRanks ranks)
+named_roll (Mismatched first) = fold-roll-Condition (List ℕ) named_step (Mismatched first)
 
 pub named_Rank : (r : ℕ) → named (views.made-Rank r) ≡ r ∷ []
 named_Rank r = ap named (sym (views.rolls-Rank r)) ∙ named_roll (Rank r)
@@ -125,6 +127,7 @@ module _ (able more : ℕ → Bool) (q : ℕ) where
   level_new new (One parts) h k = any_new parts.items h k
   level_new new (OneRank ranks) h k = some_new new ranks.value.items h k
   level_new new (AllRanks ranks) h k = each_new new ranks.value.items h k
+  level_new new (Mismatched first) h k = absurd (cc)
 
   pub names_new : ((s : ℕ) → more s ≡ true → (able s ≡ true) ⊎ (q ≡ s)) → (c : Condition) → NamesNew c
   names_new new c = ind-Condition NamesNew (λ x y is h k.

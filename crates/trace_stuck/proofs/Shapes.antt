@@ -2,10 +2,11 @@
 use Rattle.std.proofs.Common.{Vec, Global, ◌≡◌, ℕ, zero, suc, ◌<◌, Bool, List, [], ◌∷◌, ◌++◌, IsTrue, map, length, get_or, refl, sym, ◌∙◌, ap, arith}
 use Rattle.std.specs.declared.sync.Arc.{Arc}
 use Rattle.trace_stuck.specs.declared.condition.Condition.{Condition}
-use Rattle.trace_stuck.specs.declared.condition.Condition.TheOpen.{Rank, All, One, OneRank, AllRanks}
+use Rattle.trace_stuck.specs.declared.condition.RoundName.{RoundName}
+use Rattle.trace_stuck.specs.declared.condition.Condition.TheOpen.{Rank, All, One, OneRank, AllRanks, Mismatched}
 use Rattle.trace_stuck.specs.declared.condition.Condition.TheFolds.{fold-roll-Condition}
 use Rattle.trace_stuck.specs.declared.condition.Condition.TheViews as views
-use Rattle.trace_stuck.specs.Shape.{Wait, Waits, OnRank, OnAll, OnOne, waits_of, shape_step, shape}
+use Rattle.trace_stuck.specs.Shape.{Wait, Waits, OnRank, OnAll, OnOne, OnMismatched, waits_of, shape_step, shape}
 
 pub shape_Rank : (r : ℕ) → shape (views.made-Rank r) ≡ OnRank r
 shape_Rank r = ap shape (sym (views.rolls-Rank r)) ∙ fold-roll-Condition Wait shape_step (Rank r)
@@ -22,11 +23,14 @@ shape_OneRank ranks = ap shape (sym (views.rolls-OneRank ranks)) ∙ fold-roll-C
 pub shape_AllRanks : (ranks : Arc (Vec ℕ Global) Global) → shape (views.made-AllRanks ranks) ≡ OnAll (waits_of (map OnRank ranks.value.items))
 shape_AllRanks ranks = ap shape (sym (views.rolls-AllRanks ranks)) ∙ fold-roll-Condition Wait shape_step (AllRanks ranks)
 
+pub shape_Mismatched : (first : RoundName) → shape (views.made-Mismatched first) ≡ OnMismatched first
+shape_Mismatched first = ap shape (sym (views.rolls-Mismatched first)) ∙ fold-roll-Condition Wait shape_step (Mismatched first)
+
 pub map_push : {X Y : Type 0} (f : X → Y) (xs : List X) (x : X) → map f (xs ++ x ∷ []) ≡ map f xs ++ f x ∷ []
 map_push f [] x = refl
 map_push {Y = Y} f (y ∷ ys) x = ap (λ (l : List Y). f y ∷ l) (map_push f ys x)
 
-pub ruleset shapes = (shape_Rank, shape_All, shape_One, shape_OneRank, shape_AllRanks, map_push)
+pub ruleset shapes = (shape_Rank, shape_All, shape_One, shape_OneRank, shape_AllRanks, shape_Mismatched, map_push)
 
 -- parts are known by the list that they make
 one_waits : (xs ys : List Wait) → waits_of xs ≡ waits_of ys → xs ≡ ys

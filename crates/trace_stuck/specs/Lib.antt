@@ -8,3 +8,7 @@ pub mod Named
 pub mod Queue
 pub mod Verdicts
 pub mod Distinct
+pub mod Chains
+pub mod Graph
+pub mod Hearts
+pub mod Search

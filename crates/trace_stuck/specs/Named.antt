@@ -1,9 +1,9 @@
 -- Which ranks a condition names.
-use Rattle.std.specs.Prelude.{◌≡◌, ◌<◌, ℕ, true, Option, Some, None, List, [], ◌∷◌, slice_get, Vec, length}
+use Rattle.std.specs.Prelude.{◌≡◌, ◌<◌, ◌⊎◌, ℕ, true, Option, Some, None, List, [], ◌∷◌, slice_get, Vec, length}
 use Rattle.std.specs.List.{flat_map}
 use Rattle.std.specs.declared.alloc.Global.{Global}
 use Rattle.trace_stuck.specs.declared.condition.Condition.{Condition}
-use Rattle.trace_stuck.specs.declared.condition.Condition.TheOpen.{Condition-F, Yes, Rank, All, One, OneRank, AllRanks}
+use Rattle.trace_stuck.specs.declared.condition.Condition.TheOpen.{Condition-F, Yes, Rank, All, One, OneRank, AllRanks, Mismatched}
 use Rattle.trace_stuck.specs.declared.condition.Condition.TheFolds.{fold-Condition}
 use Rattle.trace_stuck.specs.Release.{among}
 
@@ -15,6 +15,7 @@ named_step (All parts) = flat_map (λ p. p) parts.items
 named_step (One parts) = flat_map (λ p. p) parts.items
 named_step (OneRank ranks) = ranks.value.items
 named_step (AllRanks ranks) = ranks.value.items
+named_step (Mismatched first) = []
 
 -- the ranks that stand in a condition, in order
 abbrev pub named : Condition → List ℕ
@@ -36,11 +37,12 @@ at_rank askers s = items_of (slice_get askers s)
     items_of (Some v) = v.items
     items_of None = []
 
--- The rank r was noted at these ranks, and nothing was lost.
+-- The rank r was noted at these ranks and nowhere else, and nothing was lost.
 pub record NotesAll (before after : List (Vec ℕ Global)) (ranks : List ℕ) (r : ℕ) : Type 0 where
   pub len : length after ≡ length before
   pub kept : (t x : ℕ) → among (at_rank before t) x ≡ true → among (at_rank after t) x ≡ true
   pub noted : (s : ℕ) → s < length before → among ranks s ≡ true → among (at_rank after s) r ≡ true
+  pub only : (t x : ℕ) → among (at_rank after t) x ≡ true → (among (at_rank before t) x ≡ true) ⊎ ((r ≡ x) × (among ranks t ≡ true))
 
 -- the rank r was noted at the rank s
 abbrev pub Asks : List (Vec ℕ Global) → List (Vec ℕ Global) → ℕ → ℕ → Type 0

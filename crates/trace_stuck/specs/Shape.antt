@@ -1,16 +1,18 @@
 -- What a condition says, apart from where its parts lie in memory.
 use Rattle.std.specs.Prelude.{ℕ, List, [], ◌∷◌, map}
 use Rattle.trace_stuck.specs.declared.condition.Condition.{Condition}
-use Rattle.trace_stuck.specs.declared.condition.Condition.TheOpen.{Condition-F, Yes, Rank, All, One, OneRank, AllRanks}
+use Rattle.trace_stuck.specs.declared.condition.RoundName.{RoundName}
+use Rattle.trace_stuck.specs.declared.condition.Condition.TheOpen.{Condition-F, Yes, Rank, All, One, OneRank, AllRanks, Mismatched}
 use Rattle.trace_stuck.specs.declared.condition.Condition.TheFolds.{fold-Condition}
 
 mutual
-  -- A condition as a plain tree: nothing to wait for, a rank, all of some parts, one of some parts.
+  -- A condition as a plain tree: nothing to wait for, a rank, all of some parts, one of some parts, a mismatched round.
   pub data Wait : Type 0 where
     OnNothing : Wait
     OnRank : (r : ℕ) → Wait
     OnAll : (parts : Waits) → Wait
     OnOne : (parts : Waits) → Wait
+    OnMismatched : (first : RoundName) → Wait
 
   -- the parts, in their order
   pub data Waits : Type 0 where
@@ -30,6 +32,7 @@ shape_step (All parts) = OnAll (waits_of parts.items)
 shape_step (One parts) = OnOne (waits_of parts.items)
 shape_step (OneRank ranks) = OnOne (waits_of (map OnRank ranks.value.items))
 shape_step (AllRanks ranks) = OnAll (waits_of (map OnRank ranks.value.items))
+shape_step (Mismatched first) = OnMismatched first
 
 -- A condition as a plain tree. Two conditions with equal parts have equal shapes, wherever the parts lie.
 abbrev pub shape : Condition → Wait

@@ -1,6 +1,6 @@
 //! Which ranks ask for a rank: the ranks whose condition names it.
 
-ghost use Rattle.std.specs.Prelude.{◌≡◌, ◌<◌, ◌≤◌, ◌^◌, ◌++◌, ℕ, true, IfOk, OnOk, length, vec_len};
+ghost use Rattle.std.specs.Prelude.{◌≡◌, ◌<◌, ◌≤◌, ◌^◌, ◌++◌, [], ℕ, true, IfOk, OnOk, length, vec_len};
 ghost use Rattle.std.specs.List.{flat_map, list_all};
 ghost use Rattle.trace_stuck.specs.Release.{among};
 ghost use Rattle.trace_stuck.specs.Named.{named, names, Asks, NotesAll, IsAskedBy, at_rank};
@@ -41,7 +41,7 @@ fn note(askers: &mut [Vec<u32>], s: u32, r: u32) -> Result<(), AllocError>
 }
 
 /// Notes that the rank r asks for each of these ranks.
-fn note_all(askers: &mut [Vec<u32>], ranks: &[u32], r: u32) -> Result<(), AllocError>
+pub(crate) fn note_all(askers: &mut [Vec<u32>], ranks: &[u32], r: u32) -> Result<(), AllocError>
     ensures { OnOk result (NotesAll askers.old askers.new ranks.now r) }
 {
     for s in ranks {
@@ -62,6 +62,7 @@ fn note_named(askers: &mut [Vec<u32>], condition: &Condition, r: u32) -> Result<
         Condition::One(all) => note_each_named(askers, all, r),
         Condition::OneRank(ranks) => note_all(askers, ranks, r),
         Condition::AllRanks(ranks) => note_all(askers, ranks, r),
+        Condition::Mismatched(_) => Ok(()),
     }
 }
 
@@ -91,8 +92,9 @@ fn note_names(
 }
 
 /// So many ranks for which nobody asks.
-fn no_askers(alloc: Global, count: usize) -> Result<Vec<Vec<u32>>, AllocError>
-    ensures { IfOk result (λ a. vec_len a ≡ count) }
+pub(crate) fn no_askers(alloc: Global, count: usize) -> Result<Vec<Vec<u32>>, AllocError>
+    ensures len { IfOk result (λ a. vec_len a ≡ count) }
+    ensures none { IfOk result (λ a. (s : ℕ) → at_rank a.items s ≡ []) }
 {
     let mut askers = Vec::new(alloc);
     for _ in 0..count {

@@ -1,10 +1,19 @@
 //! Conditions: what a waiting rank needs before it can go on.
 
 ghost use Rattle.std.specs.Prelude.{◌≡◌, ◌↔◌, IfOk, IsTrue, map};
-ghost use Rattle.trace_stuck.specs.Shape.{shape, waits_of, OnNothing, OnRank, OnAll, OnOne};
+ghost use Rattle.trace_stuck.specs.Shape.{shape, waits_of, OnNothing, OnRank, OnAll, OnOne, OnMismatched};
 
 use std::alloc::{AllocError, Global};
 use std::sync::Arc;
+
+/// A round of an object: of a communicator, a window or a file. It is the k-th collective call on the object of each of
+/// its members, from 0 on (MPI 4.0, 6.1).
+#[derive(Clone, Copy, Debug, PartialEq, Eq)]
+pub struct RoundName {
+    /// The object's id in the layout.
+    pub object: u32,
+    pub k: u64,
+}
 
 /// What a waiting rank needs before it can go on. Ranks are trace ranks.
 ///
@@ -23,6 +32,9 @@ pub enum Condition {
     OneRank(Arc<Vec<u32>>),
     /// All of these ranks, with the shape of `All` of them. Many conditions may share the list.
     AllRanks(Arc<Vec<u32>>),
+    /// Nothing that is sure: the round of its call is mismatched, which MPI forbids, so it counts as one that can go on.
+    /// Named is the first of the mismatched rounds in a row, of that object, that end with the round.
+    Mismatched(RoundName),
 }
 
 impl Condition {
@@ -73,6 +85,14 @@ impl Condition {
         Condition::AllRanks(list)
     }
 
+    /// Waits in a mismatched round: it can go on.
+    #[tactic(auto, using(crate::proofs::Shapes::shapes))]
+    pub fn mismatched(first: RoundName) -> Condition
+        ensures { shape result ≡ OnMismatched first }
+    {
+        Condition::Mismatched(first)
+    }
+
     /// A copy, with equal parts. Lists of ranks are shared with it.
     pub fn try_clone(&self, alloc: Global) -> Result<Condition, AllocError>
         ensures { IfOk result (λ c. shape c ≡ shape self.now) }
@@ -100,6 +120,7 @@ fn copy_of(alloc: Global, condition: &Condition) -> Result<Condition, AllocError
         Condition::One(parts) => Ok(Condition::one(copies_of(alloc, parts)?)),
         Condition::OneRank(ranks) => Ok(Condition::one_rank(Arc::try_clone(ranks)?)),
         Condition::AllRanks(ranks) => Ok(Condition::all_ranks(Arc::try_clone(ranks)?)),
+        Condition::Mismatched(first) => Ok(Condition::mismatched(*first)),
     }
 }
 
@@ -118,6 +139,13 @@ fn copies_of(alloc: Global, parts: &[Condition]) -> Result<Vec<Condition>, Alloc
 /// Whether the two lists are equal.
 fn are_same_ranks(first: &[u32], second: &[u32]) -> bool
     ensures { IsTrue result ↔ (first.now ≡ second.now) }
+{
+    first == second
+}
+
+/// Whether the two are one round.
+fn is_same_round(first: RoundName, second: RoundName) -> bool
+    ensures { IsTrue result ↔ (first ≡ second) }
 {
     first == second
 }
@@ -163,6 +191,9 @@ fn is_same(first: &Condition, second: &Condition) -> bool
         (Condition::All(parts), Condition::AllRanks(ranks)) => are_ranks(parts, ranks),
         (Condition::AllRanks(ranks), Condition::All(parts)) => are_ranks(parts, ranks),
         (Condition::AllRanks(ranks), Condition::AllRanks(others)) => are_same_ranks(ranks, others),
+        (Condition::Mismatched(round), Condition::Mismatched(other)) => is_same_round(
+            *round, *other,
+        ),
         _ => false,
     }
 }

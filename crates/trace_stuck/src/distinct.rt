@@ -147,6 +147,7 @@ fn distinct_of(
             let each = Arc::try_clone(ranks)?;
             Ok(Condition::AllRanks(each))
         },
+        Condition::Mismatched(first) => Ok(Condition::Mismatched(*first)),
     }
 }
 

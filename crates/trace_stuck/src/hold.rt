@@ -73,6 +73,7 @@ fn does_hold<A: Able>(able: &A, condition: &Condition) -> bool
         Condition::One(all) => does_some_hold(able, all),
         Condition::OneRank(ranks) => can_some_go(able, ranks),
         Condition::AllRanks(ranks) => can_each_go(able, ranks),
+        Condition::Mismatched(_) => true,
     }
 }
 

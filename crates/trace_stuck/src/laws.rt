@@ -2,6 +2,7 @@
 //! does nothing.
 
 ghost use Rattle.trace_stuck.specs.Laws.{ConditionsAreMonotone, StuckRanksAreClosed, CheckedVerdictsAreRight, RisingListsAreOne};
+ghost use Rattle.trace_stuck.specs.Hearts.{HeartsAreOne};
 
 /// Where more ranks can go on, no condition that held is lost. So the union of closed sets is
 /// closed.
@@ -23,4 +24,9 @@ pub fn checked_verdicts_are_right()
 /// There is one rising list of the stuck ranks.
 pub fn rising_lists_are_one()
     ensures { RisingListsAreOne }
+{}
+
+/// A node of a graph is in one heart at most, and a heart has one name: two lists of the hearts say the same of each node.
+pub fn hearts_are_one()
+    ensures { HeartsAreOne }
 {}

@@ -30,24 +30,32 @@
 //! - [`hold`]: whether a condition holds; [`askers`]: which conditions name a rank
 //! - [`release`]: the order of release; [`verdict`]: that order, and who is left
 //! - [`check`]: both checks; [`laws`]: what holds whatever the program does
+//! - [`search`]: from where the nodes of any graph are reached; [`backward`]: its edges the other way round;
+//!   [`heart`]: the components that nothing leads out of
 //!
 //! Its tests are the runs that hang in `tests/rows/runs.txt`.
 #![tactic(auto)]
 
 mod askers;
+mod backward;
 mod check;
 mod condition;
 mod distinct;
+mod heart;
 mod hold;
 mod laws;
 mod release;
+mod search;
 mod state;
 mod verdict;
 
+pub use backward::turned;
 pub use check::{check_closed, check_release};
-pub use condition::Condition;
+pub use condition::{Condition, RoundName};
+pub use heart::hearts;
 pub use laws::{
-    checked_verdicts_are_right, conditions_are_monotone, rising_lists_are_one,
+    checked_verdicts_are_right, conditions_are_monotone, hearts_are_one, rising_lists_are_one,
     stuck_ranks_are_closed,
 };
+pub use search::firsts;
 pub use verdict::{Verdict, stuck};

@@ -10,3 +10,4 @@ pub mod Rows
 pub mod Posted
 pub mod Made
 pub mod Waits
+pub mod InRow

@@ -1,7 +1,7 @@
 -- What a collective call waits for, by the round that it entered (MPI 4.0, 6.1 and 6.12).
-use Rattle.std.specs.Prelude.{ℕ, Bool, true, false, ◌==◌, ◌&&◌, not, nat_lt, Option, Some, None, List, [], ◌∷◌, filter, map, slice_get, count_by, if◌then◌else◌}
+use Rattle.std.specs.Prelude.{ℕ, zero, suc, Bool, true, false, ◌==◌, ◌&&◌, not, nat_lt, Option, Some, None, List, [], ◌∷◌, filter, map, slice_get, count_by, if◌then◌else◌}
 use Rattle.std.specs.List.{list_any, find}
-use Rattle.std.specs.Option.{option_and_then}
+use Rattle.std.specs.Option.{option_and_then, option_map}
 use Rattle.mpi_model.specs.declared.layout.Sends.{Sends}
 use Rattle.mpi_model.specs.declared.layout.Sends.TheVariants as sends
 use Rattle.mpi_model.specs.declared.kind.Category.{Category}
@@ -9,7 +9,8 @@ use Rattle.mpi_model.specs.declared.kind.Category.TheVariants.{AllToAll, OneToAl
 use Rattle.mpi_model.specs.declared.kind.Kind.{Kind}
 use Rattle.mpi_model.specs.Kinds.{row}
 use Rattle.trace_stuck.specs.Shape as waits
-use Rattle.trace_stuck.specs.Shape.{OnNothing, OnRank, OnAll, waits_of}
+use Rattle.trace_stuck.specs.Shape.{OnNothing, OnRank, OnAll, OnMismatched, waits_of}
+use Rattle.trace_stuck.specs.declared.condition.RoundName.{RoundName}
 use Rattle.trace_ops.specs.declared.entered.Entered.{Entered}
 use Rattle.trace_wait.specs.declared.round.Round.{Round}
 use Rattle.trace_wait.specs.declared.round.Standing.{Standing}
@@ -74,9 +75,23 @@ is_mismatch (Partial function root entered all) = false
 abbrev pub is_mismatched_at : ℕ → ℕ → Round → Bool
 is_mismatched_at c k r = (r.comm == c) && (r.k == k) && is_mismatch r.standing
 
+-- Round k of communicator c is mismatched, among these.
+abbrev pub is_mismatched_in : List Round → ℕ → ℕ → Bool
+is_mismatched_in rounds c k = list_any (is_mismatched_at c k) rounds
+
+-- the first of the mismatched rounds of communicator c in a row that end with round k
+abbrev pub first_in_row : List Round → ℕ → ℕ → ℕ
+first_in_row rounds c zero = zero
+first_in_row rounds c (suc k) = if is_mismatched_in rounds c k then first_in_row rounds c k else suc k
+
 -- Round k of communicator c is mismatched.
 abbrev pub is_mismatched : Run → ℕ → ℕ → Bool
-is_mismatched s c k = list_any (is_mismatched_at c k) s.rounds
+is_mismatched s c k = is_mismatched_in s.rounds c k
+
+-- What a call in a mismatched round waits for: nothing that is sure, since MPI forbids such calls. The row of mismatched
+-- rounds began where the calls first differed, and goes on since one member is a call behind the others.
+abbrev pub mismatched_part : Run → ℕ → ℕ → waits.Wait
+mismatched_part s c k = OnMismatched (record { object = c; k = first_in_row s.rounds c k })
 
 -- from the root: the root, and the others
 abbrev pub from_root : Run → ℕ → Entered → ℕ → waits.Wait
@@ -118,9 +133,13 @@ by_kind s r e k = if may_be_owed_nothing s.layout.sends e.function.kind then OnN
 abbrev pub round_number : Ops → Entered → ℕ
 round_number o e = count_by (λ d. (d.comm == e.comm) && nat_lt d.call e.call) o.rounds
 
--- what a call waits for by its round: nothing where that is mismatched
+-- the round that call n of the rank entered, where it is collective and not foreign
+abbrev pub round_of_call : Ops → ℕ → Option RoundName
+round_of_call o n = option_map (λ e. record { object = e.comm; k = round_number o e }) (find (λ e. e.call == n) o.rounds)
+
+-- what a call waits for by its round
 abbrev pub round_part : Run → ℕ → Entered → ℕ → waits.Wait
-round_part s r e k = if is_mismatched s e.comm k then OnNothing else by_kind s r e k
+round_part s r e k = if is_mismatched s e.comm k then mismatched_part s e.comm k else by_kind s r e k
 
 -- Call n of the rank, where it is collective, or the request that it posted. None was entered where it is local.
 abbrev pub collective_of_call : Run → ℕ → Ops → ℕ → waits.Wait

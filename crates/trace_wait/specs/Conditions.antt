@@ -63,6 +63,10 @@ abbrev pub conditions_from : Run → ℕ → List Ops → List (Option Wait)
 conditions_from s first [] = []
 conditions_from s first (o ∷ ops) = condition_of s first o ∷ conditions_from s (first + 1) ops
 
+-- a run: what the ranks did, with the pairs and the rounds
+abbrev pub run_of : Parts → List Ops → List Pair → List Round → Run
+run_of layout ops pairs rounds = record { layout = layout; ops = ops; pairs = pairs; rounds = rounds }
+
 -- the conditions of all ranks, by their operations, the pairs and the rounds
 abbrev pub conditions_of : Parts → List Ops → List Pair → List Round → List (Option Wait)
-conditions_of layout ops pairs rounds = conditions_from (record { layout = layout; ops = ops; pairs = pairs; rounds = rounds }) 0 ops
+conditions_of layout ops pairs rounds = conditions_from (run_of layout ops pairs rounds) 0 ops

@@ -11,3 +11,4 @@ pub mod Conditions
 pub mod Tallies
 pub mod Calls
 pub mod Groups
+pub mod Polls

@@ -227,7 +227,7 @@ fn by_kind(
     }
 }
 
-/// What a call waits for by its round: nothing where that is mismatched.
+/// What a call waits for by its round.
 fn round_part(
     alloc: Global,
     run: &Overview,
@@ -238,7 +238,7 @@ fn round_part(
     ensures { IfOk result (λ c. shape c ≡ round_part run.now r entered.now k) }
 {
     if run.is_mismatched(entered.comm, k) {
-        Ok(Condition::yes())
+        Ok(run.mismatched_part(entered.comm, k))
     } else {
         by_kind(alloc, run, r, entered, k)
     }

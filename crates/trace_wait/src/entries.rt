@@ -3,7 +3,9 @@
 ghost use Rattle.std.specs.Prelude.{◌≡◌, ◌==◌, ◌++◌, ◌∷◌, [], ℕ, IfOk, OnOk, count_by, nat_lt, slice_get};
 ghost use Rattle.std.specs.List.{find};
 ghost use Rattle.std.specs.List.Sorted.{IsNonDecreasingBy};
+ghost use Rattle.trace_ops.specs.Ops.{AreOwn};
 ghost use Rattle.trace_ops.specs.Order.{AreEntered};
+ghost use Rattle.trace_wait.specs.Collectives.{round_number, round_of_call};
 ghost use Rattle.trace_wait.specs.Ranks.{ops_of};
 ghost use Rattle.trace_wait.specs.Rounds.{on_comm};
 ghost use Rattle.trace_wait.specs.Entries.{listed, listed_at, IsRowOf};
@@ -12,6 +14,7 @@ use std::alloc::{AllocError, Global};
 use std::collections::BTreeMap;
 use std::marker::Model;
 use trace_ops::{Entered, RankOps};
+use trace_stuck::RoundName;
 
 /// How many of these calls came before call n.
 pub(crate) fn count_before(entries: &[Entered], n: u64) -> usize
@@ -48,7 +51,7 @@ type Row = BTreeMap<u32, Vec<Entered>>;
 
 /// What the ranks did, and each rank's collective calls by communicator.
 #[derive(Drop)]
-pub(crate) struct Entries<'a> {
+pub struct Entries<'a> {
     ops: &'a [RankOps],
     rows: Vec<Row>,
 }
@@ -91,7 +94,7 @@ fn row_of(alloc: Global, entries: &[Entered]) -> Result<Row, AllocError>
 }
 
 /// The collective calls of these ranks, ready to be asked for by communicator.
-pub(crate) fn entries_of<'a>(alloc: Global, ops: &'a [RankOps]) -> Result<Entries<'a>, AllocError>
+pub fn entries_of<'a>(alloc: Global, ops: &'a [RankOps]) -> Result<Entries<'a>, AllocError>
     ensures { IfOk result (λ s. s ≡ ops.now) }
 {
     let mut rows = Vec::new(alloc);
@@ -127,5 +130,36 @@ impl<'a> Entries<'a> {
         ensures { result.now ≡ on_comm comm (ops_of self.now r).rounds }
     {
         listed_at(&self.rows, r, comm)
+    }
+
+    /// What the rank did.
+    fn of_rank(&self, r: u32) -> &[Entered]
+        ensures { result.now ≡ (ops_of self.now r).rounds }
+    {
+        match self.ops.get(r as usize) {
+            Some(o) => o.rounds(),
+            None => &[],
+        }
+    }
+
+    /// The number of the round that a call of the rank entered: so many calls of it on the object came before.
+    pub(crate) fn round_number(&self, r: u32, entered: &Entered) -> u64
+        requires { AreEntered (ops_of self.now r).rounds }
+        ensures { result ≡ round_number (ops_of self.now r) entered.now }
+    {
+        count_before(self.on(r, entered.comm), entered.call) as u64
+    }
+
+    /// The round that call n of the rank entered, blocking or not: none where it isn't collective, is foreign, or isn't
+    /// known. It is found by halving.
+    pub fn round_of(&self, r: u32, n: u64) -> Option<RoundName>
+        requires { AreOwn 0 self.now }
+        ensures { result ≡ round_of_call (ops_of self.now r) n }
+    {
+        let entered = entered_at(self.of_rank(r), n)?;
+        Some(RoundName {
+            object: entered.comm,
+            k: self.round_number(r, &entered),
+        })
     }
 }

@@ -21,7 +21,7 @@
 //!   which numbers are idle
 //! - [`parts`]: what a send, a receive and a probe wait for; [`collective`]: a collective call;
 //!   [`requests`]: requests
-//! - [`waiting`]: the condition of each rank
+//! - [`waiting`]: the condition of each rank; [`polls`]: what a rank asks for that polls
 //!
 //! Its tests are the runs of `tests/rows/runs.txt`.
 #![tactic(auto)]
@@ -35,6 +35,7 @@ mod mismatch;
 mod overview;
 mod paired;
 mod parts;
+mod polls;
 mod posts;
 mod requests;
 mod round;
@@ -43,6 +44,9 @@ mod tally;
 mod unpaired;
 mod waiting;
 
+pub use entries::{Entries, entries_of};
+pub use polls::Poll;
 pub use round::{Round, Standing};
 pub use tally::rounds;
-pub use waiting::conditions;
+pub use unpaired::ends_asked;
+pub use waiting::{RunConditions, conditions, conditions_with_polls};

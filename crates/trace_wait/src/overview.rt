@@ -9,12 +9,14 @@ ghost use Rattle.trace_wait.specs.Matching.{may_take, unpaired_messages, unpaire
 ghost use Rattle.trace_wait.specs.Parts.{members};
 ghost use Rattle.trace_wait.specs.Patterns.{offers, pattern_of};
 ghost use Rattle.trace_wait.specs.Calls.{counts};
-ghost use Rattle.trace_wait.specs.Collectives.{is_mismatched, round_number};
+ghost use Rattle.trace_wait.specs.Collectives.{is_mismatched, mismatched_part, round_number};
+ghost use Rattle.trace_stuck.specs.Shape.{shape};
 ghost use Rattle.trace_wait.specs.Ranks.{ops_of};
 
 use crate::counts::{CommCalls, row_of};
-use crate::entries::{Entries, count_before};
+use crate::entries::Entries;
 use crate::groups::{Group, shared_members};
+use crate::mismatch::Mismatches;
 use crate::round::Round;
 use crate::unpaired::Pattern;
 use mpi_model::{Layout, Message, Receive};
@@ -24,6 +26,7 @@ use std::marker::Model;
 use std::sync::Arc;
 use trace_ops::{Entered, RankOps};
 use trace_pair::{Ends, PairTable, PairsByReceive, Reaches};
+use trace_stuck::{Condition, RoundName};
 
 /// The whole run, and what was gathered of it to be looked up: its pairs by their receives, which messages are in no pair, which
 /// of them were cancelled, when the receives end that are in no pair, which messages come after which
@@ -40,7 +43,7 @@ pub(crate) struct Overview<'a> {
     pub withdrawn: &'a BTreeSet<Pattern>,
     pub asked: &'a Ends,
     pub reaches: &'a Reaches<'a>,
-    pub mismatched: &'a BTreeSet<(u32, u64)>,
+    pub mismatched: &'a Mismatches<'a>,
     pub calls: &'a [CommCalls],
     pub groups: &'a [Group],
     pub entries: &'a Entries<'a>,
@@ -53,8 +56,7 @@ impl<'a> Model for Overview<'a> {
     ghost use Rattle.trace_wait.specs.Parts.{Run};
     ghost use Rattle.trace_pair.specs.Ends.{AreLast};
     ghost use Rattle.trace_wait.specs.Matching.{free_receives, unpaired_messages};
-    ghost use Rattle.trace_wait.specs.Patterns.{Pattern as Named, pattern_cmp, place_cmp, offers};
-    ghost use Rattle.trace_wait.specs.Collectives.{is_mismatched_at};
+    ghost use Rattle.trace_wait.specs.Patterns.{Pattern as Named, pattern_cmp, offers};
     ghost use Rattle.trace_wait.specs.Calls.{table};
     ghost use Rattle.trace_wait.specs.Groups.{AreGroups};
 
@@ -65,7 +67,7 @@ impl<'a> Model for Overview<'a> {
     ghost invariant = { λ s.
         ((p : Named) → contains pattern_cmp s.offered.now p ≡ list_any (λ m. offers false m p) (unpaired_messages s.ops.now s.pairs.now.pairs))
         × (AreLast (free_receives s.ops.now s.pairs.now.pairs) s.asked.now)
-        × ((c k : ℕ) → contains place_cmp s.mismatched.now (c, k) ≡ list_any (is_mismatched_at c k) s.rounds.now)
+        × (s.mismatched.now ≡ s.rounds.now)
         × (s.calls.now ≡ table s.layout.now.comms s.ops.now s.layout.now.comms)
         × (AreGroups s.layout.now.comms s.groups.now)
         × ((p : Named) → contains pattern_cmp s.withdrawn.now p ≡ list_any (λ m. offers true m p) (unpaired_messages s.ops.now s.pairs.now.pairs))
@@ -152,7 +154,18 @@ impl<'a> Overview<'a> {
     pub fn is_mismatched(&self, comm: u32, k: u64) -> bool
         ensures { result ≡ is_mismatched self.now comm k }
     {
-        self.mismatched.contains(&(comm, k))
+        self.mismatched.has(comm, k)
+    }
+
+    /// What a call in round k of the communicator waits for, which is mismatched.
+    pub fn mismatched_part(&self, comm: u32, k: u64) -> Condition
+        ensures { shape result ≡ mismatched_part self.now comm k }
+    {
+        let first = self.mismatched.first_in_row(comm, k);
+        Condition::mismatched(RoundName {
+            object: comm,
+            k: first,
+        })
     }
 
     /// The number of the round that a call of the rank entered.
@@ -160,6 +173,6 @@ impl<'a> Overview<'a> {
         requires { AreEntered (ops_of self.now.ops r).rounds }
         ensures { result ≡ round_number (ops_of self.now.ops r) entered.now }
     {
-        count_before(self.entries.on(r, entered.comm), entered.call) as u64
+        self.entries.round_number(r, entered)
     }
 }

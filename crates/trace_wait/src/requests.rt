@@ -5,7 +5,7 @@ ghost use Rattle.std.specs.Option.{option_copied};
 ghost use Rattle.std.specs.Ordering.{int_eq};
 ghost use Rattle.indexmap.specs.IndexMap.{get};
 ghost use Rattle.trace_ops.specs.Order.{AreCalledInOrder, AreInOrder, ArePosted};
-ghost use Rattle.trace_stuck.specs.Shape.{shape};
+ghost use Rattle.trace_stuck.specs.Shape.{shape, waits_of, OnAll};
 ghost use Rattle.trace_wait.specs.Ranks.{IsOfRank};
 ghost use Rattle.trace_wait.specs.Requests.{AddsShapes, AreMade, PutsAt, choices, post_part, posted_by, request, requests, some_of, started_part};
 
@@ -278,4 +278,38 @@ pub(crate) fn request(
         Some(name) => post_part(alloc, run, r, o, name),
         None => Ok(Condition::yes()),
     }
+}
+
+/// What all requests of a list wait for.
+pub(crate) fn all_of_list(
+    alloc: Global,
+    run: &Overview,
+    r: u32,
+    o: &RankOps,
+    xs: &[i64],
+) -> Result<Condition, AllocError>
+    requires rank { IsOfRank run.now.ops r o.now }
+    requires sends { AreInOrder o.now.sends }
+    requires receives { ArePosted o.now.receives }
+    requires cancelled { AreCalledInOrder o.now.cancelled }
+    ensures { IfOk result (λ c. shape c ≡ OnAll (waits_of (requests run.now r o.now xs.now))) }
+{
+    Ok(Condition::all(requests(alloc, run, r, o, xs)?))
+}
+
+/// What one request of a list waits for, whichever that is.
+pub(crate) fn some_of_list(
+    alloc: Global,
+    run: &Overview,
+    r: u32,
+    o: &RankOps,
+    xs: &[i64],
+) -> Result<Condition, AllocError>
+    requires rank { IsOfRank run.now.ops r o.now }
+    requires sends { AreInOrder o.now.sends }
+    requires receives { ArePosted o.now.receives }
+    requires cancelled { AreCalledInOrder o.now.cancelled }
+    ensures { IfOk result (λ c. shape c ≡ some_of (choices run.now r o.now xs.now)) }
+{
+    Ok(some_of(choices(alloc, run, r, o, xs)?))
 }

@@ -134,7 +134,7 @@ fn ask_all(
 }
 
 /// When the unpaired receives end that were not cancelled.
-pub(crate) fn ends_asked(
+pub fn ends_asked(
     alloc: Global,
     ops: &[RankOps],
     pairs: &PairsByReceive,

@@ -1,14 +1,14 @@
 //! The condition of each waiting rank.
 
-ghost use Rattle.std.specs.Prelude.{◌≡◌, ◌<◌, ◌^◌, false, is_some, map, length, IfOk};
+ghost use Rattle.std.specs.Prelude.{◌≡◌, ◌<◌, ◌^◌, All, false, is_some, map, length, IfOk};
 ghost use Rattle.std.specs.Option.{option_map};
 ghost use Rattle.trace_ops.specs.Ops.{AreOwn};
 ghost use Rattle.trace_ops.specs.Order.{AreCalledInOrder, AreInOrder, ArePosted};
-ghost use Rattle.trace_stuck.specs.Shape.{shape, waits_of, OnAll};
-ghost use Rattle.trace_wait.specs.Conditions.{both_of_call, condition_of, conditions_from, conditions_of, does_one_wait, waits_for};
+ghost use Rattle.trace_stuck.specs.Shape.{shape};
+ghost use Rattle.trace_wait.specs.Conditions.{both_of_call, condition_of, conditions_from, conditions_of, does_one_wait, run_of, waits_for};
 ghost use Rattle.trace_wait.specs.Parts.{Run};
+ghost use Rattle.trace_wait.specs.Polls.{asked_of};
 ghost use Rattle.trace_wait.specs.Ranks.{IsOfRank};
-ghost use Rattle.trace_wait.specs.Requests.{choices, requests, some_of};
 
 use crate::collective::collective_of_call;
 use crate::counts::all_calls;
@@ -17,7 +17,8 @@ use crate::groups::groups_of;
 use crate::mismatch::mismatched_rounds;
 use crate::overview::Overview;
 use crate::parts::{probe_part, receive_of_call, send_of_call};
-use crate::requests::{choices, request, requests, some_of};
+use crate::polls::{Poll, asked_of_all};
+use crate::requests::{all_of_list, request, some_of_list};
 use crate::round::Round;
 use crate::unpaired::{ends_asked, patterns_offered};
 use mpi_model::{Call, Layout};
@@ -43,40 +44,6 @@ fn both_of_call(
     parts.push(send_of_call(run, r, o, n))?;
     parts.push(receive)?;
     Ok(Condition::all(parts))
-}
-
-/// What all requests of a list wait for.
-fn all_of_list(
-    alloc: Global,
-    run: &Overview,
-    r: u32,
-    o: &RankOps,
-    xs: &[i64],
-) -> Result<Condition, AllocError>
-    requires rank { IsOfRank run.now.ops r o.now }
-    requires sends { AreInOrder o.now.sends }
-    requires receives { ArePosted o.now.receives }
-    requires cancelled { AreCalledInOrder o.now.cancelled }
-    ensures { IfOk result (λ c. shape c ≡ OnAll (waits_of (requests run.now r o.now xs.now))) }
-{
-    Ok(Condition::all(requests(alloc, run, r, o, xs)?))
-}
-
-/// What one request of a list waits for, whichever that is.
-fn some_of_list(
-    alloc: Global,
-    run: &Overview,
-    r: u32,
-    o: &RankOps,
-    xs: &[i64],
-) -> Result<Condition, AllocError>
-    requires rank { IsOfRank run.now.ops r o.now }
-    requires sends { AreInOrder o.now.sends }
-    requires receives { ArePosted o.now.receives }
-    requires cancelled { AreCalledInOrder o.now.cancelled }
-    ensures { IfOk result (λ c. shape c ≡ some_of (choices run.now r o.now xs.now)) }
-{
-    Ok(some_of(choices(alloc, run, r, o, xs)?))
 }
 
 /// What rank r waits for in its call n; the other calls don't wait.
@@ -162,17 +129,29 @@ fn conditions_in(
     Ok(out)
 }
 
-/// The condition of each rank, by what is gathered of the whole run.
+/// The conditions of ranks, and of what they ask for.
+#[derive(Debug, Drop)]
+pub struct RunConditions {
+    /// The condition of each rank, none where it isn't waiting.
+    pub of_ranks: Vec<Option<Condition>>,
+    /// What each poll asks for, in the order in which they were given.
+    pub of_polls: Vec<Condition>,
+}
+
+/// The condition of each rank and what each poll asks for, by what is gathered of the whole run.
 fn conditions_gathered(
     alloc: Global,
     layout: &Layout,
     ops: &[RankOps],
     pairs: &PairTable,
     rounds: &[Round],
-) -> Result<Vec<Option<Condition>>, AllocError>
+    polls: &[Poll],
+) -> Result<RunConditions, AllocError>
     requires few { length ops.now < 2 ^ 32 }
     requires own { AreOwn 0 ops.now }
-    ensures { IfOk result (λ v. map (option_map shape) v.items ≡ conditions_of layout.now ops.now pairs.now.pairs rounds.now) }
+    requires there { All (λ p. p.rank < length ops.now) polls.now }
+    ensures ranks { IfOk result (λ c. map (option_map shape) c.of_ranks.items ≡ conditions_of layout.now ops.now pairs.now.pairs rounds.now) }
+    ensures polls { IfOk result (λ c. map shape c.of_polls.items ≡ map (asked_of (run_of layout.now ops.now pairs.now.pairs rounds.now)) polls.now) }
 {
     let offered = patterns_offered(alloc, false, ops, pairs)?;
     let withdrawn = patterns_offered(alloc, true, ops, pairs)?;
@@ -199,7 +178,9 @@ fn conditions_gathered(
         groups: &groups,
         entries: &entries,
     };
-    conditions_in(alloc, &run, ops)
+    let of_polls = asked_of_all(alloc, &run, ops, polls)?;
+    let of_ranks = conditions_in(alloc, &run, ops)?;
+    Ok(RunConditions { of_ranks, of_polls })
 }
 
 /// Whether the rank waits.
@@ -252,8 +233,38 @@ pub fn conditions(
     ensures { IfOk result (λ v. map (option_map shape) v.items ≡ conditions_of layout.now ops.now pairs.now.pairs rounds.now) }
 {
     if does_one_wait(ops) {
-        return conditions_gathered(alloc, layout, ops, pairs, rounds);
+        let found = conditions_gathered(alloc, layout, ops, pairs, rounds, &[])?;
+        return Ok(found.of_ranks);
     }
     let out = no_conditions(alloc, ops)?;
     Ok(out)
+}
+
+/// The condition of each rank, none where it isn't waiting, and what each of the polls asks for: what the Wait, Waitall,
+/// Waitany, Waitsome or Probe of the same content would wait for in its place. What is looked up is gathered once for
+/// both.
+///
+/// The ops of rank r stand at place r; the pairs and the rounds are those of these ops.
+pub fn conditions_with_polls(
+    alloc: Global,
+    layout: &Layout,
+    ops: &[RankOps],
+    pairs: &PairTable,
+    rounds: &[Round],
+    polls: &[Poll],
+) -> Result<RunConditions, AllocError>
+    requires few { length ops.now < 2 ^ 32 }
+    requires own { AreOwn 0 ops.now }
+    requires there { All (λ p. p.rank < length ops.now) polls.now }
+    ensures ranks { IfOk result (λ c. map (option_map shape) c.of_ranks.items ≡ conditions_of layout.now ops.now pairs.now.pairs rounds.now) }
+    ensures polls { IfOk result (λ c. map shape c.of_polls.items ≡ map (asked_of (run_of layout.now ops.now pairs.now.pairs rounds.now)) polls.now) }
+{
+    if does_one_wait(ops) || !polls.is_empty() {
+        return conditions_gathered(alloc, layout, ops, pairs, rounds, polls);
+    }
+    let of_ranks = no_conditions(alloc, ops)?;
+    Ok(RunConditions {
+        of_ranks,
+        of_polls: Vec::new(alloc),
+    })
 }

@@ -1,6 +1,6 @@
 use Rattle.trace_wait.specs.Collectives.{is_mismatched_at}
 use Rattle.trace_wait.proofs.Fronts.{any_more}
-use Rattle.trace_wait.proofs.mismatch.mismatched_rounds.Goals as goal
+use Rattle.trace_wait.proofs.mismatch.places_of.Goals as goal
 
 pub loop-round-preserved : goal.loop-round-preserved
 loop-round-preserved c = λ r k.
