@@ -26,6 +26,7 @@ use Rattle.comm_makings.specs.declared.left.Giver.{Giver}
 use Rattle.comm_makings.specs.declared.state.HandleState.{HandleState}
 use Rattle.comm_makings.specs.declared.state.HandleState.TheVariants as standings
 use Rattle.comm_makings.specs.declared.state.Made.{Made}
+use Rattle.comm_makings.specs.declared.state.Progress.{Progress}
 use Rattle.comm_makings.specs.declared.uses.HandleUses.{HandleUses}
 use Rattle.comm_makings.specs.declared.view.RankView.{RankView}
 use Rattle.comm_makings.proofs.Places.{numbers_joined, numbers_next}
@@ -99,10 +100,10 @@ module _ (ranks : List RankCalls) (views : List RankView) (uses : List HandleUse
         by_standing rank at handle call giver meant called gave means given (standing_at stand rank handle) refl;
   }
 
-pub derives : (ranks : List RankCalls) (views : List RankView) (uses : List HandleUses) (made : List Made) (stand : List (Vec HandleState Global)) (values : List (Vec GroupValue Global)) (derived : Derived)
-    → derived.world ≡ world_of ranks → AreViews (world_of ranks) ranks views → IsRight ranks views stand values made → AreCounted ranks views uses
+pub derives : (ranks : List RankCalls) (views : List RankView) (uses : List HandleUses) (made : List Made) (stand : List (Vec HandleState Global)) (values : List (Vec GroupValue Global)) (next : List Progress) (derived : Derived)
+    → derived.world ≡ world_of ranks → AreViews (world_of ranks) ranks views → IsRight ranks views stand values made next → AreCounted ranks views uses
     → IsWritten (world_of ranks) (length ranks) views uses made derived.comms.items → derived.left_out.items ≡ left_out_of ranks views uses stand → IsDerivedFrom ranks derived
-derives ranks views uses made stand values derived world read right counted written left = record {
+derives ranks views uses made stand values next derived world read right counted written left = record {
   views = views;
   uses = uses;
   made = made;

@@ -43,7 +43,8 @@ pub record AreAccounted (ranks : List RankCalls) (views : List RankView) (uses :
 -- calls of the profile name are written, behind the world, and all else that calls give is left out.
 --
 -- `Derives` asks for less than a communicator needs, in these points:
--- * A making counts where its own calls agree, whether or not the parent's makings before it do.
+-- * A making of which nothing is made counts as read where its calls have one function and what they give can be read,
+--   whether or not their parameters agree.
 -- * The groups that the calls of one MPI_Comm_create name need not be equal or disjoint.
 -- * One MPI_Comm_create_group may be made of any calls of the members with its group and tag, not of the k-th of each.
 -- * A communicator that may be ordered anew can come without dimensions or nodes though all calls, or some, tell them.

@@ -13,6 +13,7 @@ pub mod Written
 pub mod Naming
 pub mod Views
 pub mod Makes
+pub mod Untold
 pub mod Derives
 pub mod Offers
 pub mod State

@@ -2,7 +2,7 @@
 
 ghost use Rattle.std.specs.Prelude.{◌≡◌, ◌≢◌, ◌<◌, ◌^◌, IfErr, IfOk, None, OnOk, Some, length};
 ghost use Rattle.comm_makings.specs.Derived.{IsDerivedFrom};
-ghost use Rattle.comm_makings.specs.State.{IsRight};
+ghost use Rattle.comm_makings.specs.State.{IsRun};
 ghost use Rattle.comm_makings.specs.Views.{AreViews};
 ghost use Rattle.comm_makings.specs.World.{first_told, other_told, world_fault, world_of};
 ghost use Rattle.comm_makings.specs.declared.answer.DeriveFault.TheVariants.{Memory};
@@ -87,7 +87,7 @@ fn answer_of(
     requires few { length ranks.now < 2 ^ 32 }
     requires world { world ≡ world_of ranks.now }
     requires views { AreViews world ranks.now views.now }
-    requires right { IsRight ranks.now views.now run.now.standings.items run.now.values.items run.now.comms.items }
+    requires right { IsRun ranks.now views.now run.now }
     ensures { IfOk result (IsDerivedFrom ranks.now) }
 {
     let uses = uses_of_all(alloc, ranks, views)?;

@@ -18,6 +18,15 @@ pub(crate) enum HandleState {
     Left(Why),
 }
 
+/// How far the makings of a communicator are read.
+#[derive(Clone, Copy)]
+pub(crate) enum Progress {
+    /// This is the first that isn't read.
+    At(usize),
+    /// Nothing more is made.
+    Over,
+}
+
 /// The place of a communicator in a layout: the world first, then MPI_COMM_SELF by rank, then by the making call of the
 /// smallest member whose text has it, and then by that member.
 #[derive(Clone, Copy, PartialEq, Eq, PartialOrd, Ord)]
