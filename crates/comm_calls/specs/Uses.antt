@@ -4,9 +4,11 @@ use Rattle.std.specs.Prelude.{◌≡◌, ◌≢◌, ◌<◌, ◌≤◌, ℕ, ◌
 use Rattle.std.specs.List.{range_with_len}
 use Rattle.std.specs.Option.{option_and_then}
 use Rattle.indexmap.specs.IndexMap.{get}
-use Rattle.mpi_model.specs.Calls.{comm_of}
+use Rattle.mpi_model.specs.Calls.{comm_of, object_of}
 use Rattle.mpi_model.specs.declared.call.Call.{Call}
 use Rattle.mpi_model.specs.declared.envelope.CommRef.{CommRef}
+use Rattle.mpi_model.specs.declared.object.Object.{Object}
+use Rattle.mpi_model.specs.declared.object.Object.TheVariants as objects
 use Rattle.mpi_model.specs.declared.envelope.CommRef.TheVariants as comms
 use Rattle.dumpi_text.specs.Call.{TextCall}
 use Rattle.dumpi_calls.specs.Rows.{typed}
@@ -32,9 +34,15 @@ abbrev pub number_of : CommRef → Option ℕ
 number_of comms.World = None
 number_of (comms.Id number) = Some number
 
--- the number by which a call of the profile names a communicator
+-- what names an object of this sort, where it is a communicator
+abbrev pub of_communicator : Object → Option CommRef → Option CommRef
+of_communicator objects.Communicator named = named
+of_communicator objects.Window named = None
+of_communicator objects.File named = None
+
+-- The number by which a call of the profile names a communicator: windows and files have numbers of their own.
 abbrev pub named_number : Call → Option ℕ
-named_number call = option_and_then number_of (comm_of call)
+named_number call = option_and_then number_of (of_communicator (object_of call) (comm_of call))
 
 -- the number that a call names; one on communicators is none of the profile
 abbrev pub named_by : TextCall → Call → Option ℕ

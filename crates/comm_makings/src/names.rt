@@ -313,7 +313,7 @@ impl Names {
             Action::Free { comm } => {
                 let meant = naming(self.comm(*comm), Gives::Nothing);
                 if let Some(number) = *comm {
-                    self.end(number, call.call);
+                    self.end(number, call.call.saturating_add(1));
                 }
                 Ok(meant)
             },
