@@ -1,14 +1,14 @@
 //! Which calls of the profile name which handles of a rank.
 
-ghost use Rattle.std.specs.Prelude.{◌≡◌, ◌≤◌, ◌==◌, ◌&&◌, ◌+◌, ◌-◌, ◌^◌, ℕ, IfOk, cond, false, is_some, length, map, min, nat_eq, not, true, unwrap_or};
+ghost use Rattle.std.specs.Prelude.{◌≡◌, ◌≤◌, ◌==◌, ◌&&◌, ◌++◌, ◌+◌, ◌-◌, ◌^◌, ℕ, IfOk, OnOk, cond, false, is_some, length, map, min, nat_eq, not, true, unwrap_or};
 ghost use Rattle.std.specs.List.Sorted.{IsPartitionPoint, IsPartitionedBy};
 ghost use Rattle.indexmap.specs.IndexMap.{get};
 ghost use Rattle.mpi_model.specs.Names.{holds};
 ghost use Rattle.comm_makings.specs.Each.{EachBecomes, EachIs};
-ghost use Rattle.comm_makings.specs.Uses.{AreCounted, AreHeld, AreOrdered, IsCounted, IsHolderOf, IsLatestOf, count_at, count_of, holds_all, is_at, is_stray, numbered, places_from, precedes, stands_alone};
+ghost use Rattle.comm_makings.specs.Uses.{AreCounted, AreHeld, AreOrdered, IsCounted, IsHolderOf, IsLatestOf, call_use, call_use_at, count_at, count_of, held_calls, holds_all, is_at, is_stray, number_on, numbered, places_from, precedes, stands_alone};
 
-use crate::calls::{RankCalls, Uses};
-use crate::handle::Handle;
+use crate::calls::{Action, CommCall, Making, RankCalls, Uses};
+use crate::handle::{Handle, Meant};
 use crate::view::RankView;
 use indexmap::IndexMap;
 use std::alloc::{AllocError, Global};
@@ -135,6 +135,72 @@ fn held_by(alloc: Global, handles: &[Handle], uses: &[Uses]) -> Result<Vec<HeldU
     Ok(held)
 }
 
+/// The number of the communicator that a call names of which all members make it: those of MPI_Comm_create_group are of a
+/// group alone.
+fn number_on(action: &Action) -> Option<u32>
+    ensures { result ≡ number_on action.now }
+{
+    match action {
+        Action::Make { parent, making, .. } => match making {
+            Making::CreateGroup { .. } => None,
+            Making::Dup
+            | Making::DupWithInfo
+            | Making::Idup
+            | Making::IdupWithInfo
+            | Making::Split { .. }
+            | Making::Create { .. }
+            | Making::CartCreate { .. }
+            | Making::CartSub { .. }
+            | Making::GraphCreate { .. }
+            | Making::DistGraphCreate { .. }
+            | Making::DistGraphCreateAdjacent { .. } => *parent,
+        },
+        Action::Free { comm } => *comm,
+        Action::CommRank { .. } | Action::Group { .. } | Action::GivesComm { .. } => None,
+    }
+}
+
+/// A call on communicators as a use of the handle that it means.
+fn call_use(call: &CommCall, meant: Meant) -> Option<HeldUses>
+    ensures { result ≡ call_use call.now meant }
+{
+    let number = number_on(&call.action)?;
+    Some(HeldUses {
+        uses: Uses {
+            number,
+            first: call.call,
+            last: call.call,
+            count: 1,
+        },
+        holder: meant.comm,
+    })
+}
+
+/// The same of the call at a place.
+fn call_use_at(calls: &[CommCall], meant: &[Meant], at: usize) -> Option<HeldUses>
+    ensures { result ≡ call_use_at calls.now meant.now at }
+{
+    let call = calls.get(at)?;
+    let meant = meant.get(at).copied()?;
+    call_use(call, meant)
+}
+
+/// Adds the uses of handles by the calls on communicators.
+fn add_calls(
+    calls: &[CommCall],
+    meant: &[Meant],
+    held: &mut Vec<HeldUses>,
+) -> Result<(), AllocError>
+    ensures { OnOk result (held.new.items ≡ held.old.items ++ held_calls calls.now meant.now) }
+{
+    for at in 0..calls.len() {
+        if let Some(group) = call_use_at(calls, meant, at) {
+            held.push(group)?;
+        }
+    }
+    Ok(())
+}
+
 /// So many more calls name the handle at this place.
 fn add_at(counts: &mut Vec<u64>, at: usize, more: u64)
     ensures counts { EachBecomes counts.old.items counts.new.items (λ k before. cond (at == k) (min (before + more) (2 ^ 64 - 1)) before) }
@@ -212,16 +278,18 @@ fn only_of(alloc: Global, handles: &[Handle], held: &[HeldUses]) -> Result<Vec<b
     Ok(only)
 }
 
-/// What the calls of the profile name.
+/// What the calls of a rank name: those of the profile, and those on communicators.
 #[tactic(auto, using(crate::proofs::Holders::counted))]
 pub(crate) fn uses_of(
     alloc: Global,
-    handles: &[Handle],
-    uses: &[Uses],
+    view: &RankView,
+    calls: &RankCalls,
 ) -> Result<HandleUses, AllocError>
-    ensures { IfOk result (IsCounted handles.now uses.now) }
+    ensures { IfOk result (IsCounted view.now.handles.items calls.now.uses.items (held_calls calls.now.calls.items view.now.meant.items)) }
 {
-    let held = held_by(alloc, handles, uses)?;
+    let handles = &view.handles;
+    let mut held = held_by(alloc, handles, &calls.uses)?;
+    add_calls(&calls.calls, &view.meant, &mut held)?;
     Ok(HandleUses {
         counts: counts_of(alloc, handles.len(), &held)?,
         only: only_of(alloc, handles, &held)?,
@@ -240,8 +308,7 @@ pub(crate) fn uses_of_all(
 {
     let mut all = Vec::new(alloc);
     for (at, rank) in ranks.iter().enumerate() {
-        let view = &views[at];
-        all.push(uses_of(alloc, &view.handles, &rank.uses)?)?;
+        all.push(uses_of(alloc, &views[at], rank)?)?;
     }
     Ok(all)
 }

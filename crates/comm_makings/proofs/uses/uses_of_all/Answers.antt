@@ -8,4 +8,4 @@ loop-at-preserved c =
     rw c.in_ok-push.ensures.items
     (counted_more c.args.ranks.now c.args.views.now c.loop-at.all.items c.loop-at.at c.index-ranks-at.result c.index-views-at.result c.in_ok-uses_of.field-0 c.loop-at.invariant
     (slice_get-get_or c.args.ranks.now c.loop-at.at c.index-ranks-at.result c.loop-at-test.true ∙ ap Some (sym c.index-ranks-at.is))
-    (slice_get-get_or c.args.views.now c.loop-at.at c.index-views-at.result (omega arith) ∙ ap Some (sym c.index-views-at.is)) (rw c.deref.ensures.value at (rw c.deref-in-loop-at.ensures.value at c.in_ok-uses_of.ensures)))
+    (slice_get-get_or c.args.views.now c.loop-at.at c.index-views-at.result (omega arith) ∙ ap Some (sym c.index-views-at.is)) c.in_ok-uses_of.ensures)
