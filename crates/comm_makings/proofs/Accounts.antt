@@ -5,7 +5,8 @@ use Rattle.std.specs.declared.alloc.Global.{Global}
 use Rattle.std.proofs.lemmas.Bool.{cases_lt}
 use Rattle.std.proofs.lemmas.List.Elements.{Contains-append_left, Contains-append_right, Contains-push, filter_map-append}
 use Rattle.std.proofs.lemmas.Option.{slice_get_within}
-use Rattle.comm_makings.specs.Derived.{AreAccounted, IsDerivedFrom, IsLeftOut, IsOfMade}
+use Rattle.mpi_model.specs.Communicators.{Communicator}
+use Rattle.comm_makings.specs.Derived.{AreAccounted, IsDerivedFrom, IsLeftOut, IsOfMade, IsSound}
 use Rattle.comm_makings.specs.Here.{call_at, meant_at}
 use Rattle.comm_makings.specs.Left.{calls_in, giving, is_known_to, left_at, left_by, left_in, left_of, left_out_of, left_with, standing_given, why_left, why_of, why_open, with_handle}
 use Rattle.comm_makings.specs.State.{AreMembers, IsMemberOf, IsRight, standing_at}
@@ -116,4 +117,17 @@ derives ranks views uses made stand values next derived world read right counted
   written = written;
   left_out = left;
   accounted = subst (AreAccounted ranks views uses made) (sym left) (accounted ranks views uses made stand right.handles_named);
+}
+
+pub sounds : (ranks : List RankCalls) (views : List RankView) (uses : List HandleUses) (made : List Made) (stand : List (Vec HandleState Global)) (values : List (Vec GroupValue Global)) (next : List Progress) (comms : List Communicator)
+    → AreViews (world_of ranks) ranks views → IsRight ranks views stand values made next → AreCounted ranks views uses
+    → IsWritten (world_of ranks) (length ranks) views uses made comms → IsSound (world_of ranks) ranks comms
+sounds ranks views uses made stand values next comms read right counted written = record {
+  views = views;
+  uses = uses;
+  made = made;
+  read = read;
+  counted = counted;
+  derive = right.comms_derive;
+  written = written;
 }

@@ -2,6 +2,7 @@
 use Rattle.std.specs.Prelude.{◌≡◌, ◌⊎◌, ℕ, List, Some, Vec, length}
 use Rattle.std.specs.List.{Contains}
 use Rattle.std.specs.declared.alloc.Global.{Global}
+use Rattle.mpi_model.specs.Communicators.{Communicator}
 use Rattle.comm_makings.specs.Here.{call_at, meant_at}
 use Rattle.comm_makings.specs.Left.{giving, left_out_of}
 use Rattle.comm_makings.specs.State.{AreDerived, AreMembers, IsMemberOf}
@@ -61,3 +62,13 @@ pub record IsDerivedFrom (ranks : List RankCalls) (derived : Derived) : Type 0 w
   pub written : IsWritten (world_of ranks) (length ranks) views uses made derived.comms.items
   pub left_out : derived.left_out.items ≡ left_out_of ranks views uses standings
   pub accounted : AreAccounted ranks views uses made derived.left_out.items
+
+-- The part of it that says of communicators that they are written as they derive.
+pub record IsSound (world : ℕ) (ranks : List RankCalls) (comms : List Communicator) : Type 0 where
+  pub views : List RankView
+  pub uses : List HandleUses
+  pub made : List Made
+  pub read : AreViews world ranks views
+  pub counted : AreCounted ranks views uses
+  pub derive : AreDerived ranks views made
+  pub written : IsWritten world (length ranks) views uses made comms

@@ -1,7 +1,7 @@
 //! From what the ranks called to their communicators.
 
 ghost use Rattle.std.specs.Prelude.{◌≡◌, ◌≢◌, ◌<◌, ◌^◌, IfErr, IfOk, None, OnOk, Some, length};
-ghost use Rattle.comm_makings.specs.Derived.{IsDerivedFrom};
+ghost use Rattle.comm_makings.specs.Derived.{IsDerivedFrom, IsSound};
 ghost use Rattle.comm_makings.specs.State.{IsRun};
 ghost use Rattle.comm_makings.specs.Views.{AreViews};
 ghost use Rattle.comm_makings.specs.World.{first_told, other_told, world_fault, world_of};
@@ -76,7 +76,7 @@ fn world_of(ranks: &[RankCalls]) -> Result<u32, DeriveFault>
 }
 
 /// What derives as a layout has it, and what is left out.
-#[tactic(auto, using(crate::proofs::Accounts::derives))]
+#[tactic(auto, using(crate::proofs::Accounts::derives, crate::proofs::Accounts::sounds))]
 fn answer_of(
     alloc: Global,
     world: u32,
@@ -88,7 +88,8 @@ fn answer_of(
     requires world { world ≡ world_of ranks.now }
     requires views { AreViews world ranks.now views.now }
     requires right { IsRun ranks.now views.now run.now }
-    ensures { IfOk result (IsDerivedFrom ranks.now) }
+    ensures derived { IfOk result (IsDerivedFrom ranks.now) }
+    ensures sound { IfOk result (λ d. IsSound (world_of ranks.now) ranks.now d.comms.items) }
 {
     let uses = uses_of_all(alloc, ranks, views)?;
     let left_out = left_out(alloc, ranks, views, &uses, &run.standings)?;
@@ -109,6 +110,7 @@ pub fn derive(alloc: Global, ranks: &[RankCalls]) -> Result<Derived, DeriveFault
     ensures none { OnOk result (world_fault ranks.now ≡ None) }
     ensures fault { IfErr result (λ e. e ≢ Memory → world_fault ranks.now ≡ Some e) }
     ensures derived { IfOk result (IsDerivedFrom ranks.now) }
+    ensures sound { IfOk result (λ d. IsSound (world_of ranks.now) ranks.now d.comms.items) }
 {
     let world = world_of(ranks)?;
     let views = views_of(alloc, world, ranks)?;
