@@ -1,31 +1,19 @@
-//! Which calls of the profile name which communicators by their numbers.
+//! Which calls of the profile name which communicators, windows and files by their numbers.
 
 ghost use Rattle.std.specs.Prelude.{◌≡◌, ◌++◌, ◌∷◌, [], None, OnErr, OnOk, slice_get};
-ghost use Rattle.comm_calls.specs.Uses.{AreGoing, first_use, going_in, longer_at, named_number, next_in, number_of, of_communicator, open_after, open_with, uses_after};
+ghost use Rattle.comm_calls.specs.Uses.{AreGoing, first_use, going_in, longer_at, named_number, next_in, number_of, open_after, open_with, uses_after};
 
 use comm_makings::Uses;
 use dumpi_calls::Memory;
 use indexmap::IndexMap;
-use mpi_model::{Call, CommRef, Object};
+use mpi_model::{Call, CommRef};
 use std::alloc::Global;
 
-/// What names an object of this sort, where it is a communicator.
-fn of_communicator(object: Object, named: Option<CommRef>) -> Option<CommRef>
-    ensures { result ≡ of_communicator object named }
-{
-    match object {
-        Object::Communicator => named,
-        Object::Window => None,
-        Object::File => None,
-    }
-}
-
-/// The number of the communicator that a call names: MPI_COMM_WORLD is named by none, and windows and files have numbers of
-/// their own.
+/// The number by which a call names its communicator, window or file: MPI_COMM_WORLD is named by none.
 pub(crate) fn named_number(call: &Call) -> Option<u32>
     ensures { result ≡ named_number call.now }
 {
-    match of_communicator(call.object(), call.comm()) {
+    match call.comm() {
         Some(CommRef::Id(number)) => Some(number),
         Some(CommRef::World) | None => None,
     }

@@ -1,6 +1,8 @@
 pub mod Each
 pub mod Selection
 pub mod Here
+pub mod Objects
+pub mod ObjectMakings
 pub mod Parts
 pub mod Splits
 pub mod World

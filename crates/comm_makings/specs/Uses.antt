@@ -5,7 +5,11 @@ use Rattle.std.specs.List.{filter_map, list_any, range_with_len, slice_get, sum_
 use Rattle.std.specs.Option.{option_and_then, option_map}
 use Rattle.mpi_model.specs.Names.{holds}
 use Rattle.mpi_model.specs.declared.layout.comm.Stretch.{Stretch}
+use Rattle.mpi_model.specs.declared.object.Object.{Object}
+use Rattle.mpi_model.specs.declared.object.Object.TheVariants as objects
 use Rattle.comm_makings.specs.Each.{EachIs}
+use Rattle.comm_makings.specs.ObjectMakings.{view_by}
+use Rattle.comm_makings.specs.Objects.{end_uses}
 use Rattle.comm_makings.specs.declared.calls.Action.{Action}
 use Rattle.comm_makings.specs.declared.calls.Action.TheVariants as actions
 use Rattle.comm_makings.specs.declared.calls.CommCall.{CommCall}
@@ -14,6 +18,7 @@ use Rattle.comm_makings.specs.declared.calls.Making.TheVariants as makings
 use Rattle.comm_makings.specs.declared.calls.RankCalls.{RankCalls}
 use Rattle.comm_makings.specs.declared.calls.Uses.{Uses}
 use Rattle.comm_makings.specs.declared.handle.Meant.{Meant}
+use Rattle.comm_makings.specs.declared.uses.AllUses.{AllUses}
 use Rattle.comm_makings.specs.declared.uses.HandleUses.{HandleUses}
 use Rattle.comm_makings.specs.declared.uses.HeldUses.{HeldUses}
 use Rattle.comm_makings.specs.declared.uses.Place.{Place}
@@ -60,11 +65,14 @@ pub record AreHeld (handles : List Stretch) (uses : List Uses) (held : List Held
   pub same : map (λ g. g.uses) held ≡ uses
   pub each : All (λ g. IsHolderOf handles g.uses g.holder) held
 
--- the number of the communicator that a call names of which all members make it (MPI 4.0, 7.4): they make others, or free it
+-- the number of the communicator that a call names of which all members make it: they make other communicators, windows or
+-- files of it, or free it (MPI 4.0, 7.4, 11.8 to 11.10, 12.2 and 14.2.1)
 abbrev pub number_on : Action → Option ℕ
 number_on (actions.Make parent (makings.CreateGroup group tag) given) = None
 number_on (actions.Make parent making given) = parent
 number_on (actions.Free comm) = comm
+number_on (actions.GivesComm comm given) = comm
+number_on (actions.MakeObject maker parent given) = parent
 number_on _ = None
 
 -- such a call as a use of the handle that it means
@@ -140,6 +148,30 @@ pub record AreCounted (ranks : List RankCalls) (views : List RankView) (uses : L
   pub same : length uses ≡ length ranks
   pub each : (rank : ℕ) (counted : HandleUses) (calls : RankCalls) (view : RankView) → slice_get uses rank ≡ Some counted → slice_get ranks rank ≡ Some calls
       → slice_get views rank ≡ Some view → IsCounted view.handles.items calls.uses.items (held_calls calls.calls.items view.meant.items) counted
+
+-- where the calls of the profile but for those that end them name which numbers of objects of this sort
+abbrev pub profile_uses : Object → RankCalls → List Uses
+profile_uses objects.Communicator calls = calls.uses.items
+profile_uses objects.Window calls = calls.windows.items
+profile_uses objects.File calls = calls.files.items
+
+-- What the calls of each rank say of its windows, or of its files: those that end one name it too.
+pub record AreObjectsCounted (object : Object) (ranks : List RankCalls) (views : List RankView) (uses : List HandleUses) : Type 0 where
+  pub same : length uses ≡ length ranks
+  pub each : (rank : ℕ) (counted : HandleUses) (calls : RankCalls) (view : RankView) → slice_get uses rank ≡ Some counted → slice_get ranks rank ≡ Some calls
+      → slice_get views rank ≡ Some view → IsCounted (view_by view object).handles.items (profile_uses object calls ++ end_uses object calls.calls.items) [] counted
+
+-- What the calls of all ranks say of the handles of each sort.
+pub record AreAllCounted (ranks : List RankCalls) (views : List RankView) (uses : AllUses) : Type 0 where
+  pub comms : AreCounted ranks views uses.comms.items
+  pub windows : AreObjectsCounted objects.Window ranks views uses.windows.items
+  pub files : AreObjectsCounted objects.File ranks views uses.files.items
+
+-- what they say of those of one sort
+abbrev pub uses_by : AllUses → Object → List HandleUses
+uses_by uses objects.Communicator = uses.comms.items
+uses_by uses objects.Window = uses.windows.items
+uses_by uses objects.File = uses.files.items
 
 -- how many calls of the profile name a handle of a rank
 abbrev pub count_at : List HandleUses → ℕ → Option ℕ → ℕ

@@ -10,10 +10,11 @@ ghost use Rattle.comm_makings.specs.declared.answer.DeriveFault.TheVariants.{Mem
 use crate::answer::{DeriveFault, Derived};
 use crate::calls::RankCalls;
 use crate::left::left_out;
+use crate::objects::objects_of;
 use crate::run::{Run, run_of};
-use crate::uses::uses_of_all;
+use crate::uses::all_uses;
 use crate::view::{RankView, views_of};
-use crate::written::written;
+use crate::written::{AllMade, written};
 use std::alloc::{AllocError, Global};
 
 impl From<AllocError> for DeriveFault {
@@ -91,9 +92,14 @@ fn answer_of(
     ensures derived { IfOk result (IsDerivedFrom ranks.now) }
     ensures sound { IfOk result (λ d. IsSound (world_of ranks.now) ranks.now d.comms.items) }
 {
-    let uses = uses_of_all(alloc, ranks, views)?;
-    let left_out = left_out(alloc, ranks, views, &uses, &run.standings)?;
-    let comms = written(alloc, world, ranks.len() as u32, views, &uses, &run.comms)?;
+    let uses = all_uses(alloc, ranks, views)?;
+    let left_out = left_out(alloc, ranks, views, &uses.comms, &run.standings)?;
+    let objects = objects_of(alloc, ranks, views, &run.comms)?;
+    let all = AllMade {
+        comms: &run.comms,
+        objects: &objects,
+    };
+    let comms = written(alloc, world, ranks.len() as u32, views, &uses, all)?;
     Ok(Derived {
         world,
         comms,
@@ -101,8 +107,8 @@ fn answer_of(
     })
 }
 
-/// The communicators that the calls of the ranks make: the world, and those that calls of the profile name, as a layout
-/// has them. Time and memory grow with the calls on communicators and groups and the members of what they make, not with
+/// The communicators, windows and files that the calls of the ranks make: the world, and those that calls of the profile name,
+/// as a layout has them. Time and memory grow with the calls on communicators and groups and the members of what they make, not with
 /// all calls.
 pub fn derive(alloc: Global, ranks: &[RankCalls]) -> Result<Derived, DeriveFault>
     requires { length ranks.now < 2 ^ 32 }

@@ -68,7 +68,9 @@ pub(crate) fn making_of(action: &Action) -> Option<&Making>
         Action::CommRank { .. }
         | Action::Free { .. }
         | Action::Group { .. }
-        | Action::GivesComm { .. } => None,
+        | Action::GivesComm { .. }
+        | Action::MakeObject { .. }
+        | Action::EndObject { .. } => None,
     }
 }
 

@@ -318,10 +318,13 @@ impl Names {
                 Ok(meant)
             },
             Action::Group { group, given } => self.grouped(call, at, group, *given),
-            Action::GivesComm { given } => {
+            Action::GivesComm { comm, given } => {
+                let comm = self.comm(*comm);
                 let gives = self.give(call, *given)?;
-                Ok(naming(None, gives))
+                Ok(naming(comm, gives))
             },
+            Action::MakeObject { parent, .. } => { Ok(naming(self.comm(*parent), Gives::Nothing)) },
+            Action::EndObject { .. } => Ok(naming(None, Gives::Nothing)),
         }
     }
 }

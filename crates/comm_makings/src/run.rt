@@ -21,6 +21,7 @@ use crate::part::Part;
 use crate::parts::Outcome;
 use crate::state::{HandleState, Made, Member, Order, Progress, comm_at, dims_of};
 use crate::view::RankView;
+use mpi_model::Object;
 use std::alloc::{AllocError, Global};
 
 /// What is derived so far.
@@ -223,6 +224,7 @@ pub(crate) fn made_of(
 {
     let chosen = members_at(alloc, members, all, &part.places)?;
     Ok(Made {
+        object: Object::Communicator,
         ranks: ranks_of(alloc, &chosen)?,
         members: chosen,
         dims: dims_of(alloc, &part.dims)?,
@@ -279,7 +281,9 @@ fn group_call_at(ranks: &[RankCalls], rank: usize, at: usize) -> Option<&GroupCa
         Action::Make { .. }
         | Action::CommRank { .. }
         | Action::Free { .. }
-        | Action::GivesComm { .. } => None,
+        | Action::GivesComm { .. }
+        | Action::MakeObject { .. }
+        | Action::EndObject { .. } => None,
     }
 }
 
@@ -814,6 +818,7 @@ fn world_of(alloc: Global, ranks: u32) -> Result<Made, AllocError>
 {
     let members = world_members(alloc, ranks)?;
     Ok(Made {
+        object: Object::Communicator,
         ranks: ranks_of(alloc, &members)?,
         members,
         dims: None,
@@ -830,6 +835,7 @@ fn own_of(alloc: Global, rank: u32) -> Result<Made, AllocError>
     ensures { IfOk result (IsFirstComm (member_with 1 rank ∷ []) (own_order rank)) }
 {
     Ok(Made {
+        object: Object::Communicator,
         members: vec![in alloc;
             Member {
                 rank,

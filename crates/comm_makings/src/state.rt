@@ -6,6 +6,7 @@ ghost use Rattle.std.specs.Option.{option_copied};
 ghost use Rattle.comm_makings.specs.Each.{list_in};
 
 use crate::answer::Why;
+use mpi_model::Object;
 use std::alloc::{AllocError, Global};
 
 /// How a handle of a rank stands.
@@ -41,13 +42,14 @@ pub(crate) struct Order {
 pub(crate) struct Member {
     /// Its rank in the run.
     pub rank: u32,
-    /// The handle by which it names the communicator, where its text does.
+    /// The handle by which it names the communicator, where its text does; of a window or a file it is one of that sort.
     pub handle: Option<usize>,
 }
 
-/// A derived communicator.
+/// A derived communicator, or a window or a file of one.
 #[derive(Drop)]
 pub(crate) struct Made {
+    pub object: Object,
     /// In the order of their ranks in it.
     pub members: Vec<Member>,
     /// Their ranks in the run.

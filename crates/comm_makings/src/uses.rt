@@ -1,16 +1,21 @@
 //! Which calls of the profile name which handles of a rank.
 
-ghost use Rattle.std.specs.Prelude.{◌≡◌, ◌≤◌, ◌==◌, ◌&&◌, ◌++◌, ◌+◌, ◌-◌, ◌^◌, ℕ, IfOk, OnOk, cond, false, is_some, length, map, min, nat_eq, not, true, unwrap_or};
+ghost use Rattle.std.specs.Prelude.{[], ◌≡◌, ◌≤◌, ◌==◌, ◌&&◌, ◌++◌, ◌+◌, ◌-◌, ◌^◌, ℕ, IfOk, OnOk, cond, false, is_some, length, map, min, nat_eq, not, true, unwrap_or};
 ghost use Rattle.std.specs.List.Sorted.{IsPartitionPoint, IsPartitionedBy};
 ghost use Rattle.indexmap.specs.IndexMap.{get};
 ghost use Rattle.mpi_model.specs.Names.{holds};
 ghost use Rattle.comm_makings.specs.Each.{EachBecomes, EachIs};
-ghost use Rattle.comm_makings.specs.Uses.{AreCounted, AreHeld, AreOrdered, IsCounted, IsHolderOf, IsLatestOf, call_use, call_use_at, count_at, count_of, held_calls, holds_all, is_at, is_stray, number_on, numbered, places_from, precedes, stands_alone};
+ghost use Rattle.comm_makings.specs.ObjectMakings.{view_by};
+ghost use Rattle.comm_makings.specs.Objects.{end_uses};
+ghost use Rattle.comm_makings.specs.Uses.{AreAllCounted, AreCounted, AreObjectsCounted, profile_uses, uses_by, AreHeld, AreOrdered, IsCounted, IsHolderOf, IsLatestOf, call_use, call_use_at, count_at, count_of, held_calls, holds_all, is_at, is_stray, number_on, numbered, places_from, precedes, stands_alone};
 
 use crate::calls::{Action, CommCall, Making, RankCalls, Uses};
 use crate::handle::{Handle, Meant};
+use crate::object_view::end_uses;
+use crate::objects::view_by;
 use crate::view::RankView;
 use indexmap::IndexMap;
+use mpi_model::Object;
 use std::alloc::{AllocError, Global};
 
 /// What the calls of the profile say of a rank's handles.
@@ -20,6 +25,14 @@ pub(crate) struct HandleUses {
     pub counts: Vec<u64>,
     /// Of each handle, whether its number names nothing else of the rank.
     pub only: Vec<bool>,
+}
+
+/// What the calls of the profile say of the handles of all ranks.
+#[derive(Drop)]
+pub(crate) struct AllUses {
+    pub comms: Vec<HandleUses>,
+    pub windows: Vec<HandleUses>,
+    pub files: Vec<HandleUses>,
 }
 
 /// A handle in the order of its number and its first call.
@@ -135,8 +148,8 @@ fn held_by(alloc: Global, handles: &[Handle], uses: &[Uses]) -> Result<Vec<HeldU
     Ok(held)
 }
 
-/// The number of the communicator that a call names of which all members make it: those of MPI_Comm_create_group are of a
-/// group alone.
+/// The number of the communicator that a call names of which all members make it (MPI 4.0, 7.4, 11.8 to 11.10, 12.2 and
+/// 14.2.1): those of MPI_Comm_create_group are of a group alone.
 fn number_on(action: &Action) -> Option<u32>
     ensures { result ≡ number_on action.now }
 {
@@ -156,7 +169,9 @@ fn number_on(action: &Action) -> Option<u32>
             | Making::DistGraphCreateAdjacent { .. } => *parent,
         },
         Action::Free { comm } => *comm,
-        Action::CommRank { .. } | Action::Group { .. } | Action::GivesComm { .. } => None,
+        Action::GivesComm { comm, .. } => *comm,
+        Action::MakeObject { parent, .. } => *parent,
+        Action::CommRank { .. } | Action::Group { .. } | Action::EndObject { .. } => None,
     }
 }
 
@@ -296,9 +311,96 @@ pub(crate) fn uses_of(
     })
 }
 
+/// Where the calls of the profile name which numbers of windows, or of files, but for those that end them.
+fn profile_uses(calls: &RankCalls, object: Object) -> &[Uses]
+    ensures { result.now ≡ profile_uses object calls.now }
+{
+    match object {
+        Object::Communicator => &calls.uses,
+        Object::Window => &calls.windows,
+        Object::File => &calls.files,
+    }
+}
+
+/// All calls that name windows, or files.
+fn object_uses(alloc: Global, object: Object, calls: &RankCalls) -> Result<Vec<Uses>, AllocError>
+    ensures { IfOk result (λ v. v.items ≡ profile_uses object calls.now ++ end_uses object calls.now.calls.items) }
+{
+    let mut uses = Vec::new(alloc);
+    for named in profile_uses(calls, object) {
+        uses.push(*named)?;
+    }
+    let mut ends = end_uses(alloc, object, &calls.calls)?;
+    uses.append(&mut ends)?;
+    Ok(uses)
+}
+
+/// What the calls of a rank name of windows, or of files.
+#[tactic(auto, using(crate::proofs::Holders::counted))]
+fn named_objects(
+    alloc: Global,
+    object: Object,
+    view: &RankView,
+    calls: &RankCalls,
+) -> Result<HandleUses, AllocError>
+    ensures { IfOk result (IsCounted (view_by view.now object).handles.items (profile_uses object calls.now ++ end_uses object calls.now.calls.items) []) }
+{
+    let handles = &view_by(view, object).handles;
+    let uses = object_uses(alloc, object, calls)?;
+    let held = held_by(alloc, handles, &uses)?;
+    Ok(HandleUses {
+        counts: counts_of(alloc, handles.len(), &held)?,
+        only: only_of(alloc, handles, &held)?,
+    })
+}
+
+/// The same of all ranks.
+fn named_objects_of_all(
+    alloc: Global,
+    object: Object,
+    ranks: &[RankCalls],
+    views: &[RankView],
+) -> Result<Vec<HandleUses>, AllocError>
+    requires { length views.now ≡ length ranks.now }
+    ensures { IfOk result (λ v. AreObjectsCounted object ranks.now views.now v.items) }
+{
+    let mut all = Vec::new(alloc);
+    for (at, rank) in ranks.iter().enumerate() {
+        all.push(named_objects(alloc, object, &views[at], rank)?)?;
+    }
+    Ok(all)
+}
+
+/// What the calls of all ranks name.
+pub(crate) fn all_uses(
+    alloc: Global,
+    ranks: &[RankCalls],
+    views: &[RankView],
+) -> Result<AllUses, AllocError>
+    requires { length views.now ≡ length ranks.now }
+    ensures { IfOk result (AreAllCounted ranks.now views.now) }
+{
+    Ok(AllUses {
+        comms: uses_of_all(alloc, ranks, views)?,
+        windows: named_objects_of_all(alloc, Object::Window, ranks, views)?,
+        files: named_objects_of_all(alloc, Object::File, ranks, views)?,
+    })
+}
+
+/// What the calls name of objects of one sort.
+pub(crate) fn uses_by(uses: &AllUses, object: Object) -> &[HandleUses]
+    ensures { result.now ≡ uses_by uses.now object }
+{
+    match object {
+        Object::Communicator => &uses.comms,
+        Object::Window => &uses.windows,
+        Object::File => &uses.files,
+    }
+}
+
 /// The same of all ranks.
 #[tactic(auto, using(crate::proofs::Holders::counted_none, crate::proofs::Holders::counted_all))]
-pub(crate) fn uses_of_all(
+fn uses_of_all(
     alloc: Global,
     ranks: &[RankCalls],
     views: &[RankView],
