@@ -1,8 +1,10 @@
 //! The windows, or the files, that a rank's calls make, name and end.
 
-ghost use Rattle.std.specs.Prelude.{◌≡◌, IfOk};
+ghost use Rattle.std.specs.Prelude.{◌≡◌, ℕ, IfOk, OnOk, Some, cond, nat_eq, option_map, reverse};
+ghost use Rattle.indexmap.specs.IndexMap.{get};
 ghost use Rattle.comm_makings.specs.Each.{EachIs, ListsAre};
-ghost use Rattle.comm_makings.specs.Objects.{IsObjectView, end_uses, handle_given, makes, makes_such, number_ended, number_given, object_handles, object_makings_on};
+ghost use Rattle.comm_makings.specs.Names.{next_call};
+ghost use Rattle.comm_makings.specs.Objects.{IsObjectView, changes, end_uses, handle_given, is_number, makes, makes_such, number_ended, number_given, object_handles, object_makings_on};
 
 use crate::calls::{Action, CommCall, ObjectMaker, Uses, object_made};
 use crate::handle::{Handle, Meant};
@@ -19,15 +21,6 @@ pub(crate) struct ObjectView {
     pub given: Vec<Option<usize>>,
     /// Of each handle of a communicator the calls that make such objects of it, in their order.
     pub makings: Vec<Vec<usize>>,
-}
-
-/// What a rank's numbers of windows, or of files, mean between two of its calls.
-#[derive(Drop)]
-struct ObjectNames {
-    /// All handles that were given so far.
-    handles: Vec<Handle>,
-    /// The handle that each number names now.
-    named: IndexMap<u32, usize>,
 }
 
 /// Whether a function makes objects of this sort.
@@ -96,88 +89,90 @@ fn number_ended(object: Object, call: &CommCall) -> Option<u32>
     }
 }
 
-impl ObjectNames {
-    fn new(alloc: Global) -> ObjectNames {
-        ObjectNames {
-            handles: Vec::new(alloc),
-            named: IndexMap::new(alloc),
-        }
+/// Before this call, which gives or ends the number, if any, the stretch of the number ends one above it.
+fn note_end(ends: &mut IndexMap<u32, u64>, number: Option<u32>, call: u64) -> Result<(), AllocError>
+    ensures { OnOk result ((m : ℕ) → get nat_eq ends.new m ≡ cond (is_number m number) (Some (next_call call)) (get nat_eq ends.old m)) }
+{
+    if let Some(number) = number {
+        ends.insert(number, call.saturating_add(1))?;
     }
-
-    /// Behind this call the number names nothing.
-    fn end(&mut self, number: u32, call: u64) {
-        if let Some(place) = self.named.swap_remove(&number) {
-            if place < self.handles.len() {
-                self.handles[place].end = Some(call.saturating_add(1));
-            }
-        }
-    }
-
-    /// Behind this call the number names a new handle.
-    fn give(&mut self, number: u32, call: u64) -> Result<usize, AllocError> {
-        self.end(number, call);
-        let place = self.handles.len();
-        self.handles.push(Handle {
-            number,
-            first: call.saturating_add(1),
-            end: None,
-        })?;
-        self.named.insert(number, place)?;
-        Ok(place)
-    }
-
-    /// Reads the next call, and says which handle it gives.
-    fn read(&mut self, object: Object, call: &CommCall) -> Result<Option<usize>, AllocError> {
-        if let Some(number) = number_given(object, call) {
-            return Ok(Some(self.give(number, call.call)?));
-        }
-        if let Some(number) = number_ended(object, call) {
-            self.end(number, call.call);
-        }
-        Ok(None)
-    }
-
-    /// All handles that were given.
-    fn into_handles(self) -> Vec<Handle>
-        ensures { result.items ≡ self.handles.items }
-    {
-        let ObjectNames { handles, named } = self;
-        drop(named);
-        handles
-    }
+    Ok(())
 }
 
-/// Reads the calls in their order: which handle each of them gives.
-fn read_all(
+/// The handle that a call gives, by where the numbers' stretches end that begin behind it.
+fn handle_of(object: Object, call: &CommCall, ends: &IndexMap<u32, u64>) -> Option<Handle>
+    ensures { result ≡ option_map (λ number. record { number = number; first = next_call call.now.call; end = get nat_eq ends.now number }) (number_given object call.now) }
+{
+    let number = number_given(object, call)?;
+    Some(Handle {
+        number,
+        first: call.call.saturating_add(1),
+        end: ends.get(&number).copied(),
+    })
+}
+
+/// The call gives or ends numbers of this sort.
+fn note_ends(
+    object: Object,
+    call: &CommCall,
+    ends: &mut IndexMap<u32, u64>,
+) -> Result<(), AllocError>
+    ensures { OnOk result ((m : ℕ) → get nat_eq ends.new m ≡ cond (changes object m call.now) (Some (next_call call.now.call)) (get nat_eq ends.old m)) }
+{
+    note_end(ends, number_given(object, call), call.call)?;
+    note_end(ends, number_ended(object, call), call.call)
+}
+
+/// The handles of this sort that the calls give, the last first: from behind it is known where each of them ends.
+fn handles_back(
     alloc: Global,
     object: Object,
-    names: &mut ObjectNames,
     calls: &[CommCall],
-) -> Result<Vec<Option<usize>>, AllocError> {
+) -> Result<Vec<Handle>, AllocError>
+    ensures { IfOk result (λ v. v.items ≡ reverse (object_handles object calls.now)) }
+{
+    let mut ends = IndexMap::new(alloc);
+    let mut handles = Vec::new(alloc);
+    let mut at = calls.len();
+    while at > 0 {
+        at -= 1;
+        let call = &calls[at];
+        if let Some(handle) = handle_of(object, call, &ends) {
+            handles.push(handle)?;
+        }
+        note_ends(object, call, &mut ends)?;
+    }
+    Ok(handles)
+}
+
+/// The handles of this sort that the calls give.
+fn handles_of(alloc: Global, object: Object, calls: &[CommCall]) -> Result<Vec<Handle>, AllocError>
+    ensures { IfOk result (λ v. v.items ≡ object_handles object calls.now) }
+{
+    let mut handles = handles_back(alloc, object, calls)?;
+    handles.reverse();
+    Ok(handles)
+}
+
+/// Of each call the handle that it gives.
+fn given_of(
+    alloc: Global,
+    object: Object,
+    calls: &[CommCall],
+) -> Result<Vec<Option<usize>>, AllocError>
+    ensures { IfOk result (λ v. EachIs v.items (handle_given object calls.now)) }
+{
     let mut given = Vec::new(alloc);
+    let mut count = 0usize;
     for call in calls {
-        given.push(names.read(object, call)?)?;
+        if number_given(object, call).is_some() {
+            given.push(Some(count))?;
+            count += 1;
+        } else {
+            given.push(None)?;
+        }
     }
     Ok(given)
-}
-
-/// The handles of this sort that the calls give, and which of them each call gives.
-fn handles_of(
-    alloc: Global,
-    object: Object,
-    calls: &[CommCall],
-) -> Result<(Vec<Handle>, Vec<Option<usize>>), AllocError>
-    ensures handles { IfOk result (λ r. r.0.items ≡ object_handles object calls.now) }
-    ensures given { IfOk result (λ r. EachIs r.1.items (handle_given object calls.now)) }
-{
-    let mut names = ObjectNames::new(alloc);
-    match read_all(alloc, object, &mut names, calls) {
-        Ok(given) => Ok((names.into_handles(), given)),
-        Err(fault) => {
-            drop(names);
-            Err(fault)
-        },
-    }
 }
 
 /// Of each handle of a communicator the calls that make objects of this sort of it, up to the first whose parent is
@@ -213,12 +208,10 @@ pub(crate) fn object_view(
 ) -> Result<ObjectView, AllocError>
     ensures { IfOk result (IsObjectView object calls.now meant.now) }
 {
-    let (handles, given) = handles_of(alloc, object, calls)?;
-    let makings = makings_of(alloc, object, calls, meant, count)?;
     Ok(ObjectView {
-        handles,
-        given,
-        makings,
+        handles: handles_of(alloc, object, calls)?,
+        given: given_of(alloc, object, calls)?,
+        makings: makings_of(alloc, object, calls, meant, count)?,
     })
 }
 
