@@ -1,5 +1,5 @@
 -- By which numbers, over which calls, the members of a communicator, a window or a file name it in a layout.
-use Rattle.std.specs.Prelude.{◌≡◌, ◌⊎◌, ◌<◌, ◌&&◌, ◌++◌, ℕ, Bool, true, false, List, [], ◌∷◌, Option, Some, None, All, cond, length, map, nat_lt}
+use Rattle.std.specs.Prelude.{◌≡◌, ◌⊎◌, ◌<◌, ◌&&◌, ℕ, Bool, true, false, List, [], ◌∷◌, Option, Some, None, All, cond, length, map, nat_lt}
 use Rattle.std.specs.List.{filter_map, list_any, range_with_len, slice_get}
 use Rattle.std.specs.List.Sorted.{IsPermutation, IsSorted}
 use Rattle.std.specs.Option.{option_and_then, option_map}
@@ -17,7 +17,6 @@ use Rattle.comm_makings.specs.declared.state.Order.{Order}
 use Rattle.comm_makings.specs.declared.uses.AllUses.{AllUses}
 use Rattle.comm_makings.specs.declared.uses.HandleUses.{HandleUses}
 use Rattle.comm_makings.specs.declared.view.RankView.{RankView}
-use Rattle.comm_makings.specs.declared.written.AllMade.{AllMade}
 use Rattle.comm_makings.specs.declared.written.Named.{Named}
 
 -- the handles of a rank that name objects of one sort
@@ -117,10 +116,6 @@ order_cmp x y = ordering_then (nat_cmp x.class y.class) (ordering_then (nat_cmp 
 -- the same, and then as they were derived
 abbrev pub named_cmp : Named → Named → Ordering
 named_cmp x y = ordering_then (order_cmp x.order y.order) (nat_cmp x.place y.place)
-
--- all that is derived: the communicators, and the windows and files behind them
-abbrev pub all_made : AllMade → List Made
-all_made all = all.comms ++ all.objects
 
 -- All that is derived but the world and that a call of the profile names, in the order of a layout.
 pub record AreChosen (uses : AllUses) (made : List Made) (chosen : List Named) : Type 0 where

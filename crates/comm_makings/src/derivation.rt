@@ -14,7 +14,7 @@ use crate::objects::objects_of;
 use crate::run::{Run, run_of};
 use crate::uses::all_uses;
 use crate::view::{RankView, views_of};
-use crate::written::{AllMade, written};
+use crate::written::written;
 use std::alloc::{AllocError, Global};
 
 impl From<AllocError> for DeriveFault {
@@ -83,23 +83,25 @@ fn answer_of(
     world: u32,
     ranks: &[RankCalls],
     views: &[RankView],
-    run: &Run,
+    run: Run,
 ) -> Result<Derived, AllocError>
     requires few { length ranks.now < 2 ^ 32 }
     requires world { world ≡ world_of ranks.now }
     requires views { AreViews world ranks.now views.now }
-    requires right { IsRun ranks.now views.now run.now }
+    requires right { IsRun ranks.now views.now run }
     ensures derived { IfOk result (IsDerivedFrom ranks.now) }
     ensures sound { IfOk result (λ d. IsSound (world_of ranks.now) ranks.now d.comms.items) }
 {
+    let Run {
+        standings,
+        mut comms,
+        ..
+    } = run;
     let uses = all_uses(alloc, ranks, views)?;
-    let left_out = left_out(alloc, ranks, views, &uses.comms, &run.standings)?;
-    let objects = objects_of(alloc, ranks, views, &run.comms)?;
-    let all = AllMade {
-        comms: &run.comms,
-        objects: &objects,
-    };
-    let comms = written(alloc, world, ranks.len() as u32, views, &uses, all)?;
+    let left_out = left_out(alloc, ranks, views, &uses.comms, &standings)?;
+    let mut objects = objects_of(alloc, ranks, views, &comms)?;
+    comms.append(&mut objects)?;
+    let comms = written(alloc, world, ranks.len() as u32, views, &uses, &comms)?;
     Ok(Derived {
         world,
         comms,
@@ -121,5 +123,5 @@ pub fn derive(alloc: Global, ranks: &[RankCalls]) -> Result<Derived, DeriveFault
     let world = world_of(ranks)?;
     let views = views_of(alloc, world, ranks)?;
     let run = run_of(alloc, ranks, &views)?;
-    Ok(answer_of(alloc, world, ranks, &views, &run)?)
+    Ok(answer_of(alloc, world, ranks, &views, run)?)
 }

@@ -3,25 +3,18 @@
 
 ghost use Rattle.std.specs.Prelude.{◌≡◌, All, IfOk, IfSome, length, map};
 ghost use Rattle.std.specs.List.{filter_map, range_with_len, slice_get};
-ghost use Rattle.std.specs.Option.{option_and_then, option_copied};
-ghost use Rattle.comm_makings.specs.Written.{AreChosen, AreIn, AreOthers, AreWrittenOf, HasNumber, IsNamedOnly, IsWorld, IsWritten, IsWrittenOf, all_made, entry_of, handle_at, handles_by, is_comm, is_named, is_only, named_at, only_number, stretch_of};
+ghost use Rattle.std.specs.Option.{option_and_then};
+ghost use Rattle.comm_makings.specs.Written.{AreChosen, AreIn, AreOthers, AreWrittenOf, HasNumber, IsNamedOnly, IsWorld, IsWritten, IsWrittenOf, entry_of, handle_at, handles_by, is_comm, is_named, is_only, named_at, only_number, stretch_of};
 
 use crate::handle::Handle;
 use crate::names::always;
 use crate::parts::first_places;
-use crate::state::{Made, Member, Order, copy_of};
+use crate::state::{Made, Member, Order, comm_at, copy_of};
 use crate::uses::{AllUses, HandleUses, count_at, uses_by};
 use crate::view::RankView;
 use indexmap::IndexMap;
 use mpi_model::{Comm, Object, Stretch};
 use std::alloc::{AllocError, Global};
-
-/// All that is derived: communicators, and windows and files behind them.
-#[derive(Clone, Copy)]
-pub(crate) struct AllMade<'a> {
-    pub comms: &'a [Made],
-    pub objects: &'a [Made],
-}
 
 /// Which communicator of the layout a number is of.
 #[derive(Clone, Copy, PartialEq, Eq)]
@@ -84,26 +77,14 @@ struct Named {
     place: usize,
 }
 
-/// What is at this place among the communicators and the windows and files behind them.
-fn made_at(all: AllMade<'_>, place: usize) -> Option<&Made>
-    ensures { option_copied result ≡ slice_get (all_made all) place }
-{
-    let comms = all.comms.len();
-    if place < comms {
-        all.comms.get(place)
-    } else {
-        all.objects.get(place - comms)
-    }
-}
-
 /// What is at this place, where it isn't the world and is named.
-fn named_at(uses: &AllUses, all: AllMade<'_>, place: usize) -> Option<Named>
-    ensures { result ≡ named_at uses.now (all_made all) place }
+fn named_at(uses: &AllUses, made: &[Made], place: usize) -> Option<Named>
+    ensures { result ≡ named_at uses.now made.now place }
 {
-    let made = made_at(all, place)?;
-    if made.order.class > 0 && is_named(uses, made) {
+    let one = comm_at(made, place)?;
+    if one.order.class > 0 && is_named(uses, one) {
         Some(Named {
-            order: made.order,
+            order: one.order,
             place,
         })
     } else {
@@ -112,12 +93,12 @@ fn named_at(uses: &AllUses, all: AllMade<'_>, place: usize) -> Option<Named>
 }
 
 /// What is named, but for the world, as it was derived.
-fn all_named(alloc: Global, uses: &AllUses, all: AllMade<'_>) -> Result<Vec<Named>, AllocError>
-    ensures { IfOk result (λ v. v.items ≡ filter_map (named_at uses.now (all_made all)) (range_with_len 0 (length (all_made all)))) }
+fn all_named(alloc: Global, uses: &AllUses, made: &[Made]) -> Result<Vec<Named>, AllocError>
+    ensures { IfOk result (λ v. v.items ≡ filter_map (named_at uses.now made.now) (range_with_len 0 (length made.now))) }
 {
     let mut named = Vec::new(alloc);
-    for place in 0..all.comms.len() + all.objects.len() {
-        if let Some(one) = named_at(uses, all, place) {
+    for place in 0..made.len() {
+        if let Some(one) = named_at(uses, made, place) {
             named.push(one)?;
         }
     }
@@ -125,10 +106,10 @@ fn all_named(alloc: Global, uses: &AllUses, all: AllMade<'_>) -> Result<Vec<Name
 }
 
 /// What is named, but for the world, in its order.
-fn named_in(alloc: Global, uses: &AllUses, all: AllMade<'_>) -> Result<Vec<Named>, AllocError>
-    ensures { IfOk result (λ v. AreChosen uses.now (all_made all) v.items) }
+fn named_in(alloc: Global, uses: &AllUses, made: &[Made]) -> Result<Vec<Named>, AllocError>
+    ensures { IfOk result (λ v. AreChosen uses.now made.now v.items) }
 {
-    let mut named = all_named(alloc, uses, all)?;
+    let mut named = all_named(alloc, uses, made)?;
     named.sort()?;
     Ok(named)
 }
@@ -188,13 +169,13 @@ fn note_owners(
 fn owners_of(
     alloc: Global,
     views: &[RankView],
-    all: AllMade<'_>,
+    made: &[Made],
     named: &[Named],
 ) -> Result<IndexMap<u32, Owner>, AllocError> {
     let mut owners = IndexMap::new(alloc);
     for named in named {
-        if let Some(made) = made_at(all, named.place) {
-            note_owners(&mut owners, views, named.place, made)?;
+        if let Some(one) = comm_at(made, named.place) {
+            note_owners(&mut owners, views, named.place, one)?;
         }
     }
     Ok(owners)
@@ -371,23 +352,22 @@ fn written_all(
     largest: u32,
     views: &[RankView],
     uses: &AllUses,
-    all: AllMade<'_>,
+    made: &[Made],
     named: &[Named],
     owners: &IndexMap<u32, Owner>,
 ) -> Result<Vec<Comm>, AllocError>
-    requires { AreIn (all_made all) named.now }
-    ensures { IfOk result (λ comms. AreWrittenOf views.now uses.now (all_made all) named.now comms.items) }
+    requires { AreIn made.now named.now }
+    ensures { IfOk result (λ comms. AreWrittenOf views.now uses.now made.now named.now comms.items) }
 {
     let mut free = largest;
     let mut comms = Vec::new(alloc);
     for one in named {
-        if let Some(made) = made_at(all, one.place) {
-            let id = id_of(views, &uses.comms, owners, one.place, made);
-            if id.is_none() {
-                free = free.saturating_add(1);
-            }
-            comms.push(written_comm(alloc, views, uses, id, free, made)?)?;
+        let one_made = &made[one.place];
+        let id = id_of(views, &uses.comms, owners, one.place, one_made);
+        if id.is_none() {
+            free = free.saturating_add(1);
         }
+        comms.push(written_comm(alloc, views, uses, id, free, one_made)?)?;
     }
     Ok(comms)
 }
@@ -399,13 +379,13 @@ fn others(
     largest: u32,
     views: &[RankView],
     uses: &AllUses,
-    all: AllMade<'_>,
+    made: &[Made],
 ) -> Result<Vec<Comm>, AllocError>
-    ensures { IfOk result (λ comms. AreOthers views.now uses.now (all_made all) comms.items) }
+    ensures { IfOk result (λ comms. AreOthers views.now uses.now made.now comms.items) }
 {
-    let named = named_in(alloc, uses, all)?;
-    let owners = owners_of(alloc, views, all, &named)?;
-    written_all(alloc, largest, views, uses, all, &named, &owners)
+    let named = named_in(alloc, uses, made)?;
+    let owners = owners_of(alloc, views, made, &named)?;
+    written_all(alloc, largest, views, uses, made, &named, &owners)
 }
 
 /// The communicators, windows and files of the layout, the world first.
@@ -416,12 +396,12 @@ pub(crate) fn written(
     ranks: u32,
     views: &[RankView],
     uses: &AllUses,
-    all: AllMade<'_>,
+    made: &[Made],
 ) -> Result<Vec<Comm>, AllocError>
-    ensures { IfOk result (λ comms. IsWritten world ranks views.now uses.now (all_made all) comms.items) }
+    ensures { IfOk result (λ comms. IsWritten world ranks views.now uses.now made.now comms.items) }
 {
     let largest = largest_number(world, views);
-    let mut others = others(alloc, largest, views, uses, all)?;
+    let mut others = others(alloc, largest, views, uses, made)?;
     let mut comms = Vec::new(alloc);
     comms.push(world_comm(alloc, world, ranks)?)?;
     comms.append(&mut others)?;
