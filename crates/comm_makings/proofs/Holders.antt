@@ -1,5 +1,5 @@
 -- Which handle calls of the profile mean, and which numbers name one alone.
-use Rattle.std.proofs.Common.{◌≡◌, ◌≢◌, ◌⊎◌, ◌↔◌, ◌<◌, ◌≤◌, ◌+◌, ◌-◌, ◌^◌, ◌==◌, ◌&&◌, ◌||◌, ◌++◌, ◌∙◌, ℕ, zero, suc, Bool, true, false, not, List, [], ◌∷◌, Option, Some, None, All, IsTrue, length, get_or, get_or-set_same, map, min, set, take, drop, ap, sym, subst, refl, inl, inr, ⊎_elim, arith, nat_lt, nat_le, cond, is_some, length-append, option_map, zero-add}
+use Rattle.std.proofs.Common.{◌≡◌, ◌≢◌, ◌⊎◌, ◌↔◌, ◌<◌, ◌≤◌, ◌+◌, ◌-◌, ◌^◌, ◌==◌, ◌&&◌, ◌||◌, ◌++◌, ◌∙◌, ℕ, zero, suc, Bool, true, false, not, List, [], ◌∷◌, Option, Some, None, All, IsTrue, length, get_or, get_or-set_same, map, min, set, take, drop, ap, sym, subst, refl, inl, inr, ⊎_elim, arith, nat_lt, nat_le, cond, is_some, append-nil, length-append, option_map, zero-add}
 use Rattle.std.specs.List.{count_by, list_any, slice_get, sum_by}
 use Rattle.std.specs.List.Sorted.{IsPartitionPoint, IsPartitionedBy, IsPermutation}
 use Rattle.std.specs.Ordering.{is_lt, nat_cmp, ordering_then}
@@ -11,9 +11,10 @@ use Rattle.std.proofs.lemmas.List.Sums.{sum_by-cons, sum_by_more}
 use Rattle.std.proofs.lemmas.List.Sorted.{All-permutation, Contains-permutation}
 use Rattle.std.proofs.lemmas.Option.{get_or_from_slice_get, same_Some, slice_get-get_or, slice_get-map, slice_get_within}
 use Rattle.mpi_model.specs.declared.layout.comm.Stretch.{Stretch}
+use Rattle.mpi_model.specs.declared.object.Object.{Object}
 use Rattle.mpi_model.specs.Names.{holds, is_before}
 use Rattle.comm_makings.specs.Each.{EachBecomes, EachIs}
-use Rattle.comm_makings.specs.Uses.{AreCounted, AreHeld, AreOrdered, Comes, IsCounted, IsHolder, IsHolderOf, IsLatest, IsLatestOf, IsNotBefore, IsOnly, NoneBegun, count_in, count_of, has_number, held_calls, holds_all, is_at, is_stray, is_stray_of, numbered, place_of, places_from, precedes, stands_alone}
+use Rattle.comm_makings.specs.Uses.{AreCounted, AreHeld, AreOrdered, Comes, IsCounted, IsCountedOf, IsHolder, IsHolderOf, IsLatest, IsLatestOf, IsNotBefore, IsOnly, NoneBegun, count_in, count_of, has_number, held_calls, holds_all, is_at, is_stray, is_stray_of, numbered, place_of, places_from, precedes, stands_alone}
 use Rattle.comm_makings.specs.declared.calls.RankCalls.{RankCalls}
 use Rattle.comm_makings.specs.declared.calls.Uses.{Uses}
 use Rattle.comm_makings.specs.declared.uses.HandleUses.{HandleUses}
@@ -545,25 +546,23 @@ counted handles uses held calls all result are is counts each only = record {
 
 -- ---- one rank after the other
 
-pub record AreCountedTo (ranks : List RankCalls) (views : List RankView) (uses : List HandleUses) (count : ℕ) : Type 0 where
+pub record AreCountedTo (object : Object) (ranks : List RankCalls) (views : List RankView) (uses : List HandleUses) (count : ℕ) : Type 0 where
   pub same : length uses ≡ count
   pub each : (rank : ℕ) (result : HandleUses) (calls : RankCalls) (view : RankView) → slice_get uses rank ≡ Some result → slice_get ranks rank ≡ Some calls
-      → slice_get views rank ≡ Some view → IsCounted view.handles.items calls.uses.items (held_calls calls.calls.items view.meant.items) result
+      → slice_get views rank ≡ Some view → IsCountedOf object calls view result
 
-pub counted_none : (ranks : List RankCalls) (views : List RankView) → AreCountedTo ranks views [] 0
-counted_none ranks views = record { same = omega arith; each = λ rank result calls view e f g. absurd (cc) }
+pub counted_none : (object : Object) (ranks : List RankCalls) (views : List RankView) → AreCountedTo object ranks views [] 0
+counted_none object ranks views = record { same = omega arith; each = λ rank result calls view e f g. absurd (cc) }
 
-counted_at : (result other : HandleUses) (calls c : RankCalls) (view v : RankView) → other ≡ result → calls ≡ c → view ≡ v
-    → IsCounted view.handles.items calls.uses.items (held_calls calls.calls.items view.meant.items) result → IsCounted v.handles.items c.uses.items (held_calls c.calls.items v.meant.items) other
-counted_at result other calls c view v a b d is =
-    subst (λ (x : RankView). IsCounted x.handles.items c.uses.items (held_calls c.calls.items x.meant.items) other) d
-    (subst (λ (x : RankCalls). IsCounted view.handles.items x.uses.items (held_calls x.calls.items view.meant.items) other) b
-    (subst (λ (x : HandleUses). IsCounted view.handles.items calls.uses.items (held_calls calls.calls.items view.meant.items) x) (sym a) is))
+counted_at : (object : Object) (result other : HandleUses) (calls c : RankCalls) (view v : RankView) → other ≡ result → calls ≡ c → view ≡ v → IsCountedOf object calls view result → IsCountedOf object c v other
+counted_at object result other calls c view v a b d is =
+    subst (λ (x : RankView). IsCountedOf object c x other) d
+    (subst (λ (x : RankCalls). IsCountedOf object x view other) b (subst (IsCountedOf object calls view) (sym a) is))
 
-pub counted_more : (ranks : List RankCalls) (views : List RankView) (uses : List HandleUses) (count : ℕ) (calls : RankCalls) (view : RankView) (result : HandleUses)
-    → AreCountedTo ranks views uses count → slice_get ranks count ≡ Some calls → slice_get views count ≡ Some view → IsCounted view.handles.items calls.uses.items (held_calls calls.calls.items view.meant.items) result
-    → AreCountedTo ranks views (uses ++ result ∷ []) (count + 1)
-counted_more ranks views uses count calls view result are here there is = record {
+pub counted_more : (object : Object) (ranks : List RankCalls) (views : List RankView) (uses : List HandleUses) (count : ℕ) (calls : RankCalls) (view : RankView) (result : HandleUses)
+    → AreCountedTo object ranks views uses count → slice_get ranks count ≡ Some calls → slice_get views count ≡ Some view → IsCountedOf object calls view result
+    → AreCountedTo object ranks views (uses ++ result ∷ []) (count + 1)
+counted_more object ranks views uses count calls view result are here there is = record {
   same = omega (arith, length-append uses (result ∷ []), are.same);
   each = λ rank other c v e f g. elim (get_more uses result rank other e) [
     | inl before ↦ are.each rank other c v before f g
@@ -571,10 +570,14 @@ counted_more ranks views uses count calls view result are here there is = record
         let at : rank ≡ count = last.0 ∙ are.same in
         let same_calls : calls ≡ c = same_Some calls c (sym here ∙ ap (slice_get ranks) (sym at) ∙ f) in
         let same_view : view ≡ v = same_Some view v (sym there ∙ ap (slice_get views) (sym at) ∙ g) in
-        counted_at result other calls c view v last.1 same_calls same_view is
+        counted_at object result other calls c view v last.1 same_calls same_view is
   ];
 }
 
-pub counted_all : (ranks : List RankCalls) (views : List RankView) (uses : List HandleUses) (count : ℕ) → AreCountedTo ranks views uses count → count ≤ length ranks → length ranks ≤ count
-    → AreCounted ranks views uses
-counted_all ranks views uses count are most least = record { same = omega (arith, are.same); each = are.each }
+pub counted_all : (object : Object) (ranks : List RankCalls) (views : List RankView) (uses : List HandleUses) (count : ℕ) → AreCountedTo object ranks views uses count → count ≤ length ranks → length ranks ≤ count
+    → AreCounted object ranks views uses
+counted_all object ranks views uses count are most least = record { same = omega (arith, are.same); each = are.each }
+
+-- nothing more is held
+pub without_more : (held : List HeldUses) → held ≡ held ++ []
+without_more held = sym (append-nil held)

@@ -8,7 +8,6 @@ use Rattle.mpi_model.specs.declared.layout.comm.Stretch.{Stretch}
 use Rattle.mpi_model.specs.declared.object.Object.{Object}
 use Rattle.mpi_model.specs.declared.object.Object.TheVariants as objects
 use Rattle.comm_makings.specs.Each.{EachIs}
-use Rattle.comm_makings.specs.ObjectMakings.{view_by}
 use Rattle.comm_makings.specs.Objects.{end_uses}
 use Rattle.comm_makings.specs.declared.calls.Action.{Action}
 use Rattle.comm_makings.specs.declared.calls.Action.TheVariants as actions
@@ -143,29 +142,24 @@ pub record IsCounted (handles : List Stretch) (uses : List Uses) (calls : List H
   pub only : (at : ℕ) (is : Bool) → slice_get counted.only.items at ≡ Some is → IsTrue is ↔ IsOnly handles uses calls at
   pub only_each : length counted.only.items ≡ length handles
 
+-- What the calls of a rank say of its objects of one sort: of communicators those of the profile and those on communicators;
+-- of windows and files those of the profile, those that end one among them.
+abbrev pub IsCountedOf : Object → RankCalls → RankView → HandleUses → Type 0
+IsCountedOf objects.Communicator calls view counted = IsCounted view.handles.items calls.uses.items (held_calls calls.calls.items view.meant.items) counted
+IsCountedOf objects.Window calls view counted = IsCounted view.windows.handles.items (calls.windows.items ++ end_uses objects.Window calls.calls.items) [] counted
+IsCountedOf objects.File calls view counted = IsCounted view.files.handles.items (calls.files.items ++ end_uses objects.File calls.calls.items) [] counted
+
 -- The same of each rank.
-pub record AreCounted (ranks : List RankCalls) (views : List RankView) (uses : List HandleUses) : Type 0 where
+pub record AreCounted (object : Object) (ranks : List RankCalls) (views : List RankView) (uses : List HandleUses) : Type 0 where
   pub same : length uses ≡ length ranks
   pub each : (rank : ℕ) (counted : HandleUses) (calls : RankCalls) (view : RankView) → slice_get uses rank ≡ Some counted → slice_get ranks rank ≡ Some calls
-      → slice_get views rank ≡ Some view → IsCounted view.handles.items calls.uses.items (held_calls calls.calls.items view.meant.items) counted
+      → slice_get views rank ≡ Some view → IsCountedOf object calls view counted
 
--- where the calls of the profile but for those that end them name which numbers of objects of this sort
-abbrev pub profile_uses : Object → RankCalls → List Uses
-profile_uses objects.Communicator calls = calls.uses.items
-profile_uses objects.Window calls = calls.windows.items
-profile_uses objects.File calls = calls.files.items
-
--- What the calls of each rank say of its windows, or of its files: those that end one name it too.
-pub record AreObjectsCounted (object : Object) (ranks : List RankCalls) (views : List RankView) (uses : List HandleUses) : Type 0 where
-  pub same : length uses ≡ length ranks
-  pub each : (rank : ℕ) (counted : HandleUses) (calls : RankCalls) (view : RankView) → slice_get uses rank ≡ Some counted → slice_get ranks rank ≡ Some calls
-      → slice_get views rank ≡ Some view → IsCounted (view_by view object).handles.items (profile_uses object calls ++ end_uses object calls.calls.items) [] counted
-
--- What the calls of all ranks say of the handles of each sort.
+-- The same of objects of each sort.
 pub record AreAllCounted (ranks : List RankCalls) (views : List RankView) (uses : AllUses) : Type 0 where
-  pub comms : AreCounted ranks views uses.comms.items
-  pub windows : AreObjectsCounted objects.Window ranks views uses.windows.items
-  pub files : AreObjectsCounted objects.File ranks views uses.files.items
+  pub comms : AreCounted objects.Communicator ranks views uses.comms.items
+  pub windows : AreCounted objects.Window ranks views uses.windows.items
+  pub files : AreCounted objects.File ranks views uses.files.items
 
 -- what they say of those of one sort
 abbrev pub uses_by : AllUses → Object → List HandleUses

@@ -94,14 +94,23 @@ fn answer_of(
 {
     let Run {
         standings,
-        mut comms,
+        comms,
+        values,
+        next,
+        taken,
+        over,
         ..
     } = run;
+    drop(values);
+    drop(next);
+    drop(taken);
+    drop(over);
     let uses = all_uses(alloc, ranks, views)?;
     let left_out = left_out(alloc, ranks, views, &uses.comms, &standings)?;
     let mut objects = objects_of(alloc, ranks, views, &comms)?;
-    comms.append(&mut objects)?;
-    let comms = written(alloc, world, ranks.len() as u32, views, &uses, &comms)?;
+    let mut made = comms;
+    made.append(&mut objects)?;
+    let comms = written(alloc, world, ranks.len() as u32, views, &uses, &made)?;
     Ok(Derived {
         world,
         comms,

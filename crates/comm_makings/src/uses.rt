@@ -5,14 +5,12 @@ ghost use Rattle.std.specs.List.Sorted.{IsPartitionPoint, IsPartitionedBy};
 ghost use Rattle.indexmap.specs.IndexMap.{get};
 ghost use Rattle.mpi_model.specs.Names.{holds};
 ghost use Rattle.comm_makings.specs.Each.{EachBecomes, EachIs};
-ghost use Rattle.comm_makings.specs.ObjectMakings.{view_by};
 ghost use Rattle.comm_makings.specs.Objects.{end_uses};
-ghost use Rattle.comm_makings.specs.Uses.{AreAllCounted, AreCounted, AreObjectsCounted, profile_uses, uses_by, AreHeld, AreOrdered, IsCounted, IsHolderOf, IsLatestOf, call_use, call_use_at, count_at, count_of, held_calls, holds_all, is_at, is_stray, number_on, numbered, places_from, precedes, stands_alone};
+ghost use Rattle.comm_makings.specs.Uses.{AreAllCounted, AreCounted, IsCountedOf, uses_by, AreHeld, AreOrdered, IsCounted, IsHolderOf, IsLatestOf, call_use, call_use_at, count_at, count_of, held_calls, holds_all, is_at, is_stray, number_on, numbered, places_from, precedes, stands_alone};
 
 use crate::calls::{Action, CommCall, Making, RankCalls, Uses};
 use crate::handle::{Handle, Meant};
 use crate::object_view::end_uses;
-use crate::objects::view_by;
 use crate::view::RankView;
 use indexmap::IndexMap;
 use mpi_model::Object;
@@ -295,11 +293,7 @@ fn only_of(alloc: Global, handles: &[Handle], held: &[HeldUses]) -> Result<Vec<b
 
 /// What the calls of a rank name: those of the profile, and those on communicators.
 #[tactic(auto, using(crate::proofs::Holders::counted))]
-pub(crate) fn uses_of(
-    alloc: Global,
-    view: &RankView,
-    calls: &RankCalls,
-) -> Result<HandleUses, AllocError>
+fn uses_of(alloc: Global, view: &RankView, calls: &RankCalls) -> Result<HandleUses, AllocError>
     ensures { IfOk result (IsCounted view.now.handles.items calls.now.uses.items (held_calls calls.now.calls.items view.now.meant.items)) }
 {
     let handles = &view.handles;
@@ -311,42 +305,34 @@ pub(crate) fn uses_of(
     })
 }
 
-/// Where the calls of the profile name which numbers of windows, or of files, but for those that end them.
-fn profile_uses(calls: &RankCalls, object: Object) -> &[Uses]
-    ensures { result.now ≡ profile_uses object calls.now }
-{
-    match object {
-        Object::Communicator => &calls.uses,
-        Object::Window => &calls.windows,
-        Object::File => &calls.files,
-    }
-}
-
-/// All calls that name windows, or files.
-fn object_uses(alloc: Global, object: Object, calls: &RankCalls) -> Result<Vec<Uses>, AllocError>
-    ensures { IfOk result (λ v. v.items ≡ profile_uses object calls.now ++ end_uses object calls.now.calls.items) }
-{
-    let mut uses = Vec::new(alloc);
-    for named in profile_uses(calls, object) {
-        uses.push(*named)?;
-    }
-    let mut ends = end_uses(alloc, object, &calls.calls)?;
-    uses.append(&mut ends)?;
-    Ok(uses)
-}
-
-/// What the calls of a rank name of windows, or of files.
-#[tactic(auto, using(crate::proofs::Holders::counted))]
-fn named_objects(
+/// These calls that name windows, or files, and behind them those that end one.
+fn with_ends(
     alloc: Global,
     object: Object,
-    view: &RankView,
-    calls: &RankCalls,
-) -> Result<HandleUses, AllocError>
-    ensures { IfOk result (IsCounted (view_by view.now object).handles.items (profile_uses object calls.now ++ end_uses object calls.now.calls.items) []) }
+    uses: &[Uses],
+    calls: &[CommCall],
+) -> Result<Vec<Uses>, AllocError>
+    ensures { IfOk result (λ v. v.items ≡ uses.now ++ end_uses object calls.now) }
 {
-    let handles = &view_by(view, object).handles;
-    let uses = object_uses(alloc, object, calls)?;
+    let mut ends = end_uses(alloc, object, calls)?;
+    let mut all = Vec::new(alloc);
+    all.extend_from_slice(uses)?;
+    all.append(&mut ends)?;
+    Ok(all)
+}
+
+/// What the calls of a rank name of its windows, or of its files: those of the profile, and those that end one.
+#[tactic(auto, using(crate::proofs::Holders::counted, crate::proofs::Holders::without_more))]
+fn object_uses(
+    alloc: Global,
+    object: Object,
+    handles: &[Handle],
+    uses: &[Uses],
+    calls: &[CommCall],
+) -> Result<HandleUses, AllocError>
+    ensures { IfOk result (IsCounted handles.now (uses.now ++ end_uses object calls.now) []) }
+{
+    let uses = with_ends(alloc, object, uses, calls)?;
     let held = held_by(alloc, handles, &uses)?;
     Ok(HandleUses {
         counts: counts_of(alloc, handles.len(), &held)?,
@@ -354,24 +340,55 @@ fn named_objects(
     })
 }
 
+/// What the calls of a rank name of objects of one sort.
+fn named_by(
+    alloc: Global,
+    object: Object,
+    view: &RankView,
+    calls: &RankCalls,
+) -> Result<HandleUses, AllocError>
+    ensures { IfOk result (IsCountedOf object calls.now view.now) }
+{
+    match object {
+        Object::Communicator => uses_of(alloc, view, calls),
+        Object::Window => {
+            object_uses(
+                alloc,
+                object,
+                &view.windows.handles,
+                &calls.windows,
+                &calls.calls,
+            )
+        },
+        Object::File => object_uses(
+            alloc,
+            object,
+            &view.files.handles,
+            &calls.files,
+            &calls.calls,
+        ),
+    }
+}
+
 /// The same of all ranks.
-fn named_objects_of_all(
+#[tactic(auto, using(crate::proofs::Holders::counted_none, crate::proofs::Holders::counted_all))]
+fn named_by_all(
     alloc: Global,
     object: Object,
     ranks: &[RankCalls],
     views: &[RankView],
 ) -> Result<Vec<HandleUses>, AllocError>
     requires { length views.now ≡ length ranks.now }
-    ensures { IfOk result (λ v. AreObjectsCounted object ranks.now views.now v.items) }
+    ensures { IfOk result (λ v. AreCounted object ranks.now views.now v.items) }
 {
     let mut all = Vec::new(alloc);
     for (at, rank) in ranks.iter().enumerate() {
-        all.push(named_objects(alloc, object, &views[at], rank)?)?;
+        all.push(named_by(alloc, object, &views[at], rank)?)?;
     }
     Ok(all)
 }
 
-/// What the calls of all ranks name.
+/// What the calls of all ranks name of objects of each sort.
 pub(crate) fn all_uses(
     alloc: Global,
     ranks: &[RankCalls],
@@ -381,9 +398,9 @@ pub(crate) fn all_uses(
     ensures { IfOk result (AreAllCounted ranks.now views.now) }
 {
     Ok(AllUses {
-        comms: uses_of_all(alloc, ranks, views)?,
-        windows: named_objects_of_all(alloc, Object::Window, ranks, views)?,
-        files: named_objects_of_all(alloc, Object::File, ranks, views)?,
+        comms: named_by_all(alloc, Object::Communicator, ranks, views)?,
+        windows: named_by_all(alloc, Object::Window, ranks, views)?,
+        files: named_by_all(alloc, Object::File, ranks, views)?,
     })
 }
 
@@ -396,23 +413,6 @@ pub(crate) fn uses_by(uses: &AllUses, object: Object) -> &[HandleUses]
         Object::Window => &uses.windows,
         Object::File => &uses.files,
     }
-}
-
-/// The same of all ranks.
-#[tactic(auto, using(crate::proofs::Holders::counted_none, crate::proofs::Holders::counted_all))]
-fn uses_of_all(
-    alloc: Global,
-    ranks: &[RankCalls],
-    views: &[RankView],
-) -> Result<Vec<HandleUses>, AllocError>
-    requires { length views.now ≡ length ranks.now }
-    ensures { IfOk result (λ v. AreCounted ranks.now views.now v.items) }
-{
-    let mut all = Vec::new(alloc);
-    for (at, rank) in ranks.iter().enumerate() {
-        all.push(uses_of(alloc, &views[at], rank)?)?;
-    }
-    Ok(all)
 }
 
 /// How many calls of the profile name a handle of a rank.
