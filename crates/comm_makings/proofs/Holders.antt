@@ -14,7 +14,7 @@ use Rattle.mpi_model.specs.declared.layout.comm.Stretch.{Stretch}
 use Rattle.mpi_model.specs.declared.object.Object.{Object}
 use Rattle.mpi_model.specs.Names.{holds, is_before}
 use Rattle.comm_makings.specs.Each.{EachBecomes, EachIs}
-use Rattle.comm_makings.specs.Uses.{AreCounted, AreHeld, AreOrdered, Comes, IsCounted, IsCountedOf, IsHolder, IsHolderOf, IsLatest, IsLatestOf, IsNotBefore, IsOnly, NoneBegun, count_in, count_of, has_number, held_calls, holds_all, is_at, is_stray, is_stray_of, numbered, place_of, places_from, precedes, stands_alone}
+use Rattle.comm_makings.specs.Uses.{AreCounted, AreHeld, AreOrdered, Comes, IsCounted, IsCountedOf, IsHolder, IsHolderOf, IsLatest, IsLatestOf, IsNotBefore, IsOnly, NoneBegun, count_in, count_of, has_number, holds_all, is_at, is_stray, is_stray_of, numbered, place_of, places_from, precedes, stands_alone}
 use Rattle.comm_makings.specs.declared.calls.RankCalls.{RankCalls}
 use Rattle.comm_makings.specs.declared.calls.Uses.{Uses}
 use Rattle.comm_makings.specs.declared.uses.HandleUses.{HandleUses}
