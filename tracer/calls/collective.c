@@ -4,8 +4,6 @@
  */
 #include "wrap.h"
 
-#define OPENED(...) __VA_ARGS__     /* a list without its parentheses */
-
 /* Each of them is there blocking, nonblocking and (from MPI 4.0 on) persistent, with the same parameters in front. */
 #define BLOCKING_AND_NONBLOCKING(name, iname, c, parameters, arguments, entry)                              \
     WRAP(MPI_##name##c, (OPENED parameters), (OPENED arguments), entry, )                                   \

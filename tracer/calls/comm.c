@@ -55,7 +55,7 @@ WRAP(MPI_Intercomm_create,
      (MPI_Comm local_comm, int local_leader, MPI_Comm peer_comm, int remote_leader, int tag, MPI_Comm *newintercomm),
      (local_comm, local_leader, peer_comm, remote_leader, tag, newintercomm),
      COMM(local_comm) INT(local_leader)
-     if (handle_known(COMM, KEY(peer_comm))) { COMM(peer_comm) }
+     if (handle_known(COMMUNICATORS, KEY(peer_comm))) { COMM(peer_comm) }
      INT(remote_leader) INT(tag),
      GIVES_COMM(newintercomm))
 WRAP(MPI_Intercomm_merge, (MPI_Comm intercomm, int high, MPI_Comm *newintracomm), (intercomm, high, newintracomm),
@@ -99,8 +99,8 @@ WRAP(MPI_Lookup_name, (const char *service_name, MPI_Info info, char *port_name)
 
 /* ---- the end ---------------------------------------------------------------------------------------------------- */
 
-WRAP_END(MPI_Comm_free, MPI_Comm, COMM, comm)
-WRAP_END(MPI_Comm_disconnect, MPI_Comm, COMM, comm)
+WRAP_END(MPI_Comm_free, MPI_Comm, COMMUNICATORS, comm)
+WRAP_END(MPI_Comm_disconnect, MPI_Comm, COMMUNICATORS, comm)
 
 /* ---- what a communicator is -------------------------------------------------------------------------------------- */
 

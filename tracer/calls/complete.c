@@ -6,7 +6,7 @@
 
 /* ---- one request ----------------------------------------------------------------------------------------------- */
 
-WRAP_WITH(struct handle *h, MPI_Wait, (MPI_Request *request, MPI_Status *status), (request, status),
+WRAP_WITH(struct handle *h = NULL;, MPI_Wait, (MPI_Request *request, MPI_Status *status), (request, status),
           h = put_request(request); STATUS,
           if (code == MPI_SUCCESS)
               put_status(h, status);
@@ -52,7 +52,7 @@ static int all_completed(int n, struct handle **handles, const MPI_Request *requ
     return some;
 }
 
-WRAP_WITH(struct handle **handles, MPI_Waitall, (int count, MPI_Request *requests, MPI_Status *statuses),
+WRAP_WITH(struct handle **handles = NULL;, MPI_Waitall, (int count, MPI_Request *requests, MPI_Status *statuses),
           (count, requests, statuses),
           handles = put_requests(count, requests); statuses = real_statuses(count, statuses);,
           if (code == MPI_SUCCESS)
@@ -96,7 +96,7 @@ static int put_any(int code, int count, struct handle **handles, const MPI_Reque
     return 1;
 }
 
-WRAP_WITH(struct handle **handles, MPI_Waitany, (int count, MPI_Request *requests, int *index, MPI_Status *status),
+WRAP_WITH(struct handle **handles = NULL;, MPI_Waitany, (int count, MPI_Request *requests, int *index, MPI_Status *status),
           (count, requests, index, status),
           handles = put_requests(count, requests); STATUS,
           put_any(code, count, handles, requests, *index, status);)
@@ -136,7 +136,7 @@ static void put_some(int outcount, const int *indices, struct handle **handles, 
         completed(handles[indices[i]], &requests[indices[i]]);
 }
 
-WRAP_WITH(struct handle **handles, MPI_Waitsome,
+WRAP_WITH(struct handle **handles = NULL;, MPI_Waitsome,
           (int incount, MPI_Request *requests, int *outcount, int *indices, MPI_Status *statuses),
           (incount, requests, outcount, indices, statuses),
           handles = put_requests(incount, requests); statuses = real_statuses(incount, statuses);,
@@ -172,10 +172,10 @@ ALIAS(MPI_Testsome, (int incount, MPI_Request *requests, int *outcount, int *ind
 WRAP(MPI_Start, (MPI_Request *request), (request), put_request(request);, )
 WRAP(MPI_Startall, (int count, MPI_Request *requests), (count, requests), put_requests(count, requests);, )
 WRAP(MPI_Cancel, (MPI_Request *request), (request), put_request(request);, )
-WRAP_WITH(struct handle *h, MPI_Request_free, (MPI_Request *request), (request),
+WRAP_WITH(struct handle *h = NULL;, MPI_Request_free, (MPI_Request *request), (request),
           h = put_request(request);,
           if (code == MPI_SUCCESS)
-              handle_freed(REQUEST, h);)
+              handle_freed(REQUESTS, h);)
 
 /* ---- requests of the program's own ----------------------------------------------------------------------------- */
 

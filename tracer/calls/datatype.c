@@ -4,9 +4,9 @@
  */
 #include "wrap.h"
 
-WRAP_END(MPI_Type_free, MPI_Datatype, DATATYPE, datatype)
+WRAP_END(MPI_Type_free, MPI_Datatype, DATATYPES, datatype)
 WRAP(MPI_Type_commit, (MPI_Datatype *datatype), (datatype),
-     put_handle("MPI_Datatype", "datatype", handle_of(DATATYPE, KEY(*datatype)));, )
+     put_handle("MPI_Datatype", "datatype", handle_of(DATATYPES, KEY(*datatype)));, )
 
 /* ---- made of another -------------------------------------------------------------------------------------------- */
 
@@ -102,10 +102,10 @@ WRAP(MPI_Op_create, (MPI_User_function *user_fn, int commute, MPI_Op *op), (user
 WRAP(MPI_Op_create_c, (MPI_User_function_c *user_fn, int commute, MPI_Op *op), (user_fn, commute, op),
      INT(commute), GIVES_OP(op))
 #endif
-WRAP_WITH(struct handle *h, MPI_Op_free, (MPI_Op *op), (op),
-          h = handle_of(OPERATION, KEY(*op)); put_operation("op", *op);,
+WRAP_WITH(struct handle *h = NULL;, MPI_Op_free, (MPI_Op *op), (op),
+          h = handle_of(OPERATIONS, KEY(*op)); put_operation("op", *op);,
           if (code == MPI_SUCCESS)
-              handle_freed(OPERATION, h);)
+              handle_freed(OPERATIONS, h);)
 
 #define REDUCE_LOCAL(c, count_t, _)                                                                         \
     WRAP(MPI_Reduce_local##c, (const void *inbuf, void *inoutbuf, count_t count, MPI_Datatype datatype, MPI_Op op), \

@@ -30,7 +30,7 @@ OF_TWO_GROUPS(MPI_Group_union)
 OF_TWO_GROUPS(MPI_Group_intersection)
 OF_TWO_GROUPS(MPI_Group_difference)
 
-WRAP_END(MPI_Group_free, MPI_Group, GROUP, group)
+WRAP_END(MPI_Group_free, MPI_Group, GROUPS, group)
 
 WRAP(MPI_Group_rank, (MPI_Group group, int *rank), (group, rank), GROUP(group), )
 WRAP(MPI_Group_size, (MPI_Group group, int *size), (group, size), GROUP(group), )

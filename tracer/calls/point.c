@@ -101,18 +101,18 @@ WRAP_POLL(MPI_Improbe, (int source, int tag, MPI_Comm comm, int *flag, MPI_Messa
 
 #define FETCH_ENTRY                                                                                         \
     INT(count) TYPE(datatype)                                                                               \
-    m = handle_of(MESSAGE, KEY(*message));                                                                  \
+    m = handle_of(MESSAGES, KEY(*message));                                                                  \
     put_handle("MPI_Message", "message", m);
 
 #define FETCHES(c, count_t, _)                                                                              \
-    WRAP_WITH(struct handle *m, MPI_Mrecv##c,                                                               \
+    WRAP_WITH(struct handle *m = NULL;, MPI_Mrecv##c,                                                               \
               (void *buf, count_t count, MPI_Datatype datatype, MPI_Message *message, MPI_Status *status),  \
               (buf, count, datatype, message, status),                                                      \
-              FETCH_ENTRY STATUS, GIVES_RECEIVED handle_freed(MESSAGE, m);)                                 \
-    WRAP_WITH(struct handle *m, MPI_Imrecv##c,                                                              \
+              FETCH_ENTRY STATUS, GIVES_RECEIVED handle_freed(MESSAGES, m);)                                 \
+    WRAP_WITH(struct handle *m = NULL;, MPI_Imrecv##c,                                                              \
               (void *buf, count_t count, MPI_Datatype datatype, MPI_Message *message, MPI_Request *request), \
               (buf, count, datatype, message, request),                                                     \
-              FETCH_ENTRY, GIVES_RECEIVE handle_freed(MESSAGE, m);)
+              FETCH_ENTRY, GIVES_RECEIVE handle_freed(MESSAGES, m);)
 WITH_LARGE_COUNTS(FETCHES)
 
 /* ---- buffers --------------------------------------------------------------------------------------------------- */

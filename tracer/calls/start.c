@@ -12,6 +12,6 @@ WRAP(MPI_Abort, (MPI_Comm comm, int errorcode), (comm, errorcode), COMM(comm) IN
 
 #if HAVE_4_0
 WRAP(MPI_Session_init, (MPI_Info info, MPI_Errhandler errhandler, MPI_Session *session), (info, errhandler, session), ,
-     if (code == MPI_SUCCESS) put_handle("MPI_Session", "session", handle_given(SESSION, KEY(*session)));)
-WRAP_END(MPI_Session_finalize, MPI_Session, SESSION, session)
+     if (code == MPI_SUCCESS) put_handle("MPI_Session", "session", handle_given(SESSIONS, KEY(*session)));)
+WRAP_END(MPI_Session_finalize, MPI_Session, SESSIONS, session)
 #endif

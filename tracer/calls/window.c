@@ -3,7 +3,7 @@
 
 /* ---- windows ---------------------------------------------------------------------------------------------------- */
 
-#define WINDOWS(c, unit_t)                                                                                  \
+#define WINDOW_MAKERS(c, unit_t)                                                                                  \
     WRAP(MPI_Win_create##c, (void *base, MPI_Aint size, unit_t disp_unit, MPI_Info info, MPI_Comm comm, MPI_Win *win), \
          (base, size, disp_unit, info, comm, win), INT(size) INT(disp_unit) COMM(comm), GIVES_WIN(win))     \
     WRAP(MPI_Win_allocate##c, (MPI_Aint size, unit_t disp_unit, MPI_Info info, MPI_Comm comm, void *baseptr, MPI_Win *win), \
@@ -13,12 +13,12 @@
          (size, disp_unit, info, comm, baseptr, win), INT(size) INT(disp_unit) COMM(comm), GIVES_WIN(win))  \
     WRAP(MPI_Win_shared_query##c, (MPI_Win win, int rank, MPI_Aint *size, unit_t *disp_unit, void *baseptr), \
          (win, rank, size, disp_unit, baseptr), WIN(win) INT(rank), )
-WINDOWS(, int)
+WINDOW_MAKERS(, int)
 #if HAVE_4_0
-WINDOWS(_c, MPI_Aint)
+WINDOW_MAKERS(_c, MPI_Aint)
 #endif
 WRAP(MPI_Win_create_dynamic, (MPI_Info info, MPI_Comm comm, MPI_Win *win), (info, comm, win), COMM(comm), GIVES_WIN(win))
-WRAP_END(MPI_Win_free, MPI_Win, WINDOW, win)
+WRAP_END(MPI_Win_free, MPI_Win, WINDOWS, win)
 
 /* ---- epochs ----------------------------------------------------------------------------------------------------- */
 
@@ -42,7 +42,6 @@ WRAP_POLL(MPI_Win_sync, (MPI_Win win), (win), WIN(win), 0, found = code != MPI_S
 
 /* ---- transfers: each is there with a request, too ---------------------------------------------------------------- */
 
-#define OPENED(...) __VA_ARGS__     /* a list without its parentheses */
 #define TRANSFER(name, rname, c, parameters, arguments, entry)                                              \
     WRAP(MPI_##name##c, (OPENED parameters), (OPENED arguments), entry, )                                   \
     WRAP(MPI_R##rname##c, (OPENED parameters, MPI_Request *request), (OPENED arguments, request), entry, GIVES_REQUEST)

@@ -29,7 +29,7 @@ static void name_operations(void)
         NAMED(6, MPI_LAND), NAMED(7, MPI_BAND), NAMED(8, MPI_LOR), NAMED(9, MPI_BOR), NAMED(10, MPI_LXOR),
         NAMED(11, MPI_BXOR), NAMED(12, MPI_MINLOC), NAMED(13, MPI_MAXLOC), NAMED(14, MPI_REPLACE), NAMED(15, MPI_NO_OP),
     };
-    NAME_ALL(OPERATION, operations);
+    NAME_ALL(OPERATIONS, operations);
 }
 
 static void name_datatypes(void)
@@ -54,7 +54,7 @@ static void name_datatypes(void)
         NAMED(59, MPI_COMPLEX16), NAMED(60, MPI_COMPLEX32), NAMED(61, MPI_2INTEGER), NAMED(62, MPI_2REAL),
         NAMED(63, MPI_2DOUBLE_PRECISION),
     };
-    NAME_ALL(DATATYPE, datatypes);
+    NAME_ALL(DATATYPES, datatypes);
 }
 
 static void name_others(void)
@@ -65,20 +65,20 @@ static void name_others(void)
     const struct constant files[] = { NAMED(1, MPI_FILE_NULL) };
     const struct constant requests[] = { NAMED(1, MPI_REQUEST_NULL) };
     const struct constant messages[] = { NAMED(1, MPI_MESSAGE_NULL), NAMED(2, MPI_MESSAGE_NO_PROC) };
-    NAME_ALL(COMM, comms);
-    NAME_ALL(GROUP, groups);
-    NAME_ALL(WINDOW, windows);
+    NAME_ALL(COMMUNICATORS, comms);
+    NAME_ALL(GROUPS, groups);
+    NAME_ALL(WINDOWS, windows);
     NAME_ALL(FILES, files);
-    NAME_ALL(REQUEST, requests);
-    NAME_ALL(MESSAGE, messages);
+    NAME_ALL(REQUESTS, requests);
+    NAME_ALL(MESSAGES, messages);
 }
 
 void name_constants(void)
 {
     for (enum sort sort = 0; sort < SORTS; sort++)
         number_from(sort, MADE);
-    number_from(OPERATION, MADE_OPERATIONS);
-    number_from(DATATYPE, MADE_DATATYPES);
+    number_from(OPERATIONS, MADE_OPERATIONS);
+    number_from(DATATYPES, MADE_DATATYPES);
     name_others();
     name_operations();
     name_datatypes();

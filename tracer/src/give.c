@@ -6,7 +6,7 @@ struct handle *give_comm(const char *name, int code, const MPI_Comm *comm)
 {
     if (code != MPI_SUCCESS)
         return NULL;
-    struct handle *h = handle_given(COMM, KEY(*comm));
+    struct handle *h = handle_given(COMMUNICATORS, KEY(*comm));
     h->size = h->dims = 0;
     put_handle("MPI_Comm", name, h);
     return h;
@@ -15,13 +15,13 @@ struct handle *give_comm(const char *name, int code, const MPI_Comm *comm)
 void give_group(const char *name, int code, const MPI_Group *group)
 {
     if (code == MPI_SUCCESS)
-        put_handle("MPI_Group", name, handle_given(GROUP, KEY(*group)));
+        put_handle("MPI_Group", name, handle_given(GROUPS, KEY(*group)));
 }
 
 void give_window(const char *name, int code, const MPI_Win *window)
 {
     if (code == MPI_SUCCESS)
-        put_handle("MPI_Win", name, handle_given(WINDOW, KEY(*window)));
+        put_handle("MPI_Win", name, handle_given(WINDOWS, KEY(*window)));
 }
 
 void give_file(const char *name, int code, const MPI_File *file)
@@ -32,25 +32,25 @@ void give_file(const char *name, int code, const MPI_File *file)
 void give_datatype(const char *name, int code, const MPI_Datatype *datatype)
 {
     if (code == MPI_SUCCESS)
-        put_handle("MPI_Datatype", name, handle_given(DATATYPE, KEY(*datatype)));
+        put_handle("MPI_Datatype", name, handle_given(DATATYPES, KEY(*datatype)));
 }
 
 void give_operation(const char *name, int code, const MPI_Op *op)
 {
     if (code != MPI_SUCCESS)
         return;
-    handle_given(OPERATION, KEY(*op));
+    handle_given(OPERATIONS, KEY(*op));
     put_operation(name, *op);
 }
 
 void give_message(const char *name, const MPI_Message *message)
 {
-    put_handle("MPI_Message", name, handle_given(MESSAGE, KEY(*message)));
+    put_handle("MPI_Message", name, handle_given(MESSAGES, KEY(*message)));
 }
 
 void put_operation(const char *name, MPI_Op op)
 {
-    const struct handle *h = handle_of(OPERATION, KEY(op));
+    const struct handle *h = handle_of(OPERATIONS, KEY(op));
     put("MPI_Op ");
     put(name);
     put("=");
@@ -64,7 +64,7 @@ void put_operation(const char *name, MPI_Op op)
 /* Asking MPI could fail where the program's own call would: only a communicator that MPI has given is asked for. */
 static const struct handle *measured(MPI_Comm comm)
 {
-    struct handle *h = handle_known(COMM, KEY(comm));
+    struct handle *h = handle_known(COMMUNICATORS, KEY(comm));
     int begun = 0, ended = 1, inter = 0, size = -1;
     if (!h || !h->given || comm == MPI_COMM_NULL)
         return NULL;
@@ -96,7 +96,7 @@ int counts_at_root(MPI_Comm comm, int root)
 
 int dims_of(MPI_Comm comm)
 {
-    const struct handle *h = handle_known(COMM, KEY(comm));
+    const struct handle *h = handle_known(COMMUNICATORS, KEY(comm));
     return h ? h->dims : 0;
 }
 

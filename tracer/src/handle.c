@@ -181,7 +181,7 @@ struct handle *handle_given(enum sort sort, uintptr_t key)
     struct handle *h = find(&tables[sort], key);
     if (!h)
         h = add_numbered(&tables[sort], key);
-    else if (sort == GROUP)
+    else if (sort == GROUPS)
         h->uses++;
     h->given = 1;
     pthread_mutex_unlock(&lock);
@@ -201,7 +201,7 @@ void handle_freed(enum sort sort, struct handle *handle)
 struct handle *request_given(MPI_Request request, const void *at)
 {
     pthread_mutex_lock(&lock);
-    struct handle *h = add_numbered(&tables[REQUEST], KEY(request));
+    struct handle *h = add_numbered(&tables[REQUESTS], KEY(request));
     h->at = at;
     h->given = 1;
     pthread_mutex_unlock(&lock);
@@ -216,7 +216,7 @@ unsigned long new_list(void)
 struct handle *request_at(MPI_Request request, const void *at, unsigned long list)
 {
     pthread_mutex_lock(&lock);
-    struct table *t = &tables[REQUEST];
+    struct table *t = &tables[REQUESTS];
     uintptr_t key = KEY(request);
     struct handle *best = NULL;
     for (struct handle *h = t->size ? *bucket(t, key) : NULL; h; h = h->next) {

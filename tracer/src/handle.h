@@ -9,7 +9,7 @@
 
 #include "line.h"
 
-enum sort { COMM, GROUP, WINDOW, FILES, DATATYPE, OPERATION, REQUEST, MESSAGE, SESSION, SORTS };
+enum sort { COMMUNICATORS, GROUPS, WINDOWS, FILES, DATATYPES, OPERATIONS, REQUESTS, MESSAGES, SESSIONS, SORTS };
 
 struct handle {
     struct handle *next;        /* in its bucket */

@@ -2,7 +2,6 @@
  *
  * They are made by hand and not by printf, which alone would take longer than a small message does.
  */
-#define _GNU_SOURCE
 #include "line.h"
 #include "output.h"
 #include "thread.h"

@@ -4,7 +4,6 @@
  * where none does, the text is called starting-HOST-PID until MPI_Init has returned. Processes that MPI_Comm_spawn has
  * started have a world and ranks of their own, so their texts go to a folder below, one for each spawned world.
  */
-#define _GNU_SOURCE
 #include "output.h"
 #include "call.h"
 #include "handle.h"
@@ -197,7 +196,7 @@ void output_has_rank(void)
     NEXT(MPI_Comm_rank)(MPI_COMM_WORLD, &rank);
     NEXT(MPI_Comm_size)(MPI_COMM_WORLD, &size);
     NEXT(MPI_Comm_get_parent)(&parent);
-    number_from(DATATYPE, DATATYPES_OF_A_RANK * (rank + 1));
+    number_from(DATATYPES, DATATYPES_OF_A_RANK * (rank + 1));
     snprintf(in, sizeof in, "%s", folder());
     if (parent != MPI_COMM_NULL) {
         name_spawned_folder(in, sizeof in);

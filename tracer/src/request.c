@@ -18,7 +18,7 @@ struct handle *put_request(MPI_Request *request)
 
 void put_named_request(MPI_Request request)
 {
-    put_handle("MPI_Request", "request", handle_of(REQUEST, KEY(request)));
+    put_handle("MPI_Request", "request", handle_of(REQUESTS, KEY(request)));
 }
 
 static int put_request_list(int n, struct handle **handles, const char *comma)
@@ -74,7 +74,7 @@ struct handle *give_request(int code, MPI_Request *request)
     /* What a wrapper notes of the request of a call that failed is noted here, for nobody. */
     static __thread struct handle none;
     MPI_Request made = code == MPI_SUCCESS ? *request : MPI_REQUEST_NULL;
-    struct handle *h = made == MPI_REQUEST_NULL ? handle_of(REQUEST, KEY(made)) : request_given(made, request);
+    struct handle *h = made == MPI_REQUEST_NULL ? handle_of(REQUESTS, KEY(made)) : request_given(made, request);
     put_handle("MPI_Request", "request", h);        /* a reader wants one even where the call failed */
     return h->name ? &none : h;
 }
@@ -85,7 +85,7 @@ void completed(struct handle *handle, const MPI_Request *request)
         return;
     if (handle->makes)
         give_comm("newcomm", MPI_SUCCESS, handle->makes);
-    handle_freed(REQUEST, handle);
+    handle_freed(REQUESTS, handle);
 }
 
 /* ---- statuses -------------------------------------------------------------------------------------------------- */

@@ -2,9 +2,8 @@
  *
  *     WRAP(MPI_Send, (const void *buf, int count, ..), (buf, count, ..), INT(count) .., )
  *
- * is a whole wrapper: name, parameters, arguments, what it puts at the entry and what at the return. Both of the latter are
- * statements without anything between them, most of them the macros at the end of this file; at the return `code` is what
- * MPI answered.
+ * is a whole wrapper: name, parameters, arguments, what it puts at the entry, and what at the return. Both of the latter are
+ * statements one behind another, most of them the macros at the end of this file; at the return `code` is what MPI answered.
  */
 #ifndef MPIMATCH_WRAP_H
 #define MPIMATCH_WRAP_H
@@ -16,63 +15,40 @@
 /* Each wrapper stands under both names: see NEXT in call.h. */
 #define ALIAS(name, parameters) int P##name parameters __attribute__((alias(#name)));
 
+/* The form of all of them. `declarations` are what the entry looks up for the return, since MPI nulls handles that it ends. */
+#define WRAPPER(name, parameters, arguments, declarations, entry, outcome)                                  \
+    int name parameters                                                                                     \
+    {                                                                                                       \
+        declarations                                                                                        \
+        if (enters(#name, SITE)) {                                                                          \
+            entry                                                                                           \
+        }                                                                                                   \
+        int code = NEXT(name) arguments;                                                                    \
+        if (returns(code)) {                                                                                \
+            outcome                                                                                         \
+        }                                                                                                   \
+        return code;                                                                                        \
+    }                                                                                                       \
+    ALIAS(name, parameters)
+
 #define WRAP(name, parameters, arguments, entry, outcome)                                                   \
-    int name parameters                                                                                     \
-    {                                                                                                       \
-        if (enters(#name, SITE)) {                                                                          \
-            entry                                                                                           \
-            entered();                                                                                      \
-        }                                                                                                   \
-        int code = NEXT(name) arguments;                                                                    \
-        if (returns(code)) {                                                                                \
-            outcome                                                                                         \
-            returned();                                                                                     \
-        }                                                                                                   \
-        return code;                                                                                        \
-    }                                                                                                       \
-    ALIAS(name, parameters)
+    WRAPPER(name, parameters, arguments, , entry entered();, outcome returned();)
 
-/* A poll (poll.h). `found` is what it says by its flag; the outcome may change that, and puts the flag itself. */
+#define WRAP_WITH(declarations, name, parameters, arguments, entry, outcome)                                \
+    WRAPPER(name, parameters, arguments, declarations, entry entered();, outcome returned();)
+
+/* A poll (poll.h) that has found something where it was successful and its flag is set; the outcome may change `found`. */
 #define WRAP_POLL(name, parameters, arguments, entry, flag_is_set, outcome)                                 \
-    int name parameters                                                                                     \
-    {                                                                                                       \
-        if (enters(#name, SITE)) {                                                                          \
-            entry                                                                                           \
-            entered_poll();                                                                                 \
-        }                                                                                                   \
-        int code = NEXT(name) arguments;                                                                    \
-        if (returns(code)) {                                                                                \
-            int found = code == MPI_SUCCESS && (flag_is_set);                                               \
-            outcome                                                                                         \
-            returned_poll(found);                                                                           \
-        }                                                                                                   \
-        return code;                                                                                        \
-    }                                                                                                       \
-    ALIAS(name, parameters)
-
-/* A call that completes requests, or ends something: `handles` is looked up at the entry, as MPI nulls the handle. */
-#define WRAP_WITH(lookup, name, parameters, arguments, entry, outcome)                                      \
-    int name parameters                                                                                     \
-    {                                                                                                       \
-        lookup = NULL;                                                                                      \
-        if (enters(#name, SITE)) {                                                                          \
-            entry                                                                                           \
-            entered();                                                                                      \
-        }                                                                                                   \
-        int code = NEXT(name) arguments;                                                                    \
-        if (returns(code)) {                                                                                \
-            outcome                                                                                         \
-            returned();                                                                                     \
-        }                                                                                                   \
-        return code;                                                                                        \
-    }                                                                                                       \
-    ALIAS(name, parameters)
+    WRAPPER(name, parameters, arguments, , entry entered_poll();,                                           \
+            int found = code == MPI_SUCCESS && (flag_is_set); outcome returned_poll(found);)
 
 /* The end of a handle, whose number is free then. */
 #define WRAP_END(name, handle_t, sort, x)                                                                   \
-    WRAP_WITH(struct handle *h, name, (handle_t *x), (x),                                                   \
+    WRAP_WITH(struct handle *h = NULL;, name, (handle_t *x), (x),                                                   \
               h = handle_of(sort, KEY(*x)); put_handle(#handle_t, #x, h);,                                  \
               if (code == MPI_SUCCESS) handle_freed(sort, h);)
+
+#define OPENED(...) __VA_ARGS__     /* a list without its parentheses */
 
 /* MPI 4.0 has many functions twice: with counts of int, and under a name that ends in _c with counts of MPI_Count. Such a
  * wrapper is a macro of that ending, the type of its counts, and that of displacements in lists. */
@@ -91,10 +67,10 @@
 #define COLOR(x) put_color(#x, x);
 #define STRING(x) put_string(#x, x);
 #define OP(x) put_operation(#x, x);
-#define TYPE(x) put_handle("MPI_Datatype", #x, handle_of(DATATYPE, KEY(x)));
-#define COMM(x) put_handle("MPI_Comm", #x, handle_of(COMM, KEY(x)));
-#define GROUP(x) put_handle("MPI_Group", #x, handle_of(GROUP, KEY(x)));
-#define WIN(x) put_handle("MPI_Win", #x, handle_of(WINDOW, KEY(x)));
+#define TYPE(x) put_handle("MPI_Datatype", #x, handle_of(DATATYPES, KEY(x)));
+#define COMM(x) put_handle("MPI_Comm", #x, handle_of(COMMUNICATORS, KEY(x)));
+#define GROUP(x) put_handle("MPI_Group", #x, handle_of(GROUPS, KEY(x)));
+#define WIN(x) put_handle("MPI_Win", #x, handle_of(WINDOWS, KEY(x)));
 #define FH(x) put_handle("MPI_File", #x, handle_of(FILES, KEY(x)));
 /* Lists of counts in a collective call: of all ranks, and of the root alone. */
 #define COUNTS(x) put_list(#x, counts_of(comm), x);

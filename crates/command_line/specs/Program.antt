@@ -252,9 +252,13 @@ wish_in rows = wanted_of (option_and_then sends_named (first_of (codes "sends") 
 abbrev pub init_in : List Row → Option Request
 init_in rows = option_and_then (λ wish. option_map (λ texts. init texts wish) (all_of (codes "TEXT") rows)) (wish_in rows)
 
+-- what the words of a verb of this name ask for
+abbrev pub verb_in : Text → List Row → Option Request
+verb_in name rows = option_and_then (λ verb. files_in verb rows) (form_in name rows)
+
 -- what a subcommand asks for, with its values
 abbrev pub asks_for : Text → List Row → Option Request
-asks_for name rows = if bytes_eq name (codes "init") then init_in rows else if bytes_eq name (codes "cluster") then cluster_in rows else option_and_then (λ verb. files_in verb rows) (form_in name rows)
+asks_for name rows = if bytes_eq name (codes "init") then init_in rows else if bytes_eq name (codes "cluster") then cluster_in rows else verb_in name rows
 
 -- what the subcommand that was met asks for
 abbrev pub request_in : Option (Text × List Row) → Option Request

@@ -12,7 +12,7 @@
 ghost use Rattle.std.specs.Prelude.{◌≡◌, [], IfErr, IfOk, OnOk, Some, codes, false, option_and_then, option_map};
 ghost use Rattle.clap.specs.Words.{app_of, fault_of, found_of, new_app, rows_of, rule_of, subcommand_of, subcommand_rows_of};
 ghost use Rattle.clap.specs.declared.builder.command.Command.TheViews.{out-Command};
-ghost use Rattle.command_line.specs.Program.{Refuses, all_rule, answering, bare, cluster_in, cluster_of, explain_app, extent_in, explain_in, file_rule, files_app, files_in, force_rule, form_in, graph_app, in_form, init_app, init_in, json_rule, layout_rule, wanted_of, wish_in, wish_of, manifest_rule, option_rule, pair_app, pair_in, pair_of, program, rank_rule, report_app, report_in, request_in, request_of, sends_named, sends_rule, several_rule, shown_status_of, text_of, told_in, texts_of, verb_named, with_explain as and_explain, with_files as and_files, with_graph as and_graph, with_init as and_init, with_pair as and_pair, with_report as and_report};
+ghost use Rattle.command_line.specs.Program.{Refuses, all_rule, answering, bare, cluster_in, cluster_of, explain_app, extent_in, explain_in, file_rule, files_app, files_in, force_rule, form_in, graph_app, in_form, init_app, init_in, json_rule, layout_rule, wanted_of, wish_in, wish_of, manifest_rule, option_rule, pair_app, pair_in, pair_of, program, rank_rule, report_app, report_in, request_in, request_of, sends_named, sends_rule, several_rule, shown_status_of, text_of, told_in, verb_in, texts_of, verb_named, with_explain as and_explain, with_files as and_files, with_graph as and_graph, with_init as and_init, with_pair as and_pair, with_report as and_report};
 
 use clap::builder::ValueParser;
 use clap::error::ErrorKind;
@@ -898,6 +898,17 @@ fn asked_in<'a>(alloc: Global, matches: &ArgMatches<'a>) -> Result<Option<Asked<
     if name == "cluster" {
         return Ok(cluster_in(inner));
     }
+    verb_in(alloc, name, inner)
+}
+
+/// A verb of this name over its files, with its flags.
+fn verb_in<'a>(
+    alloc: Global,
+    name: &str,
+    inner: &ArgMatches<'a>,
+) -> Result<Option<Asked<'a>>, AllocError>
+    ensures { IfOk result (λ asked. option_map request_of asked ≡ verb_in name.now (rows_of (found_of inner.now))) }
+{
     match form_in(name, inner) {
         Some(verb) => files_in(alloc, verb, inner),
         None => Ok(None),

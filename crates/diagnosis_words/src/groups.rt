@@ -112,8 +112,12 @@ pub(crate) fn groups_of(source: Source<'_>, ranks: &[u32]) -> Result<Vec<Group>,
         };
         let key = key_of(source, standing)?;
         let known = places.get(&key).copied();
-        match known.and_then(|at| groups.as_mut_slice().get_mut(at)) {
-            Some(group) => group.add(standing)?,
+        match known {
+            Some(at) => {
+                if let Some(group) = groups.as_mut_slice().get_mut(at) {
+                    group.add(standing)?;
+                }
+            }
             None => {
                 places.insert(key, groups.len())?;
                 groups.push(group_of(source.alloc, standing)?)?;

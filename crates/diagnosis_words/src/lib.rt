@@ -6,11 +6,13 @@
 //!
 //! - [`named`]: which calls a diagnosis names; [`texts`]: what the texts tell of them; [`source`]: all that is printed from
 //! - [`json`]: the diagnosis as JSON; [`picture`]: in the language of Graphviz
-//! - [`words`]: in words: what is told, in what order, and where a list is cut; [`one_rank`] and [`last_calls`]: of one rank; [`sentences`]:
+//! - [`words`]: in words: what is told, in what order, and where a list is cut; [`answer_doubts`]: what makes the answer
+//!   doubtful; [`one_rank`] and [`last_calls`]: of one rank; [`sentences`]:
 //!   all sentences; [`writer`], [`functions`], [`calls`]: names of things; [`groups`]: ranks that stand alike
 //! - [`doubtful`]: which functions may wait or move data and aren't read
 #![tactic(auto)]
 
+mod answer_doubts;
 mod calls;
 mod doubtful;
 mod functions;
@@ -26,6 +28,7 @@ mod texts;
 mod words;
 mod writer;
 
+pub use answer_doubts::answer_doubts;
 pub use json::diagnosis_json;
 pub use last_calls::last_calls;
 pub use named::named_calls;

@@ -7,7 +7,7 @@ use crate::words::{clipped, front};
 use crate::writer::Writer;
 use mpi_model::Layout;
 use std::alloc::{AllocError, Global};
-use trace_diagnosis::{Diagnosis, Held, Need, Root};
+use trace_diagnosis::{Diagnosis, Held, Need};
 
 /// The most lines of a list.
 const MOST_SHOWN: usize = 10;
@@ -101,31 +101,25 @@ impl<'a> Writer<'a> {
         if self.all { usize::MAX } else { MOST_SHOWN }
     }
 
-    /// The roots that these words are of.
-    fn put_roots_where(&mut self, rank: u32, head: &[u8], is_asked: fn(&Root, u32) -> bool) {
-        let mut is_first = true;
-        let roots = &self.source.diagnosis.waiting.roots;
-        for root in roots.iter() {
-            if is_asked(root, rank) {
-                if is_first {
-                    self.put(head);
-                    is_first = false;
-                }
-                self.put_root(root);
-            }
-        }
-    }
-
     /// What holds it up, and whether it is part of what holds up the run.
     fn put_rank_roots(&mut self, rank: u32) {
-        self.put_roots_where(
-            rank,
-            b"\nIt is part of what holds up the run:\n",
-            |root, rank| { has(root.ranks.as_slice(), rank) },
-        );
-        self.put_roots_where(rank, b"\nWhat holds it up:\n", |root, rank| {
-            has(root.holds_up.as_slice(), rank)
-        });
+        let roots = &self.source.diagnosis.waiting.roots;
+        let mut told: usize = 0;
+        for root in roots.iter() {
+            if has(root.ranks.as_slice(), rank) {
+                self.put_first_of(told, b"\nIt is part of what holds up the run:\n");
+                self.put_root(root);
+                told = told.saturating_add(1);
+            }
+        }
+        told = 0;
+        for root in roots.iter() {
+            if has(root.holds_up.as_slice(), rank) {
+                self.put_first_of(told, b"\nWhat holds it up:\n");
+                self.put_root(root);
+                told = told.saturating_add(1);
+            }
+        }
     }
 
     /// Who needs it.

@@ -121,15 +121,15 @@ impl TextFacts {
         Ok(())
     }
 
-    /// The call of this number, where a second look found it.
+    /// The call of this number in the first text that has it, where a second look found it.
     fn site(&self, rank: u32, call: u64) -> Option<&PlacedSite> {
-        match self
-            .sites
-            .as_slice()
-            .binary_search_by_key(&(rank, call), |site| (site.rank, site.call))
-        {
-            Ok(at) => self.sites.as_slice().get(at),
-            Err(_) => None,
+        let sites = self.sites.as_slice();
+        let at = sites.partition_point(|site| (site.rank, site.call) < (rank, call));
+        let found = sites.get(at)?;
+        if found.rank == rank && found.call == call {
+            Some(found)
+        } else {
+            None
         }
     }
 

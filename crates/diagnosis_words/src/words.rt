@@ -69,21 +69,35 @@ struct Lists {
     lengths: Vec<usize>,
 }
 
-/// The places of a list, those with a nearest miss first, then those of which none came through before.
-fn places_by<F: Fn(usize) -> u8>(
-    alloc: Global,
-    count: usize,
-    rank: F,
-) -> Result<Vec<usize>, AllocError> {
+/// The places of a list by the order in which its elements are told: 0, 1 or 2.
+fn places_by(alloc: Global, orders: &[u8]) -> Result<Vec<usize>, AllocError> {
     let mut places = Vec::new(alloc);
     for wanted in 0..3 {
-        for i in 0..count {
-            if rank(i) == wanted {
+        for (i, order) in orders.iter().enumerate() {
+            if *order == wanted {
                 places.push(i)?;
             }
         }
     }
     Ok(places)
+}
+
+/// The order of each of these messages.
+fn orders_of_left(alloc: Global, left: &[LeftOver]) -> Result<Vec<u8>, AllocError> {
+    let mut orders = Vec::new(alloc);
+    for one in left {
+        orders.push(order_of_left(one))?;
+    }
+    Ok(orders)
+}
+
+/// The order of each of these receives.
+fn orders_of_starving(alloc: Global, starving: &[Starving]) -> Result<Vec<u8>, AllocError> {
+    let mut orders = Vec::new(alloc);
+    for one in starving {
+        orders.push(order_of_starving(one))?;
+    }
+    Ok(orders)
 }
 
 /// In which order a message is told.
@@ -96,6 +110,7 @@ fn order_of_starving(starving: &Starving) -> u8 {
     order_of(starving.near.is_empty(), starving.before)
 }
 
+/// Those with a nearest miss come first, then those of which none came through before.
 fn order_of(is_far: bool, before: u64) -> u8 {
     if !is_far {
         0
@@ -128,14 +143,8 @@ fn lists_of(source: Source<'_>) -> Result<Lists, AllocError> {
     lengths.push(unmatched.unfinished.len())?;
     Ok(Lists {
         groups,
-        left_over: places_by(alloc, left.len(), |i| match left.get(i) {
-            Some(one) => order_of_left(one),
-            None => 3,
-        })?,
-        starving: places_by(alloc, starving.len(), |i| match starving.get(i) {
-            Some(one) => order_of_starving(one),
-            None => 3,
-        })?,
+        left_over: places_by(alloc, orders_of_left(alloc, left)?.as_slice())?,
+        starving: places_by(alloc, orders_of_starving(alloc, starving)?.as_slice())?,
         lengths,
     })
 }
@@ -151,6 +160,16 @@ fn lines_of(length: usize, cap: usize) -> usize {
     }
 }
 
+/// How many lines all lists have that are cut at so many.
+fn all_lines(lists: &Lists, cap: usize) -> usize {
+    let mut lines: usize = 0;
+    for (i, length) in lists.lengths.iter().enumerate() {
+        let most = if i == 1 { cap } else { cap.min(MOST_SHOWN) };
+        lines = lines.saturating_add(lines_of(*length, most));
+    }
+    lines
+}
+
 /// At how many lines the lists are cut, so that all of them have room.
 fn cap_of(lists: &Lists, all: bool) -> usize {
     if all {
@@ -159,17 +178,11 @@ fn cap_of(lists: &Lists, all: bool) -> usize {
     let room = MOST_LINES
         .saturating_sub(OTHER_LINES)
         .saturating_sub(MOST_MEMBERS);
-    let mut cap = MOST_GROUPS;
-    while cap > FEWEST_SHOWN {
-        let mut lines: usize = 0;
-        for (i, length) in lists.lengths.iter().enumerate() {
-            let most = if i == 1 { cap } else { cap.min(MOST_SHOWN) };
-            lines = lines.saturating_add(lines_of(*length, most));
-        }
-        if lines <= room {
+    for less in 0..MOST_GROUPS {
+        let cap = MOST_GROUPS.saturating_sub(less);
+        if cap <= FEWEST_SHOWN || all_lines(lists, cap) <= room {
             return cap;
         }
-        cap -= 1;
     }
     FEWEST_SHOWN
 }
@@ -311,13 +324,19 @@ impl<'a> Writer<'a> {
     }
 }
 
-/// Where a line is cut: before a character of UTF-8.
+/// Whether a byte goes on with a character of UTF-8.
+fn goes_on(byte: u8) -> bool {
+    byte & 0xC0 == 0x80
+}
+
+/// Where a line is cut: before a character of UTF-8, which has four bytes at most.
 fn cut_of(line: &[u8]) -> usize {
-    let mut at = LONGEST_LINE.saturating_sub(3);
-    while at > 0 {
-        match line.get(at) {
-            Some(byte) if *byte & 0xC0 == 0x80 => at -= 1,
-            _ => return at,
+    for back in 3..7 {
+        let at = LONGEST_LINE.saturating_sub(back);
+        if let Some(byte) = line.get(at) {
+            if !goes_on(*byte) {
+                return at;
+            }
         }
     }
     0

@@ -3,7 +3,7 @@ use Rattle.std.proofs.Common.{◌≡◌, ℕ, ℤ, Bool, true, false, ◌||◌, 
 use Rattle.std.proofs.lemmas.List.{append-nil}
 use Rattle.std.proofs.lemmas.Slice.Eq.{bytes_eq-Decides}
 use Rattle.std.specs.Str.{bytes_eq}
-use Rattle.mpi_model.specs.Kinds.{KindFunction, has_root, row as kind_row}
+use Rattle.mpi_model.specs.Kinds.{has_nonblocking, has_root, row as kind_row}
 use Rattle.mpi_model.specs.declared.kind.ObjectParameter.{ObjectParameter}
 use Rattle.mpi_model.specs.declared.kind.ObjectParameter.TheVariants as objects
 use Rattle.mpi_model.specs.declared.object.Object.{Object}
@@ -22,7 +22,7 @@ use Rattle.dumpi_text.specs.Kept.{kept_after, kept_call, more_kept}
 use Rattle.dumpi_calls.specs.Looked.{is_named_in, looked_choice, looked_parameters}
 use Rattle.dumpi_calls.specs.Outcomes.{all_done, any_done, flag, groups_in, index, index_where_set, indices_in, is_flagged, outcome_in, posted, posted_or_nothing, started, several, status, statuses}
 use Rattle.dumpi_calls.specs.Readings.{◌>>=◌, asked_tag_in, comm_in, dest_in, name_of, non_negative_in, number_in, numbers_in, named_in, first_object, object_from, object_in, object_parameters, or_the_next, request_in, requests_in, root_in, root_named, source_in, text_of}
-use Rattle.dumpi_calls.specs.Rows.{Row, cancel_call, collective_call, collective_in, collective_parameters, envelope_of, envelope_of_receive, envelope_of_send, exit_in, first_missing, free_call, function_named, icollective_call, improbe_call, iprobe_call, object_call, object_or_local, probe_or_local, irecv_call, isend_call, missing_by, missing_in, mprobe_call, probe_call, probe_parameters, probed_in, read_by, receive_parameters, receive_part, recv_call, recv_init_call, returned, row, send_call, send_init_call, send_parameters, send_part, sendrecv_call, sendrecv_parameters, sendrecv_replace_call, sendrecv_replace_parameters, start_call, startall_call, test_call, testall_call, testany_call, testsome_call, typed, typed_by, unless_missing, wait_call, waitall_call, waitany_call, waitsome_call}
+use Rattle.dumpi_calls.specs.Rows.{Row, cancel_call, collective_call, collective_in, collective_parameters, envelope_of, envelope_of_receive, envelope_of_send, exit_in, first_missing, free_call, function_named, icollective_call, improbe_call, iprobe_call, is_started, made_on, object_call, object_or_local, probe_or_local, started_call, started_request, irecv_call, isend_call, missing_by, missing_in, mprobe_call, probe_call, probe_parameters, probed_in, read_by, receive_parameters, receive_part, recv_call, recv_init_call, returned, row, send_call, send_init_call, send_parameters, send_part, sendrecv_call, sendrecv_parameters, sendrecv_replace_call, sendrecv_replace_parameters, start_call, startall_call, test_call, testall_call, testany_call, testsome_call, typed, typed_by, unless_missing, wait_call, waitall_call, waitany_call, waitsome_call}
 use Rattle.dumpi_calls.specs.declared.envelope.Part.{Part}
 use Rattle.dumpi_calls.specs.declared.function.Function.{Function}
 use Rattle.dumpi_calls.specs.declared.function.Function.TheVariants as functions
@@ -488,12 +488,21 @@ collective_typed kind name a b s =
     typed_same (row (functions.Collective kind) name) a b (group_missing (has_root kind) a b s) refl s.exit
     (read_as {A = CollectiveCall} (λ value. calls.Collective value) (collective_in kind a) (collective_in kind b) a b (collective_same kind a b s) s.enter s.exit (λ value. refl))
 
+request_missing : (is : Bool) (a b : TextCall) → text_of Request a ≡ text_of Request b → first_missing (started_request is) a ≡ first_missing (started_request is) b
+request_missing true a b e = missing_same (Request ∷ []) a b (e, tt)
+request_missing false a b e = refl
+
+started_outcome : (is : Bool) (value : CollectiveCall) (a b : TextCall) → text_of Request a ≡ text_of Request b → outcome_in (started_call is value) a ≡ outcome_in (started_call is value) b
+started_outcome true value a b e = started_same (kind_row value.kind).is_communication a b e
+started_outcome false value a b e = refl
+
 icollective_typed : (kind : Kind) (name : List ℕ) (a b : TextCall) → SameTold (looked_parameters (functions.Icollective kind)) a b → typed_by (row (functions.Icollective kind) name) a ≡ typed_by (row (functions.Icollective kind) name) b
 unfolding read_by icollective_call
 icollective_typed kind name a b s =
     let group = told_beyond Request (collective_parameters kind) a b s in
-    typed_same (row (functions.Icollective kind) name) a b (group_missing (has_root kind) a b group) (missing_same (Request ∷ []) a b (s.texts Request refl, tt)) s.exit
-    (read_as {A = CollectiveCall} (λ value. calls.Icollective value) (collective_in kind a) (collective_in kind b) a b (collective_same kind a b group) s.enter s.exit (λ value. started_same (kind_row value.kind).is_communication a b (s.texts Request refl)))
+    typed_same (row (functions.Icollective kind) name) a b (group_missing (has_root kind) a b group) (request_missing (is_started kind) a b (s.texts Request refl)) s.exit
+    (read_as {A = CollectiveCall} (λ value. started_call (is_started kind) value) (collective_in kind a) (collective_in kind b) a b (collective_same kind a b group) s.enter s.exit
+    (λ value. started_outcome (is_started kind) value a b (s.texts Request refl)))
 
 -- ---- collective calls on objects, and probes that don't wait
 
@@ -509,21 +518,26 @@ object_same : (kind : Kind) (a b : TextCall) → SameTold (object_parameters (ki
 unfolding object_in
 object_same kind a b s = first_object_same (kind_row kind).object (object_parameters (kind_row kind).parameter) a b (same_of (kind_row kind).parameter a b s)
 
-object_outcome : (f : KindFunction) (found : Option CommRef) (a b : TextCall) → text_of Request a ≡ text_of Request b → outcome_in (object_or_local f found) a ≡ outcome_in (object_or_local f found) b
-object_outcome f None a b e = refl
-object_outcome f (Some comm) a b e = each f.nonblocking
-  where
-    each : (nonblocking : Bool) → (let call = if nonblocking then calls.Icollective (record { kind = f.kind; root = None; comm = comm }) else calls.Collective (record { kind = f.kind; root = None; comm = comm }) in outcome_in call a ≡ outcome_in call b)
-    each true = started_same (kind_row f.kind).is_communication a b e
-    each false = refl
+made_outcome : (is_communication has nonblocking : Bool) (value : CollectiveCall) (a b : TextCall) → text_of Request a ≡ text_of Request b
+    → outcome_in (made_on is_communication has nonblocking value) a ≡ outcome_in (made_on is_communication has nonblocking value) b
+made_outcome true has nonblocking value a b e = refl
+made_outcome false has false value a b e = refl
+made_outcome false true true value a b e = started_same (kind_row value.kind).is_communication a b e
+made_outcome false false true value a b e = refl
 
-object_typed : (function : KindFunction) (name : List ℕ) (a b : TextCall) → SameTold (looked_parameters (functions.OnObject function)) a b → typed_by (row (functions.OnObject function) name) a ≡ typed_by (row (functions.OnObject function) name) b
+object_outcome : (kind : Kind) (nonblocking : Bool) (found : Option CommRef) (a b : TextCall) → text_of Request a ≡ text_of Request b
+    → outcome_in (object_or_local kind nonblocking found) a ≡ outcome_in (object_or_local kind nonblocking found) b
+object_outcome kind nonblocking None a b e = refl
+object_outcome kind nonblocking (Some comm) a b e = made_outcome (kind_row kind).is_communication (has_nonblocking kind) nonblocking (record { kind = kind; root = None; comm = comm }) a b e
+
+object_typed : (kind : Kind) (nonblocking : Bool) (name : List ℕ) (a b : TextCall) → SameTold (looked_parameters (functions.OnObject kind nonblocking)) a b
+    → typed_by (row (functions.OnObject kind nonblocking) name) a ≡ typed_by (row (functions.OnObject kind nonblocking) name) b
 unfolding read_by object_call
-object_typed function name a b s =
-    let named = told_beyond Request (object_parameters (kind_row function.kind).parameter) a b s in
-    typed_same (row (functions.OnObject function) name) a b refl refl s.exit
-    (ap (λ (found : Option CommRef). read_from (Ok (object_or_local function found)) a) (object_same function.kind a b named)
-    ∙ read_one (object_or_local function (object_in function.kind b)) a b s.enter s.exit (object_outcome function (object_in function.kind b) a b (s.texts Request refl)))
+object_typed kind nonblocking name a b s =
+    let named = told_beyond Request (object_parameters (kind_row kind).parameter) a b s in
+    typed_same (row (functions.OnObject kind nonblocking) name) a b refl refl s.exit
+    (ap (λ (found : Option CommRef). read_from (Ok (object_or_local kind nonblocking found)) a) (object_same kind a b named)
+    ∙ read_one (object_or_local kind nonblocking (object_in kind b)) a b s.enter s.exit (object_outcome kind nonblocking (object_in kind b) a b (s.texts Request refl)))
 
 iprobe_outcome : (said : Result Probed CallFault) (a b : TextCall) → text_of Flag a ≡ text_of Flag b → text_of Status a ≡ text_of Status b → outcome_in (probe_or_local said) a ≡ outcome_in (probe_or_local said) b
 iprobe_outcome (Err fault) a b f s = refl
@@ -578,7 +592,7 @@ by_row functions.Cancel name a b s = cancel_typed name a b s
 by_row functions.Free name a b s = free_typed name a b s
 by_row (functions.Collective kind) name a b s = collective_typed kind name a b s
 by_row (functions.Icollective kind) name a b s = icollective_typed kind name a b s
-by_row (functions.OnObject function) name a b s = object_typed function name a b s
+by_row (functions.OnObject kind nonblocking) name a b s = object_typed kind nonblocking name a b s
 by_row (functions.SendInit mode) name a b s = send_init_typed mode name a b s
 by_row functions.RecvInit name a b s = recv_init_typed name a b s
 by_row functions.Start name a b s = start_typed name a b s

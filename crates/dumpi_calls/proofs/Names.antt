@@ -1,6 +1,5 @@
 -- Names, byte by byte.
-use Rattle.std.proofs.Common.{◌≡◌, ◌≢◌, ◌&&◌, ℕ, suc, Bool, true, false, not, List, [], ◌∷◌, length, take, codes, Option, Some, None, option_map, ap, refl, sym, nat_eq, arith, ◌∙◌}
-use Rattle.std.specs.Prelude.{if◌then◌else◌}
+use Rattle.std.proofs.Common.{◌≡◌, ◌≢◌, ◌&&◌, ℕ, suc, Bool, true, false, List, [], ◌∷◌, length, take, Some, ap, refl, nat_eq, arith, ◌∙◌}
 use Rattle.std.specs.Str.{bytes_eq}
 use Rattle.std.proofs.lemmas.List.{take_all}
 use Rattle.std.proofs.lemmas.Slice.Eq.{bytes_eq-Decides}

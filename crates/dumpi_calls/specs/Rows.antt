@@ -1,5 +1,5 @@
 -- The table of functions: its callback, its entry and outcome parameters, and how these are read.
-use Rattle.std.specs.Prelude.{ℕ, ◌-◌, List, [], ◌∷◌, length, take, drop, Option, Some, None, option_map, Result, Ok, Err, Bool, true, false, ◌||◌, ◌&&◌, ◌==◌, slice_get, codes, if◌then◌else◌}
+use Rattle.std.specs.Prelude.{ℕ, ◌-◌, List, [], ◌∷◌, length, take, drop, Option, Some, None, option_map, Result, Ok, Err, Bool, true, false, ◌||◌, ◌&&◌, codes, if◌then◌else◌}
 use Rattle.std.specs.Str.{bytes_eq}
 use Rattle.mpi_model.specs.Kinds.{KindFunction, all_kinds, function_name, has_nonblocking, has_root, row as kind_row}
 use Rattle.mpi_model.specs.Ranges.{CollectiveCall, Probed}
@@ -148,16 +148,11 @@ abbrev pub first_called : List ℕ → List Kind → Option KindFunction
 first_called name [] = None
 first_called name (kind ∷ kinds) = or_called (called_of name kind) (first_called name kinds)
 
--- the kind of a nonblocking communication
-abbrev pub nonblocking_communication : KindFunction → Option Kind
-nonblocking_communication f = if f.nonblocking && (kind_row f.kind).is_communication then Some f.kind else None
-
 -- a collective communication, or any other collective function
 abbrev pub function_of_called : KindFunction → Function
 function_of_called f =
-    if f.nonblocking && (kind_row f.kind).is_communication then functions.Icollective f.kind
-    else if (kind_row f.kind).is_communication then functions.Collective f.kind
-    else functions.OnObject f
+    if (kind_row f.kind).is_communication then (if f.nonblocking then functions.Icollective f.kind else functions.Collective f.kind)
+    else functions.OnObject f.kind f.nonblocking
 
 -- collective functions, by the table of their kinds; MPI has none that is named `MPI_Ibarrier_c`
 unfoldable pub collective_named : List ℕ → Option Function
@@ -457,22 +452,43 @@ collective_call kind call = do
   collective ← collective_in kind call
   Ok (calls.Collective collective)
 
+-- the kind is a communication with a nonblocking function, as that of each nonblocking communication by its name is
+abbrev pub is_started : Kind → Bool
+is_started kind = has_nonblocking kind && (kind_row kind).is_communication
+
+-- the call, where there is such a function
+abbrev pub started_call : Bool → CollectiveCall → Call
+started_call true collective = calls.Icollective collective
+started_call false collective = calls.Local
+
+-- its request
+abbrev pub started_request : Bool → List Parameter
+started_request true = Request ∷ []
+started_request false = []
+
 -- a nonblocking collective call of a kind
 unfoldable pub icollective_call : Kind → TextCall → Result Call CallFault
 icollective_call kind call = do
   collective ← collective_in kind call
-  Ok (calls.Icollective collective)
+  Ok (started_call (is_started kind) collective)
 
--- a collective call that was read, or a local one
-abbrev pub object_or_local : KindFunction → Option CommRef → Call
-object_or_local f None = calls.Local
-object_or_local f (Some comm) =
-    if f.nonblocking then calls.Icollective (record { kind = f.kind; root = None; comm = comm })
-    else calls.Collective (record { kind = f.kind; root = None; comm = comm })
+-- A collective call on an object, by whether its kind is a communication and has a nonblocking function, and whether the call is
+-- nonblocking. No name is that of such a function of a communication, nor of a nonblocking one that isn't there.
+abbrev pub made_on : Bool → Bool → Bool → CollectiveCall → Call
+made_on true has_nonblocking nonblocking collective = calls.Local
+made_on false has_nonblocking false collective = calls.Collective collective
+made_on false true true collective = calls.Icollective collective
+made_on false false true collective = calls.Local
+
+-- a collective call whose object was read, or a local one
+abbrev pub object_or_local : Kind → Bool → Option CommRef → Call
+object_or_local kind nonblocking None = calls.Local
+object_or_local kind nonblocking (Some comm) =
+    made_on (kind_row kind).is_communication (has_nonblocking kind) nonblocking (record { kind = kind; root = None; comm = comm })
 
 -- a call of a collective function on an object: local where it doesn't name its object
-unfoldable pub object_call : KindFunction → TextCall → Result Call CallFault
-object_call f call = Ok (object_or_local f (object_in f.kind call))
+unfoldable pub object_call : Kind → Bool → TextCall → Result Call CallFault
+object_call kind nonblocking call = Ok (object_or_local kind nonblocking (object_in kind call))
 
 -- a probe that was read, or a local call
 abbrev pub probe_or_local : Result Probed CallFault → Call
@@ -564,8 +580,8 @@ row functions.Testsome name = record { callback = always_told OnTestsome; entry 
 row functions.Cancel name = record { callback = always_told OnCancel; entry = Request ∷ []; outcome = always []; call = cancel_call }
 row functions.Free name = record { callback = always_told OnRequestFree; entry = Request ∷ []; outcome = always []; call = free_call }
 row (functions.Collective kind) name = record { callback = always_told OnCollective; entry = collective_parameters kind; outcome = always []; call = collective_call kind }
-row (functions.Icollective kind) name = record { callback = always_told OnIcollective; entry = collective_parameters kind; outcome = always (Request ∷ []); call = icollective_call kind }
-row (functions.OnObject function) name = record { callback = object_told name; entry = []; outcome = always []; call = object_call function }
+row (functions.Icollective kind) name = record { callback = always_told OnIcollective; entry = collective_parameters kind; outcome = always (started_request (is_started kind)); call = icollective_call kind }
+row (functions.OnObject kind nonblocking) name = record { callback = object_told name; entry = []; outcome = always []; call = object_call kind nonblocking }
 row (functions.SendInit mode) name = record { callback = always_told OnSendInit; entry = send_parameters; outcome = always (Request ∷ []); call = send_init_call mode }
 row functions.RecvInit name = record { callback = always_told OnRecvInit; entry = receive_parameters; outcome = always (Request ∷ []); call = recv_init_call }
 row functions.Start name = record { callback = always_told OnStart; entry = Request ∷ []; outcome = always []; call = start_call }

@@ -1,97 +1,11 @@
 //! The functions of the profile, by their names.
 
-ghost use Rattle.std.specs.Prelude.{◌≡◌, SomeIff, true, false};
+ghost use Rattle.std.specs.Prelude.{◌≡◌, true, false};
 ghost use Rattle.std.specs.Str.{bytes_eq};
-ghost use Rattle.dumpi_calls.specs.Rows.{called_of, collective_named, completion_named, ending_named, first_called, function_in, function_named, function_of_called, init_named, is_called, is_long_init, is_long_receive, is_long_send, is_unread_name, isend_named, matched_named, message_named, nonblocking_communication, other_named, persistent_named, receive_named, send_named, short_name, start_named, test_named, unread_named};
-ghost use Rattle.mpi_model.specs.Kinds.{has_nonblocking, row};
+ghost use Rattle.dumpi_calls.specs.Rows.{called_of, collective_named, completion_named, ending_named, first_called, function_in, function_named, function_of_called, init_named, is_called, is_long_init, is_long_receive, is_long_send, is_unread_name, isend_named, matched_named, message_named, other_named, persistent_named, receive_named, send_named, short_name, start_named, test_named, unread_named};
 
 use dumpi_text::RawCall;
 use mpi_model::{CollectiveFunction, Kind, Mode};
-use std::marker::Model;
-
-/// The kind of a collective communication that has a nonblocking function.
-#[derive(Clone, Copy, Debug, PartialEq, Eq)]
-pub struct NonblockingCommunication {
-    kind: Kind,
-}
-
-impl Model for NonblockingCommunication {
-    ghost use Rattle.std.specs.Prelude.{◌≡◌, true};
-    ghost use Rattle.mpi_model.specs.Kinds.{has_nonblocking, row};
-    ghost use Rattle.mpi_model.specs.declared.kind.Kind.{Kind};
-
-    ghost Value = { Kind };
-
-    ghost view = { λ k. k.kind };
-
-    ghost invariant = { λ k. (has_nonblocking k.kind ≡ true) × ((row k.kind).is_communication ≡ true) };
-
-    ghost inverse = { λ k. record { kind = k } };
-}
-
-impl NonblockingCommunication {
-    /// The kind of the function, where it is nonblocking and a communication.
-    pub fn of(function: CollectiveFunction) -> Option<NonblockingCommunication>
-        ensures { result ≡ nonblocking_communication function }
-    {
-        function.known();
-        let kind = function.kind();
-        if function.is_nonblocking() && kind.row().is_communication {
-            Some(NonblockingCommunication { kind })
-        } else {
-            None
-        }
-    }
-
-    /// The kind.
-    pub fn kind(self) -> Kind
-        ensures value { result ≡ self }
-        ensures nonblocking { has_nonblocking self ≡ true }
-        ensures communication { (row self).is_communication ≡ true }
-    {
-        self.kind
-    }
-}
-
-/// A collective function that is no communication.
-#[derive(Clone, Copy, Debug, PartialEq, Eq)]
-pub struct ObjectFunction {
-    function: CollectiveFunction,
-}
-
-impl Model for ObjectFunction {
-    ghost use Rattle.std.specs.Prelude.{◌≡◌, false};
-    ghost use Rattle.mpi_model.specs.Kinds.{KindFunction, row};
-
-    ghost Value = { KindFunction };
-
-    ghost view = { λ f. f.function };
-
-    ghost invariant = { λ f. (row f.function.kind).is_communication ≡ false };
-
-    ghost inverse = { λ f. record { function = f } };
-}
-
-impl ObjectFunction {
-    /// The function, where it is no communication.
-    pub fn of(function: CollectiveFunction) -> Option<ObjectFunction>
-        ensures { SomeIff result ((row function.kind).is_communication ≡ false) function }
-    {
-        if function.kind().row().is_communication {
-            None
-        } else {
-            Some(ObjectFunction { function })
-        }
-    }
-
-    /// The function.
-    pub fn function(self) -> CollectiveFunction
-        ensures value { result ≡ self }
-        ensures object { (row self.kind).is_communication ≡ false }
-    {
-        self.function
-    }
-}
 
 /// A function by its name.
 #[derive(Clone, Copy, Debug, PartialEq, Eq)]
@@ -122,10 +36,10 @@ pub enum Function {
     /// A blocking function of collective communication (MPI 4.0, chapter 6).
     Collective(Kind),
     /// A nonblocking one (MPI 4.0, 6.12).
-    Icollective(NonblockingCommunication),
+    Icollective(Kind),
     /// Any other collective function, on a communicator, a window or a file (MPI 4.0, chapters 7, 8,
-    /// 11, 12 and 14). A call of it that doesn't name its object is local.
-    OnObject(ObjectFunction),
+    /// 11, 12 and 14): of a kind, and whether it is nonblocking. A call of it that doesn't name its object is local.
+    OnObject(Kind, bool),
     /// `MPI_Send_init`, `MPI_Ssend_init`, `MPI_Bsend_init`, `MPI_Rsend_init`.
     SendInit(Mode),
     RecvInit,
@@ -384,12 +298,15 @@ fn first_called(name: &[u8], short: &[u8], kinds: &[Kind]) -> Option<CollectiveF
 fn function_of_called(function: CollectiveFunction) -> Function
     ensures { result ≡ function_of_called function }
 {
-    match NonblockingCommunication::of(function) {
-        Some(kind) => Function::Icollective(kind),
-        None => match ObjectFunction::of(function) {
-            Some(function) => Function::OnObject(function),
-            None => Function::Collective(function.kind()),
-        },
+    let kind = function.kind();
+    if kind.row().is_communication {
+        if function.is_nonblocking() {
+            Function::Icollective(kind)
+        } else {
+            Function::Collective(kind)
+        }
+    } else {
+        Function::OnObject(kind, function.is_nonblocking())
     }
 }
 

@@ -316,7 +316,7 @@ pub fn usual_name(function: Function) -> &'static str
 
 /// The function whose entering line may stand in front of a text, by a few bytes of its name: no other of those that are
 /// read in place has them.
-#[tactic(auto, unfolding(crate::specs::Rows::function_named, crate::specs::Rows::collective_named))]
+#[tactic(auto, using(crate::proofs::UsualNames::named_send, crate::proofs::UsualNames::named_ssend, crate::proofs::UsualNames::named_isend, crate::proofs::UsualNames::named_issend, crate::proofs::UsualNames::named_recv, crate::proofs::UsualNames::named_irecv, crate::proofs::UsualNames::named_wait, crate::proofs::UsualNames::named_waitall, crate::proofs::UsualNames::named_barrier, crate::proofs::UsualNames::named_bcast, crate::proofs::UsualNames::named_allreduce, crate::proofs::UsualNames::named_allgather, crate::proofs::UsualNames::named_alltoall, crate::proofs::UsualNames::named_scatter, crate::proofs::UsualNames::named_gather, crate::proofs::UsualNames::named_reduce))]
 fn likely_function(text: &[u8]) -> Option<Function>
     ensures word { IfSome result (λ function. is_word (usual_name function) ≡ true) }
     ensures named { IfSome result (λ function. function_named (usual_name function) ≡ function) }

@@ -71,9 +71,9 @@ fn looked_parameters(function: Function) -> &'static [Parameter]
         Function::Startall => &[Requests],
         Function::Collective(kind) if kind.has_root() => &[Root, Comm],
         Function::Collective(_) => &[Comm],
-        Function::Icollective(kind) if kind.kind().has_root() => &[Request, Root, Comm],
+        Function::Icollective(kind) if kind.has_root() => &[Request, Root, Comm],
         Function::Icollective(_) => &[Request, Comm],
-        Function::OnObject(function) => looked_on(function.function().kind().row().parameter),
+        Function::OnObject(kind, _) => looked_on(kind.row().parameter),
         Function::Unread | Function::Finalize | Function::Other => &[],
     }
 }

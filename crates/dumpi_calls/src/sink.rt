@@ -361,7 +361,7 @@ pub fn hand_on<S: CallSink>(
         Function::Free => sink.on_request_free(call, enter, exit),
         Function::Collective(_) => sink.on_collective(call, enter, exit),
         Function::Icollective(_) => sink.on_icollective(call, enter, exit),
-        Function::OnObject(_) => hand_on_object(sink, name, call, enter, exit),
+        Function::OnObject(_, _) => hand_on_object(sink, name, call, enter, exit),
         Function::SendInit(_) => sink.on_send_init(call, enter, exit),
         Function::RecvInit => sink.on_recv_init(call, enter, exit),
         Function::Start => sink.on_start(call, enter, exit),

@@ -7,7 +7,7 @@ use trace_ops::RankOps;
 use trace_pair::PairTable;
 
 /// Of the patterns that are asked for, how many messages of pairs suit them.
-#[derive(Debug, Drop)]
+#[derive(Drop)]
 pub(crate) struct Through {
     counts: BTreeMap<Pattern, u64>,
 }

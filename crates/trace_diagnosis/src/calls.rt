@@ -4,7 +4,7 @@ use mpi_model::{Call, Event, OpName, Outs};
 use trace_know::{Cell, Knowledge, Readable};
 
 /// A call that was entered, with its outcome, where it has returned.
-#[derive(Clone, Copy, Debug)]
+#[derive(Clone, Copy)]
 pub(crate) struct Called<'a> {
     pub call: &'a Call,
     pub outs: Option<&'a Outs>,

@@ -35,7 +35,7 @@ pub(crate) struct Case<'a> {
 }
 
 /// A rank that polls.
-#[derive(Debug, Drop)]
+#[derive(Drop)]
 pub(crate) struct Poller<'a> {
     pub rank: u32,
     pub tail: Tail,
@@ -50,7 +50,7 @@ pub(crate) fn pollers_of<'a>(
     cut: &[bool],
     ranks: u32,
 ) -> Result<Vec<Poller<'a>>, AllocError>
-    ensures { IfOk result (All (λ p. p.rank < length ops.now)) }
+    ensures { IfOk result (λ pollers. All (λ p. p.rank < length ops.now) pollers.items) }
 {
     let mut pollers = Vec::new(alloc);
     for rank in 0..ranks {

@@ -27,7 +27,7 @@ pub struct Diagnosis {
 }
 
 /// The times of a run.
-#[derive(Clone, Copy, Debug, PartialEq, Eq)]
+#[derive(Clone, Copy, Debug)]
 pub struct Times {
     /// The first wall time of a readable Enter.
     pub begin: Option<u64>,
@@ -256,14 +256,14 @@ pub enum Why {
 }
 
 /// A receive that a message misses by little.
-#[derive(Clone, Copy, Debug, PartialEq, Eq)]
+#[derive(Clone, Copy, Debug)]
 pub struct NearReceive {
     pub why: Why,
     pub receive: Receive,
 }
 
 /// A message that a receive misses by little.
-#[derive(Clone, Copy, Debug, PartialEq, Eq)]
+#[derive(Clone, Copy, Debug)]
 pub struct NearMessage {
     pub why: Why,
     pub message: Message,
@@ -287,7 +287,7 @@ pub struct Doubts {
 }
 
 /// An object that calls name and the layout doesn't know for them.
-#[derive(Clone, Copy, Debug, PartialEq, Eq)]
+#[derive(Clone, Copy, Debug)]
 pub struct Foreign {
     /// Of which sort it is.
     pub object: Object,

@@ -7,7 +7,7 @@ use std::alloc::{AllocError, Global};
 use std::collections::BTreeMap;
 
 /// The first three things of each pattern that is asked for, by their places.
-#[derive(Debug, Drop)]
+#[derive(Drop)]
 pub(crate) struct Firsts {
     places: BTreeMap<Pattern, Vec<usize>>,
 }

@@ -16,7 +16,7 @@ use trace_ops::State;
 use trace_stuck::{Condition, turned};
 
 /// The graph, with its edges also the other way round.
-#[derive(Debug, Drop)]
+#[derive(Drop)]
 pub(crate) struct Graph {
     /// Of each rank what it needs.
     pub needs: Vec<Vec<Need>>,

@@ -16,7 +16,7 @@ use std::alloc::AllocError;
 use trace_stuck::Condition;
 
 /// Those that can go on, but for one rank.
-#[derive(Clone, Copy, Debug)]
+#[derive(Clone, Copy)]
 pub(crate) struct Going<'a> {
     /// Of each rank, whether it can go on.
     pub able: &'a [bool],

@@ -17,7 +17,7 @@ use trace_know::Knowledge;
 use trace_ops::{RankOps, is_foreign};
 
 /// The inits that aren't active, as the messages and receives that they describe, by name.
-#[derive(Debug, Drop)]
+#[derive(Drop)]
 pub(crate) struct Idle {
     pub messages: Vec<Message>,
     pub receives: Vec<Receive>,

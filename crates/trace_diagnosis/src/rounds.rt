@@ -14,7 +14,7 @@ use trace_stuck::RoundName;
 use trace_wait::{Entries, Round, Standing};
 
 /// A member that has entered a round, with its call.
-#[derive(Clone, Copy, Debug)]
+#[derive(Clone, Copy)]
 struct Entrant {
     rank: u32,
     entered: Entered,

@@ -10,7 +10,7 @@ pub(crate) type Key = (u32, u32, Option<u32>, Option<u32>);
 pub(crate) const MOST_NEAR: usize = 3;
 
 /// A thing with its value: its place in a list.
-#[derive(Clone, Copy, Debug, PartialEq, Eq)]
+#[derive(Clone, Copy)]
 struct Placed {
     value: u32,
     place: usize,
@@ -18,7 +18,7 @@ struct Placed {
 
 /// Under each key things in the order in which they were put there, of each value the first three: of those that differ from
 /// a value the first three are among them.
-#[derive(Debug, Drop)]
+#[derive(Drop)]
 pub(crate) struct Shelf {
     things: BTreeMap<Key, Vec<Placed>>,
     counts: BTreeMap<(Key, u32), usize>,

@@ -20,7 +20,7 @@ use trace_ops::{RankOps, is_foreign, probed};
 use trace_pair::{Ends, PairsByReceive, Reaches};
 
 /// The messages under one pattern, and how many in front of them open receives may have taken.
-#[derive(Debug, Drop)]
+#[derive(Drop)]
 struct Waiting<'a> {
     messages: Vec<&'a Message>,
     passed: usize,

@@ -12,21 +12,21 @@ use trace_ops::RankOps;
 use trace_pair::{Ends, PairTable, Reaches};
 
 /// A message, with the receive that has or may have taken it.
-#[derive(Clone, Copy, Debug, PartialEq, Eq)]
+#[derive(Clone, Copy)]
 pub(crate) struct TakenBy {
     pub message: Message,
     pub by: OpName,
 }
 
 /// The receives of a pattern by their places, in the order of their calls. From `full` on all have found three messages.
-#[derive(Debug, Drop)]
+#[derive(Drop)]
 struct Askers {
     places: Vec<usize>,
     full: usize,
 }
 
 /// What a receive names: whether it leaves its source open, and its tag.
-#[derive(Clone, Copy, Debug, PartialEq, Eq)]
+#[derive(Clone, Copy)]
 struct Leaves {
     source: bool,
     tag: bool,

@@ -79,7 +79,7 @@ impl<'a> Run<'a> {
 }
 
 /// What starves and what is left over.
-#[derive(Debug, Drop)]
+#[derive(Drop)]
 struct Found {
     left: Vec<Message>,
     starving: Vec<Receive>,
@@ -208,7 +208,7 @@ fn patterns_of_messages(alloc: Global, messages: &[Message]) -> Result<Vec<Patte
 }
 
 /// What messages that are left over may miss by little.
-#[derive(Debug, Drop)]
+#[derive(Drop)]
 struct AllReceives {
     tag: NearReceives,
     comm: NearReceives,

@@ -179,7 +179,7 @@ fn nothing_unmatched(alloc: Global, ops: &[RankOps]) -> Result<Unmatched, AllocE
 }
 
 /// Who waits for whom, which messages and receives found no end, and who is stuck under the other kind of sends.
-#[derive(Debug, Drop)]
+#[derive(Drop)]
 struct Matters {
     held: Vec<Held>,
     roots: Vec<Root>,

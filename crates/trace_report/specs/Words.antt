@@ -1,5 +1,5 @@
 -- The words of a report.
-use Rattle.std.specs.Prelude.{Bool, List, [], ◌∷◌, ◌++◌, ◌+◌, ◌&&◌, ◌==◌, ℕ, codes, decimal, nat_le, if◌then◌else◌}
+use Rattle.std.specs.Prelude.{Bool, List, [], ◌∷◌, ◌++◌, ◌+◌, ◌&&◌, ◌==◌, ℕ, Option, Some, None, codes, decimal, drop, nat_le, slice_get, if◌then◌else◌}
 use Rattle.mpi_model.specs.Kinds.{KindFunction, short_name}
 use Rattle.mpi_model.specs.declared.layout.Sends.{Sends}
 use Rattle.mpi_model.specs.declared.layout.Sends.TheVariants.{Wait, Buffer}
@@ -29,10 +29,14 @@ part_text lead part = if part == 0 then [] else lead ++ decimal part
 abbrev pub small : ℕ → ℕ
 small letter = if nat_le 65 letter && nat_le letter 90 then letter + 32 else letter
 
+-- a first letter in its small form, where there is one
+abbrev pub small_first : Option ℕ → List ℕ
+small_first (Some letter) = small letter ∷ []
+small_first None = []
+
 -- a name with its first letter in its small form
 abbrev pub begun_small : List ℕ → List ℕ
-begun_small [] = []
-begun_small (letter ∷ letters) = small letter ∷ letters
+begun_small name = small_first (slice_get name 0) ++ drop 1 name
 
 -- a collective function: its name without `MPI_`, in small letters, as `bcast`, `ibcast` and `comm_split`; only the first letter
 -- of a name isn't small there

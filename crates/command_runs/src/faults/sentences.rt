@@ -199,6 +199,7 @@ pub(crate) fn wanted_text(parameter: Parameter) -> &'static str
     ensures { result.now ≡ wanted_text parameter }
 {
     match parameter {
+        Parameter::Win | Parameter::Fh | Parameter::File => "a number from 0 to 2147483647",
         Parameter::Count | Parameter::SendCount | Parameter::RecvCount | Parameter::SendTag => {
             "a number from 0 to 2147483647"
         }
@@ -213,7 +214,9 @@ pub(crate) fn wanted_text(parameter: Parameter) -> &'static str
             "a number from 0 to 2147483647, and of a receive also -1 or (MPI_ANY_TAG)"
         }
         Parameter::RecvTag => "a number from 0 to 2147483647, or -1 or (MPI_ANY_TAG)",
-        Parameter::Comm => "a number from 0 to 2147483647, or (MPI_COMM_WORLD) behind a number",
+        Parameter::Comm | Parameter::OldComm | Parameter::CommOld | Parameter::LocalComm => {
+            "a number from 0 to 2147483647, or (MPI_COMM_WORLD) behind a number"
+        }
         Parameter::Requests => "a list of numbers, as [2] {4, 5}",
         Parameter::Indices => "a list of numbers, as [2] {0, 1}",
         Parameter::Status => "a group, as {source=0, tag=7}",
@@ -223,12 +226,6 @@ pub(crate) fn wanted_text(parameter: Parameter) -> &'static str
         | Parameter::RecvType
         | Parameter::Request
         | Parameter::Index
-        | Parameter::Flag
-        | Parameter::OldComm
-        | Parameter::CommOld
-        | Parameter::LocalComm
-        | Parameter::Win
-        | Parameter::Fh
-        | Parameter::File => "a number",
+        | Parameter::Flag => "a number",
     }
 }

@@ -22,7 +22,8 @@ use crate::verbs::writing::write_text;
 use call_words::Text;
 use command_line::Extent;
 use diagnosis_words::{
-    TextFacts, diagnosis_json, diagnosis_picture, diagnosis_words, last_calls, rank_words,
+    TextFacts, answer_doubts, diagnosis_json, diagnosis_picture, diagnosis_words, last_calls,
+    rank_words,
 };
 use mpi_model::{Layout, Write};
 use std::alloc::{AllocError, Global};
@@ -111,7 +112,7 @@ fn diagnosed<N: Answerer, O: Opener>(
     let diagnosis = diagnose(alloc, layout, answer, know, &[])?;
     let texts = facts_of(alloc, &diagnosis, notes, files)?;
     match printing {
-        Printing::Words(extent) => in_words(alloc, layout, &diagnosis, &texts, extent),
+        Printing::Words(extent) => in_words(alloc, layout, &diagnosis, &texts, answer, extent),
         Printing::Json => diagnosis_json(alloc, layout, &diagnosis, &texts),
         Printing::Rank(rank) => of_rank(alloc, layout, &diagnosis, &texts, answer, know, rank),
         Printing::Picture(extent) => {
@@ -126,11 +127,15 @@ fn in_words(
     layout: &Layout,
     diagnosis: &Diagnosis,
     texts: &TextFacts,
+    answer: &Answer,
     extent: Extent,
 ) -> Result<Vec<u8>, AllocError> {
-    let said = diagnosis_words(alloc, layout, diagnosis, texts, extent == Extent::Whole)?;
+    let all = extent == Extent::Whole;
+    let said = diagnosis_words(alloc, layout, diagnosis, texts, all)?;
+    let doubts = answer_doubts(alloc, layout, diagnosis, texts, answer, all)?;
     let mut text = Text::new(alloc);
     text.put(&said);
+    text.put(&doubts);
     put_pieceless(alloc, &mut text, &texts.notes, &diagnosis.doubts.no_calls);
     put_notes(alloc, &mut text, &texts.notes);
     text.into_bytes()

@@ -18,16 +18,40 @@ pub(crate) enum Headline {
     Nobody,
 }
 
-/// A flag for each rank that stands in these roots or behind them, where the kind is as asked.
-fn marked(w: &Writer<'_>, is_asked: fn(&Root) -> bool) -> Result<usize, AllocError> {
+/// Which roots a headline is of.
+#[derive(Clone, Copy, Debug, PartialEq, Eq)]
+enum Sort {
+    Mismatched,
+    GivingNoSign,
+    Polling,
+    Ended,
+}
+
+/// Whether a root is of a sort.
+fn is_of(root: &Root, sort: Sort) -> bool {
+    match root.kind {
+        RootKind::Mismatch(_) => sort == Sort::Mismatched,
+        RootKind::Cycle => sort == Sort::Polling && !root.proved,
+        RootKind::Ended => sort == Sort::Ended,
+        RootKind::Silent | RootKind::Open => sort == Sort::GivingNoSign,
+    }
+}
+
+/// Whether the ranks of a root wait themselves.
+fn is_waiting(root: &Root) -> bool {
+    matches!(root.kind, RootKind::Mismatch(_) | RootKind::Cycle)
+}
+
+/// How many ranks stand in the roots of a sort, where those wait, or behind them.
+fn count_in(w: &Writer<'_>, sort: Sort) -> Result<usize, AllocError> {
     let mut flags: Vec<bool> = Vec::new(w.source.alloc);
     for _ in 0..w.source.diagnosis.ranks {
         flags.push(false)?;
     }
     for root in w.source.diagnosis.waiting.roots.iter() {
-        if is_asked(root) {
+        if is_of(root, sort) {
             mark(&mut flags, root.holds_up.as_slice());
-            if matches!(root.kind, RootKind::Mismatch(_) | RootKind::Cycle) {
+            if is_waiting(root) {
                 mark(&mut flags, root.ranks.as_slice());
             }
         }
@@ -44,41 +68,25 @@ fn mark(flags: &mut Vec<bool>, ranks: &[u32]) {
     }
 }
 
-fn is_mismatch(root: &Root) -> bool {
-    matches!(root.kind, RootKind::Mismatch(_))
-}
-
-fn is_silent(root: &Root) -> bool {
-    matches!(root.kind, RootKind::Silent | RootKind::Open)
-}
-
-fn is_polling(root: &Root) -> bool {
-    matches!(root.kind, RootKind::Cycle) && !root.proved
-}
-
-fn is_ended(root: &Root) -> bool {
-    matches!(root.kind, RootKind::Ended)
-}
-
 /// What the first line says: the first that applies.
 pub(crate) fn headline_of(w: &Writer<'_>) -> Result<Headline, AllocError> {
     let stuck = w.source.diagnosis.stuck.len();
     if stuck > 0 {
         return Ok(Headline::Stuck(stuck));
     }
-    let count = marked(w, is_mismatch)?;
+    let count = count_in(w, Sort::Mismatched)?;
     if count > 0 {
         return Ok(Headline::Mismatch(count));
     }
-    let count = marked(w, is_silent)?;
+    let count = count_in(w, Sort::GivingNoSign)?;
     if count > 0 {
         return Ok(Headline::Silent(count));
     }
-    let count = marked(w, is_polling)?;
+    let count = count_in(w, Sort::Polling)?;
     if count > 0 {
         return Ok(Headline::Polling(count));
     }
-    let count = marked(w, is_ended)?;
+    let count = count_in(w, Sort::Ended)?;
     if count > 0 {
         return Ok(Headline::Ended(count));
     }

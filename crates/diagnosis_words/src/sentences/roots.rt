@@ -154,6 +154,9 @@ impl<'a> Writer<'a> {
         if let Some(last) = &standing.call {
             self.put_together(rank, last, group);
         }
+        if self.source.polling(rank).is_some() {
+            self.put(b"; they poll");
+        }
         self.put_beyond(standing.beyond);
     }
 
