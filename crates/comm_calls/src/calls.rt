@@ -18,8 +18,8 @@ use mpi_model::{Call, Object};
 use std::alloc::Global;
 use std::marker::Model;
 
-/// What the calls of a text say of communicators and groups, windows and files. It is given the calls in their order, each once: as the sink
-/// of a walk over the text, or by [`read`](CommCalls::read).
+/// What the calls of a text say of communicators and groups, windows and files. It is given the calls in their order, each
+/// once: as the sink of a walk over the text, or by [`read`](CommCalls::read).
 #[derive(Drop)]
 pub struct CommCalls {
     alloc: Global,

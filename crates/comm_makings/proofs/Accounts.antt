@@ -137,16 +137,3 @@ sounds ranks views uses made objects stand values next comms read right are coun
   derive_objects = are;
   written = written;
 }
-
-pub sounds : (ranks : List RankCalls) (views : List RankView) (uses : List HandleUses) (made : List Made) (stand : List (Vec HandleState Global)) (values : List (Vec GroupValue Global)) (comms : List Communicator)
-    → AreViews (world_of ranks) ranks views → IsRight ranks views stand values made → AreCounted ranks views uses
-    → IsWritten (world_of ranks) (length ranks) views uses made comms → IsSound (world_of ranks) ranks comms
-sounds ranks views uses made stand values comms read right counted written = record {
-  views = views;
-  uses = uses;
-  made = made;
-  read = read;
-  counted = counted;
-  derive = right.comms_derive;
-  written = written;
-}
