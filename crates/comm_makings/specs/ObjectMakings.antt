@@ -1,6 +1,6 @@
 -- The windows and files that the members of communicators make: the k-th calls of all members on one communicator are one
 -- making (MPI 4.0, 12.2 and 14.2.1: collective over it, so in one order).
-use Rattle.std.specs.Prelude.{◌≡◌, ◌⊎◌, ◌<◌, ◌≤◌, ℕ, List, Option, Some, None, All, cond, map, nat_lt}
+use Rattle.std.specs.Prelude.{◌≡◌, ◌⊎◌, ◌<◌, ◌≤◌, ℕ, List, Option, Some, None, All, Bool, true, cond, map, nat_lt}
 use Rattle.std.specs.List.{Contains, slice_get}
 use Rattle.std.specs.Option.{option_and_then}
 use Rattle.mpi_model.specs.declared.object.Object.{Object}
@@ -43,7 +43,7 @@ given_at views object rank at = option_and_then (λ handle. handle) (option_and_
 
 -- such a call of a rank
 abbrev pub here_by : List RankView → Object → ℕ → ℕ → CommCall → Option ObjectHere
-here_by views object rank at call = option_and_then (λ maker. Some (record { rank = rank; call = call.call; maker = maker; handle = given_at views object rank at })) (maker_of call.action)
+here_by views object rank at call = option_and_then (λ maker. Some (record { rank = rank; call = call.call; returned = call.returned; maker = maker; handle = given_at views object rank at })) (maker_of call.action)
 
 -- the same of the call at a place
 abbrev pub here_on : List RankCalls → List RankView → Object → ℕ → ℕ → Option ObjectHere
@@ -71,15 +71,21 @@ member_of member here = record { rank = member.rank; handle = handle_here here }
 abbrev pub made_member : List RankCalls → List RankView → Object → ℕ → Member → Member
 made_member ranks views object k member = member_of member (object_here ranks views object k member)
 
--- This is the call of the smallest of the members that have it.
+-- This call returned, and is that of the smallest of the members whose calls did.
 pub record IsSmallest (all : List (Option ObjectHere)) (first : ObjectHere) : Type 0 where
   pub listed : Contains all (Some first)
-  pub least : (other : ObjectHere) → Contains all (Some other) → first.rank ≤ other.rank
+  pub back : first.returned ≡ true
+  pub least : (other : ObjectHere) → Contains all (Some other) → other.returned ≡ true → first.rank ≤ other.rank
 
--- the same, where some member has it
+-- the same, where some call returned
 abbrev pub IsFirstHere : List (Option ObjectHere) → Option ObjectHere → Type 0
-IsFirstHere all None = (here : ObjectHere) → Contains all (Some here) → ⊥
+IsFirstHere all None = (here : ObjectHere) → Contains all (Some here) → here.returned ≡ true → ⊥
 IsFirstHere all (Some first) = IsSmallest all first
+
+-- a call, where it returned
+abbrev pub returned_here : Option ObjectHere → Option ObjectHere
+returned_here None = None
+returned_here (Some here) = cond here.returned (Some here) None
 
 -- of two calls the one of the smaller rank, where both are there
 abbrev pub smaller_here : Option ObjectHere → Option ObjectHere → Option ObjectHere
@@ -87,7 +93,7 @@ smaller_here None here = here
 smaller_here (Some one) None = Some one
 smaller_here (Some one) (Some other) = cond (nat_lt other.rank one.rank) (Some other) (Some one)
 
--- The members' k-th calls are one making: some member has it, and all that have it call one function.
+-- The members' k-th calls are one making: some member's returned, and all that have it call one function.
 pub record IsMaking (ranks : List RankCalls) (views : List RankView) (object : Object) (comm : Made) (k : ℕ) (first : ObjectHere) : Type 0 where
   pub smallest : IsSmallest (map (object_here ranks views object k) comm.members.items) first
   pub alike : All (HasMaker first.maker) (map (object_here ranks views object k) comm.members.items)

@@ -1,7 +1,7 @@
 //! The windows and files that the members of communicators make (MPI 4.0, 12.2 and 14.2.1).
 
 ghost use Rattle.std.specs.Prelude.{◌≡◌, ◌↔◌, All, IfOk, IsTrue, OnOk, map};
-ghost use Rattle.comm_makings.specs.ObjectMakings.{AddsAll, AddsOf, AreObjects, HasMaker, IsFirstHere, IsMadeOf, IsMaking, IsObject, given_at, made_member, smaller_here, kth_making, maker_of, member_of, object_here, view_by};
+ghost use Rattle.comm_makings.specs.ObjectMakings.{AddsAll, AddsOf, AreObjects, HasMaker, IsFirstHere, IsMadeOf, IsMaking, IsObject, given_at, made_member, returned_here, smaller_here, kth_making, maker_of, member_of, object_here, view_by};
 
 use crate::calls::{Action, ObjectMaker, RankCalls};
 use crate::here::call_at;
@@ -17,6 +17,7 @@ struct ObjectHere {
     rank: u32,
     /// Its place among all calls of the rank.
     call: u64,
+    returned: bool,
     maker: ObjectMaker,
     /// The handle that it gives.
     handle: Option<usize>,
@@ -77,6 +78,7 @@ fn object_here(
     Some(ObjectHere {
         rank: member.rank,
         call: call.call,
+        returned: call.returned,
         maker: maker_of(&call.action)?,
         handle: given_at(views, object, member.rank, at),
     })
@@ -113,13 +115,21 @@ fn smaller(first: Option<ObjectHere>, here: Option<ObjectHere>) -> Option<Object
     }
 }
 
-/// The call of the smallest member that has it.
+/// The call, where it returned.
+fn returned_here(here: Option<ObjectHere>) -> Option<ObjectHere>
+    ensures { result ≡ returned_here here }
+{
+    let here = here?;
+    if here.returned { Some(here) } else { None }
+}
+
+/// The call of the smallest member whose text has it, returned.
 fn first_here(all: &[Option<ObjectHere>]) -> Option<ObjectHere>
     ensures { IsFirstHere all.now result }
 {
     let mut first: Option<ObjectHere> = None;
     for here in all {
-        first = smaller(first, *here);
+        first = smaller(first, returned_here(*here));
     }
     first
 }
@@ -172,7 +182,8 @@ fn members_of(
     Ok(made)
 }
 
-/// The k-th object of all members of a communicator, in its order, where this is the call of the smallest member that has it.
+/// The k-th object of all members of a communicator, in its order, where this is the call of the smallest member whose
+/// text has it.
 fn object_of(
     alloc: Global,
     ranks: &[RankCalls],
