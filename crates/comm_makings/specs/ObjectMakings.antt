@@ -1,6 +1,6 @@
 -- The windows and files that the members of communicators make: the k-th calls of all members on one communicator are one
 -- making (MPI 4.0, 12.2 and 14.2.1: collective over it, so in one order).
-use Rattle.std.specs.Prelude.{◌≡◌, ◌⊎◌, ◌<◌, ◌≤◌, ℕ, List, Option, Some, None, All, Bool, true, cond, map, nat_lt}
+use Rattle.std.specs.Prelude.{◌≡◌, ◌⊎◌, ◌<◌, ◌≤◌, ℕ, List, Option, Some, None, All, true, cond, map, nat_lt}
 use Rattle.std.specs.List.{Contains, slice_get}
 use Rattle.std.specs.Option.{option_and_then}
 use Rattle.mpi_model.specs.declared.object.Object.{Object}
@@ -73,13 +73,14 @@ made_member ranks views object k member = member_of member (object_here ranks vi
 
 -- This call returned, and is that of the smallest of the members whose calls did.
 pub record IsSmallest (all : List (Option ObjectHere)) (first : ObjectHere) : Type 0 where
-  pub listed : Contains all (Some first)
+  pub at : ℕ
+  pub here : slice_get all at ≡ Some (Some first)
   pub back : first.returned ≡ true
-  pub least : (other : ObjectHere) → Contains all (Some other) → other.returned ≡ true → first.rank ≤ other.rank
+  pub least : (other : ℕ) (there : ObjectHere) → slice_get all other ≡ Some (Some there) → there.returned ≡ true → first.rank ≤ there.rank
 
 -- the same, where some call returned
 abbrev pub IsFirstHere : List (Option ObjectHere) → Option ObjectHere → Type 0
-IsFirstHere all None = (here : ObjectHere) → Contains all (Some here) → here.returned ≡ true → ⊥
+IsFirstHere all None = (at : ℕ) (here : ObjectHere) → slice_get all at ≡ Some (Some here) → here.returned ≡ true → ⊥
 IsFirstHere all (Some first) = IsSmallest all first
 
 -- a call, where it returned
