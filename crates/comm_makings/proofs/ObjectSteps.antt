@@ -1,12 +1,14 @@
 -- Which calls make windows or files of a handle of a communicator, one call after the other.
-use Rattle.std.proofs.Common.{◌≡◌, ℕ, suc, ◌+◌, ◌≤◌, ◌<◌, ◌==◌, ◌++◌, Bool, true, false, List, [], ◌∷◌, Option, Some, None, Vec, length, get_or, drop, option_map, ap, ◌∙◌, sym, refl, add-one, append_assoc, append-nil, drop-cons}
-use Rattle.std.proofs.lemmas.List.{drop_all}
-use Rattle.std.specs.List.{slice_get}
+use Rattle.std.proofs.Common.{◌≡◌, ℕ, suc, ◌+◌, ◌≤◌, ◌<◌, ◌==◌, ◌++◌, Bool, true, false, List, [], ◌∷◌, Option, Some, None, Vec, length, get_or, drop, option_map, take, ap, ◌∙◌, sym, refl, add-one, append_assoc, append-nil, drop-cons}
+use Rattle.std.proofs.lemmas.List.{drop_all, take_more}
+use Rattle.std.proofs.lemmas.List.Elements.{filter_map-append}
+use Rattle.std.specs.List.{cons_option, filter_map, slice_get}
 use Rattle.std.specs.declared.alloc.Global.{Global}
 use Rattle.mpi_model.specs.declared.object.Object.{Object}
-use Rattle.comm_makings.specs.Objects.{makes_such, object_making_before, object_makings_on}
+use Rattle.comm_makings.specs.Objects.{end_use, end_uses, makes_such, number_ended, object_making_before, object_makings_on}
 use Rattle.comm_makings.specs.Views.{place_if}
 use Rattle.comm_makings.specs.declared.calls.CommCall.{CommCall}
+use Rattle.comm_makings.specs.declared.calls.Uses.{Uses}
 use Rattle.comm_makings.specs.declared.handle.Meant.{Meant}
 use Rattle.comm_makings.proofs.MakingSteps.{AddsCall, comm_named, drop_first, drop_next, place_append}
 
@@ -74,3 +76,23 @@ pub all_objects : (o : Object) (calls : List CommCall) (meant : List Meant) (at 
     → (handle : ℕ) (list : List ℕ) → option_map (λ (l : Vec ℕ Global). l.items) (slice_get lists handle) ≡ Some list → list ≡ object_makings_on o handle 0 calls meant
 all_objects o calls meant at lists past are h list named =
     sym (append-nil list) ∙ ap (λ (l : List CommCall). list ++ object_makings_on o h at l (drop at meant)) (sym (drop_all at calls past)) ∙ are h list named
+
+-- Which calls end one, one call after the other.
+ends_next : (o : Object) (calls : List CommCall) (i : ℕ) (call : CommCall) (end : Option Uses) → i < length calls → call ≡ get_or calls i call → option_map (end_use call.call) (number_ended o call) ≡ end
+    → end_uses o (take (i + 1) calls) ≡ end_uses o (take i calls) ++ cons_option end []
+ends_next o calls i call end below is e =
+    let f : CommCall → Option Uses = λ c. option_map (end_use c.call) (number_ended o c) in
+    ap (filter_map f) (take_more calls i call below ∙ ap (λ (c : CommCall). take i calls ++ c ∷ []) (sym is))
+    ∙ filter_map-append f (take i calls) (call ∷ [])
+    ∙ ap (λ (u : Option Uses). filter_map f (take i calls) ++ cons_option u []) e
+
+pub no_end : (o : Object) (calls : List CommCall) (i : ℕ) (call : CommCall) (uses : List Uses) → i < length calls → call ≡ get_or calls i call → number_ended o call ≡ None
+    → uses ≡ end_uses o (take i calls) → uses ≡ end_uses o (take (i + 1) calls)
+no_end o calls i call uses below is e were =
+    were ∙ sym (append-nil (end_uses o (take i calls))) ∙ sym (ends_next o calls i call None below is (ap (option_map (end_use call.call)) e))
+
+pub one_end : (o : Object) (calls : List CommCall) (i : ℕ) (call : CommCall) (number : ℕ) (uses : List Uses) → i < length calls → call ≡ get_or calls i call → number_ended o call ≡ Some number
+    → uses ≡ end_uses o (take i calls) → uses ++ end_use call.call number ∷ [] ≡ end_uses o (take (i + 1) calls)
+one_end o calls i call number uses below is e were =
+    ap (λ (l : List Uses). l ++ end_use call.call number ∷ []) were
+    ∙ sym (ends_next o calls i call (Some (end_use call.call number)) below is (ap (option_map (end_use call.call)) e))
