@@ -1,4 +1,4 @@
-use Rattle.std.proofs.Common.{sym}
+use Rattle.std.proofs.Common.{sym, take}
 use Rattle.std.proofs.lemmas.List.{take_more}
 use Rattle.comm_makings.proofs.ObjectFirsts.{here_more}
 use Rattle.comm_makings.proofs.objects.first_here.Goals as goal
