@@ -18,7 +18,7 @@ loop-call-preserved c = elim c.if-is_some.branch [
       let f = ap is_some (sym c.number_given.ensures) ∙ sym c.is_some.ensures ∙ w.if-is_some.false in
       let more = count_more c.args.object c.args.calls.now c.loop-call.call-index c.call-item.result c.loop-call-test.true c.call-item.is c.loop-call.count false f c.loop-call.invariant.count in
       rw w.given-is (rw w.count-is (rw w.in_ok-push-2.ensures.items (record {
-        count = more;
+        count = omega (arith, more);
         each = given_more c.args.object c.args.calls.now c.loop-call.call-index c.call-item.result c.loop-call-test.true c.call-item.is c.loop-call.given.items c.loop-call.count false f
             c.loop-call.invariant.count c.loop-call.invariant.length c.loop-call.invariant.each;
         length = omega (arith, length-append c.loop-call.given.items (None ∷ []), c.loop-call.invariant.length);
