@@ -1,6 +1,7 @@
 -- The calls of MPI_Comm_create_group on one parent, and the communicators that they make.
-use Rattle.std.specs.Prelude.{◌≡◌, ◌<◌, ℕ, ℤ, false, List, [], ◌∷◌, Option, Some, None, Vec}
-use Rattle.std.specs.List.{list_any, slice_get}
+use Rattle.std.specs.Prelude.{◌≡◌, ◌<◌, ◌==◌, ℕ, ℤ, Bool, false, List, [], ◌∷◌, Option, Some, None, Vec}
+use Rattle.std.specs.List.{filter, list_any, slice_get}
+use Rattle.std.specs.Option.{option_map}
 use Rattle.std.specs.declared.alloc.Global.{Global}
 use Rattle.comm_makings.specs.Derives.{ArePlaces, IsGroupCall, by_group_at, tag_in}
 use Rattle.comm_makings.specs.Here.{gives_unknown, here_at, making_at}
@@ -60,6 +61,18 @@ pub record IsOneOf (calls : List Offer) (place : ℕ) (here : Here) : Type 0 whe
 -- What stands at the places are calls of those.
 pub record AreOfCalls (calls : List Offer) (all : List (Option Here)) : Type 0 where
   pub each : (place : ℕ) (here : Here) → slice_get all place ≡ Some (Some here) → IsOneOf calls place here
+
+-- the call is one of the member at this place
+abbrev pub is_of_place : ℕ → Offer → Bool
+is_of_place place offer = offer.place == place
+
+-- the k-th of the calls of the member at a place
+abbrev pub kth_of_place : List Offer → ℕ → ℕ → Option Here
+kth_of_place calls k place = option_map (λ o. o.here) (slice_get (filter (is_of_place place) calls) k)
+
+-- What stands at the places are the k-th calls of their members.
+pub record AreKth (calls : List Offer) (k : ℕ) (all : List (Option Here)) : Type 0 where
+  pub each : (place : ℕ) (here : Here) → slice_get all place ≡ Some (Some here) → kth_of_place calls k place ≡ Some here
 
 -- What stands at a place is what stands there in the other list.
 pub record AreSomeOf (all some : List (Option Here)) : Type 0 where

@@ -4,8 +4,9 @@ ghost use Rattle.std.specs.Prelude.{◌≡◌, ◌≤◌, ◌↔◌, [], IfOk, I
 ghost use Rattle.std.specs.List.{slice_get};
 ghost use Rattle.std.specs.Option.{option_copied};
 ghost use Rattle.indexmap.specs.IndexMap.{get};
-ghost use Rattle.comm_makings.specs.ByGroups.{AreFound, AreFoundSame, AreOfCalls, AreOffersIn, AreSame, AreSameTo, AreSomeOf, IsKnownOffer, IsListOn, IsSoundAt, part_at};
+ghost use Rattle.comm_makings.specs.ByGroups.{AreFound, AreFoundSame, AreKth, AreOfCalls, AreOffersIn, AreSame, AreSameTo, AreSomeOf, IsKnownOffer, IsListOn, IsSoundAt, kth_of_place, part_at};
 ghost use Rattle.comm_makings.specs.Derives.{tag_in};
+ghost use Rattle.comm_makings.specs.Each.{EachBecomes, EachIs};
 ghost use Rattle.comm_makings.specs.Makes.{said_by};
 ghost use Rattle.comm_makings.specs.Offers.{AreRanked};
 ghost use Rattle.comm_makings.specs.State.{AreDerived, IsMadeOf, IsRun};
@@ -249,13 +250,21 @@ fn same_length(calls: &[Offer<'_>], first: Offer<'_>) -> usize
     calls.len()
 }
 
-/// How often the place came before.
-fn count_at(seen: &mut Vec<usize>, place: usize) -> Option<usize> {
-    let count = *seen.get(place)?;
-    if let Some(before) = seen.get_mut(place) {
-        *before = count.saturating_add(1);
+/// The place came once more.
+fn see(seen: &mut Vec<usize>, place: usize)
+    ensures seen { EachBecomes seen.old.items seen.new.items (λ p before. cond (place == p) (min (before + 1) (2 ^ 64 - 1)) before) }
+    ensures each { length seen.new.items ≡ length seen.old.items }
+{
+    if place < seen.len() {
+        seen[place] = seen[place].saturating_add(1);
     }
-    Some(count)
+}
+
+/// How often the place came before.
+fn count_at(seen: &[usize], place: usize) -> Option<usize>
+    ensures { result ≡ slice_get seen.now place }
+{
+    seen.get(place).copied()
 }
 
 /// The k-th call of each place.
@@ -266,20 +275,24 @@ fn kth_calls(
     members: usize,
     k: usize,
 ) -> Result<Vec<Option<Here>>, AllocError>
-    ensures { IfOk result (λ v. AreOfCalls calls.now v.items) }
+    requires { k < 2 ^ 64 - 1 }
+    ensures of { IfOk result (λ v. AreOfCalls calls.now v.items) }
+    ensures kth { IfOk result (λ v. EachIs v.items (kth_of_place calls.now k)) }
 {
     let mut seen = vec![in alloc; 0usize; members]?;
     let mut kth: Vec<Option<Here>> = vec![in alloc; None; members]?;
     for offer in calls {
         let place = offer.place as usize;
-        if count_at(&mut seen, place) == Some(k) {
+        if count_at(&seen, place) == Some(k) {
             put(&mut kth, place, Some(offer.here));
         }
+        see(&mut seen, place);
     }
     Ok(kth)
 }
 
 /// The k-th call of each of these places.
+#[tactic(auto, using(crate::proofs::Turns::kth_some))]
 fn kth_of(
     alloc: Global,
     calls: &[Offer<'_>],
@@ -287,7 +300,9 @@ fn kth_of(
     members: usize,
     k: usize,
 ) -> Result<Vec<Option<Here>>, AllocError>
-    ensures { IfOk result (λ v. AreOfCalls calls.now v.items) }
+    requires { k < 2 ^ 64 - 1 }
+    ensures of { IfOk result (λ v. AreOfCalls calls.now v.items) }
+    ensures kth { IfOk result (λ v. AreKth calls.now k v.items) }
 {
     let kth = kth_calls(alloc, calls, members, k)?;
     only_at(alloc, &kth, places)
