@@ -8,6 +8,8 @@ use crate::calls::{Action, CommCall, Making, RankCalls};
 use crate::handle::{Handle, Meant};
 use crate::here::making_of;
 use crate::names::names_of;
+use crate::object_view::{ObjectView, object_view};
+use mpi_model::Object;
 use std::alloc::{AllocError, Global};
 
 /// A rank's handles, and what it called on each.
@@ -24,10 +26,12 @@ pub(crate) struct RankView {
     pub told: Vec<Option<u32>>,
     /// From this call on the text counts as if it made no communicators.
     pub end: usize,
+    pub windows: ObjectView,
+    pub files: ObjectView,
 }
 
 /// An empty list for each of this many handles.
-fn lists(alloc: Global, count: usize) -> Result<Vec<Vec<usize>>, AllocError>
+pub(crate) fn lists(alloc: Global, count: usize) -> Result<Vec<Vec<usize>>, AllocError>
     ensures { IfOk result (λ lists. ListsAre lists.items (λ handle. [])) }
 {
     let mut lists = Vec::new(alloc);
@@ -38,7 +42,7 @@ fn lists(alloc: Global, count: usize) -> Result<Vec<Vec<usize>>, AllocError>
 }
 
 /// Adds a call to the list of a handle.
-fn add_to(lists: &mut Vec<Vec<usize>>, at: usize, call: usize) -> Result<(), AllocError>
+pub(crate) fn add_to(lists: &mut Vec<Vec<usize>>, at: usize, call: usize) -> Result<(), AllocError>
     ensures { OnOk result (ListsBecome lists.old.items lists.new.items (λ handle list. list ++ place_if (at == handle) call [])) }
 {
     if at < lists.len() {
@@ -99,7 +103,7 @@ fn is_kind(by_group: bool, making: &Making) -> bool
 }
 
 /// The handle that the call at this place names.
-fn comm_at(meant: &[Meant], at: usize) -> Option<usize>
+pub(crate) fn comm_at(meant: &[Meant], at: usize) -> Option<usize>
     ensures { result ≡ comm_at meant.now at }
 {
     meant.get(at)?.comm
@@ -143,7 +147,9 @@ fn rank_told(call: &CommCall) -> Option<u32>
         Action::Make { .. }
         | Action::Free { .. }
         | Action::Group { .. }
-        | Action::GivesComm { .. } => None,
+        | Action::GivesComm { .. }
+        | Action::MakeObject { .. }
+        | Action::EndObject { .. } => None,
     }
 }
 
@@ -186,6 +192,8 @@ pub(crate) fn view_of(alloc: Global, world: u32, rank: &RankCalls) -> Result<Ran
     let by_group = makings_by(alloc, &rank.calls, &meant, count, true)?;
     let told = told_on(alloc, &rank.calls, &meant, count)?;
     let end = end_of(&rank.calls, &meant);
+    let windows = object_view(alloc, Object::Window, &rank.calls, &meant, count)?;
+    let files = object_view(alloc, Object::File, &rank.calls, &meant, count)?;
     Ok(RankView {
         handles,
         meant,
@@ -193,6 +201,8 @@ pub(crate) fn view_of(alloc: Global, world: u32, rank: &RankCalls) -> Result<Ran
         by_group,
         told,
         end,
+        windows,
+        files,
     })
 }
 
