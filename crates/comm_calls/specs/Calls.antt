@@ -96,6 +96,22 @@ pub record ReadsUses (place : ℕ) (named changed : Option ℕ) (old new : ReadU
   pub groups : new.groups ≡ uses_after place named (going_at old.going) old.groups
   pub going : (number : ℕ) → going_at new.going number ≡ open_after named changed (length old.groups) (going_at old.going) number
 
+-- What is read of the other two sorts stays.
+abbrev pub KeepsOthers : Object → ReadCalls → ReadCalls → Type 0
+KeepsOthers objects.Communicator old new = (new.windows ≡ old.windows) × (new.files ≡ old.files)
+KeepsOthers objects.Window old new = (new.uses ≡ old.uses) × (new.files ≡ old.files)
+KeepsOthers objects.File old new = (new.uses ≡ old.uses) × (new.windows ≡ old.windows)
+
+-- A call names, gives or ends a number of this sort, if any, and nothing else is read of it.
+pub record ReadsNumber (sort : Object) (named changed : Option ℕ) (old new : ReadCalls) : Type 0 where
+  pub uses : ReadsUses old.place named changed (uses_by sort old) (uses_by sort new)
+  pub others : KeepsOthers sort old new
+  pub calls : new.calls ≡ old.calls
+  pub place : new.place ≡ old.place
+  pub world : new.world ≡ old.world
+  pub own : new.own ≡ old.own
+  pub size : new.size ≡ old.size
+
 -- A call of this function is added, and ends the group of the number that it gives or ends.
 pub record TakesCall (function : Function) (old : ReadCalls) (raw : TextCall) (new : ReadCalls) : Type 0 where
   pub read : CommCall

@@ -104,7 +104,7 @@ fn changed_of(call: &CommCall) -> (Object, Option<u32>)
 }
 
 impl CommCalls {
-    ghost use Rattle.comm_calls.specs.Calls.{AddsSaid, NamesCall, Reads, TakesCall};
+    ghost use Rattle.comm_calls.specs.Calls.{AddsSaid, NamesCall, Reads, ReadsNumber, TakesCall};
 
     /// What no call says. Takes no memory.
     pub fn new(alloc: Global) -> CommCalls
@@ -123,7 +123,19 @@ impl CommCalls {
         }
     }
 
+    /// A call gives or ends a number of this sort, or none.
+    fn change(&mut self, object: Object, changed: Option<u32>)
+        ensures { ReadsNumber object None changed self.old self.new }
+    {
+        match object {
+            Object::Communicator => self.uses.change(changed),
+            Object::Window => self.windows.change(changed),
+            Object::File => self.files.change(changed),
+        }
+    }
+
     /// A call of this function.
+    #[tactic(auto, using(crate::proofs::Sorts::call_taken))]
     fn take(&mut self, function: Function, raw: &RawCall) -> Result<(), Memory>
         ensures ok { OnOk result (TakesCall function self.old raw.now self.new) }
         ensures err { OnErr result (self.new ≡ self.old) }
@@ -131,15 +143,12 @@ impl CommCalls {
         let read = comm_call(self.alloc, function, self.place, raw)?;
         let (object, changed) = changed_of(&read);
         self.calls.push(read)?;
-        match object {
-            Object::Communicator => self.uses.change(changed),
-            Object::Window => self.windows.change(changed),
-            Object::File => self.files.change(changed),
-        }
+        self.change(object, changed);
         Ok(())
     }
 
     /// What the next call says, but for the numbers beside names and the world's size.
+    #[tactic(auto, using(crate::proofs::Changed::comm_said, crate::proofs::Changed::other_said))]
     fn add_said(&mut self, raw: &RawCall, call: &Call) -> Result<(), Memory>
         ensures ok { OnOk result (AddsSaid self.old raw.now call.now self.new) }
         ensures err { OnErr result (self.new ≡ self.old) }
@@ -150,17 +159,25 @@ impl CommCalls {
         }
     }
 
-    /// A call of the profile names a communicator, a window, a file or nothing.
-    fn name(&mut self, call: &Call) -> Result<(), Memory>
-        ensures ok { OnOk result (NamesCall self.old call.now self.new) }
+    /// A call names this number of this sort, or none.
+    fn name_number(&mut self, object: Object, named: Option<u32>) -> Result<(), Memory>
+        ensures ok { OnOk result (ReadsNumber object named None self.old self.new) }
         ensures err { OnErr result (self.new ≡ self.old) }
     {
-        let named = named_number(call);
-        match call.object() {
+        match object {
             Object::Communicator => self.uses.name(named, self.place),
             Object::Window => self.windows.name(named, self.place),
             Object::File => self.files.name(named, self.place),
         }
+    }
+
+    /// A call of the profile names a communicator, a window, a file or nothing.
+    #[tactic(auto, using(crate::proofs::Sorts::object_named))]
+    fn name(&mut self, call: &Call) -> Result<(), Memory>
+        ensures ok { OnOk result (NamesCall self.old call.now self.new) }
+        ensures err { OnErr result (self.new ≡ self.old) }
+    {
+        self.name_number(call.object(), named_number(call))
     }
 
     /// Reads the next call of the text, which is this one of the profile or none. Memory grows only with a call that makes,

@@ -1,12 +1,13 @@
 -- The call of the smallest member that makes a window or a file, one member after the other.
-use Rattle.std.proofs.Common.{◌≡◌, ◌≤◌, ◌++◌, ◌∙◌, ℕ, Bool, true, false, List, [], ◌∷◌, Option, Some, None, cond, length, ap, sym, refl, inl, inr, arith, nat_lt}
+use Rattle.std.proofs.Common.{◌≡◌, ◌≤◌, ◌++◌, ◌∙◌, ℕ, Bool, true, false, List, [], ◌∷◌, Option, Some, None, All, cond, length, ap, sym, subst, refl, inl, inr, arith, nat_lt}
 use Rattle.std.specs.List.{slice_get}
 use Rattle.std.proofs.lemmas.Bool.Decides.{nat_tests}
 use Rattle.std.proofs.lemmas.Grind.{common_steps}
 use Rattle.std.proofs.lemmas.Option.{same_Some}
-use Rattle.comm_makings.specs.ObjectMakings.{IsFirstHere, IsSmallest, returned_here, smaller_here}
+use Rattle.comm_makings.specs.ObjectMakings.{HasMaker, IsFirstHere, IsOneMaking, IsOneMakingOf, IsSmallest, returned_here, smaller_here}
+use Rattle.comm_makings.specs.declared.calls.ObjectMaker.{ObjectMaker}
 use Rattle.comm_makings.specs.declared.objects.ObjectHere.{ObjectHere}
-use Rattle.comm_makings.proofs.Lists.{get_keep, get_last, get_more}
+use Rattle.comm_makings.proofs.Lists.{All-slice_get, get_keep, get_last, get_more}
 
 pub no_here : IsFirstHere [] None
 no_here at here e back = absurd (cc)
@@ -89,3 +90,13 @@ module _ (all : List (Option ObjectHere)) (now : Option ObjectHere) where
 
   pub here_more : (first : Option ObjectHere) → IsFirstHere all first → IsFirstHere (all ++ now ∷ []) (smaller_here first (returned_here now))
   here_more first is = by_case first (returned_here now) refl is
+
+-- No call returned, so that they are no making.
+pub none_one : (all : List (Option ObjectHere)) → IsFirstHere all None → IsOneMakingOf all None
+none_one all none first making = none making.smallest.at first making.smallest.here making.smallest.back
+
+-- They differ in their functions.
+pub other_one : (all : List (Option ObjectHere)) (here : ObjectHere) → IsSmallest all here → (All (HasMaker here.maker) all → ⊥) → IsOneMakingOf all None
+other_one all here smallest not first making =
+    let same : here.maker ≡ first.maker = All-slice_get (HasMaker first.maker) all smallest.at (Some here) making.alike smallest.here in
+    not (subst (λ (m : ObjectMaker). All (HasMaker m) all) (sym same) making.alike)

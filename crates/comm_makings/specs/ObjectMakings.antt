@@ -1,8 +1,8 @@
 -- The windows and files that the members of communicators make: the k-th calls of all members on one communicator are one
 -- making (MPI 4.0, 12.2 and 14.2.1: collective over it, so in one order).
-use Rattle.std.specs.Prelude.{◌≡◌, ◌⊎◌, ◌<◌, ◌≤◌, ℕ, List, Option, Some, None, All, true, cond, map, nat_lt}
-use Rattle.std.specs.List.{Contains, slice_get}
-use Rattle.std.specs.Option.{option_and_then}
+use Rattle.std.specs.Prelude.{◌≡◌, ◌≤◌, ◌++◌, ℕ, List, Option, Some, None, All, true, cond, length, map, nat_lt, unwrap_or}
+use Rattle.std.specs.List.{flat_map, slice_get}
+use Rattle.std.specs.Option.{option_and_then, option_map}
 use Rattle.mpi_model.specs.declared.object.Object.{Object}
 use Rattle.mpi_model.specs.declared.object.Object.TheVariants as objects
 use Rattle.comm_makings.specs.Each.{list_in}
@@ -31,6 +31,22 @@ kth_on object k view handle = option_and_then (λ list. slice_get list.items k) 
 -- the place of a member's k-th call on the communicator that makes an object of this sort
 abbrev pub kth_making : List RankView → Object → ℕ → Member → Option ℕ
 kth_making views object k member = option_and_then (λ view. option_and_then (kth_on object k view) member.handle) (slice_get views member.rank)
+
+-- how many calls on a handle of a communicator make objects of this sort
+abbrev pub count_on : Object → RankView → ℕ → Option ℕ
+count_on object view handle = option_map (λ list. length list.items) (slice_get (view_by view object).makings.items handle)
+
+-- how many calls of a member on the communicator make objects of this sort, where its text has the communicator
+abbrev pub count_in : List RankView → Object → Member → Option ℕ
+count_in views object member = option_and_then (λ view. option_and_then (count_on object view) member.handle) (slice_get views member.rank)
+
+-- the same, or none
+abbrev pub makings_count : List RankView → Object → Member → ℕ
+makings_count views object member = unwrap_or (count_in views object member) 0
+
+-- No member has more calls that make objects of this sort of the communicator.
+abbrev pub IsMost : List RankView → Object → List Member → ℕ → Type 0
+IsMost views object members most = All (λ member. makings_count views object member ≤ most) members
 
 -- the function by which an action makes an object
 abbrev pub maker_of : Action → Option ObjectMaker
@@ -94,10 +110,19 @@ smaller_here None here = here
 smaller_here (Some one) None = Some one
 smaller_here (Some one) (Some other) = cond (nat_lt other.rank one.rank) (Some other) (Some one)
 
--- The members' k-th calls are one making: some member's returned, and all that have it call one function.
-pub record IsMaking (ranks : List RankCalls) (views : List RankView) (object : Object) (comm : Made) (k : ℕ) (first : ObjectHere) : Type 0 where
-  pub smallest : IsSmallest (map (object_here ranks views object k) comm.members.items) first
-  pub alike : All (HasMaker first.maker) (map (object_here ranks views object k) comm.members.items)
+-- These calls of the members are one making: some member's returned, and all that have it call one function.
+pub record IsOneMaking (all : List (Option ObjectHere)) (first : ObjectHere) : Type 0 where
+  pub smallest : IsSmallest all first
+  pub alike : All (HasMaker first.maker) all
+
+-- the same, where they are
+abbrev pub IsOneMakingOf : List (Option ObjectHere) → Option ObjectHere → Type 0
+IsOneMakingOf all None = (first : ObjectHere) → IsOneMaking all first → ⊥
+IsOneMakingOf all (Some first) = IsOneMaking all first
+
+-- The members' k-th calls are one making.
+abbrev pub IsMaking : List RankCalls → List RankView → Object → Made → ℕ → ObjectHere → Type 0
+IsMaking ranks views object comm k first = IsOneMaking (map (object_here ranks views object k) comm.members.items) first
 
 -- The k-th object of this sort of a communicator: of all its members, in its order. It is ordered by the call of its smallest
 -- member whose text has it.
@@ -115,34 +140,23 @@ abbrev pub IsObject : List RankCalls → List RankView → Object → Made → �
 IsObject ranks views object comm k None = (first : ObjectHere) → IsMaking ranks views object comm k first → ⊥
 IsObject ranks views object comm k (Some made) = IsMadeOf ranks views object comm k made
 
--- An object of one of these communicators: before the first making in which its members differ, or that none has.
-pub record IsObjectOf (ranks : List RankCalls) (views : List RankView) (comms : List Made) (made : Made) : Type 0 where
-  pub comm : Made
-  pub k : ℕ
-  pub of : Contains comms comm
-  pub sort : (made.object ≡ objects.Window) ⊎ (made.object ≡ objects.File)
-  pub is : IsMadeOf ranks views made.object comm k made
-  pub behind : (j : ℕ) → j < k → (first : ObjectHere) × IsMaking ranks views made.object comm j first
+-- The objects of this sort of a communicator, in the order of their makings: up to the first in which its members differ, or
+-- that none has.
+pub record AreObjectsOf (ranks : List RankCalls) (views : List RankView) (object : Object) (comm : Made) (listed : List Made) : Type 0 where
+  pub each : (k : ℕ) (made : Made) → slice_get listed k ≡ Some made → IsMadeOf ranks views object comm k made
+  pub end : (first : ObjectHere) → IsMaking ranks views object comm (length listed) first → ⊥
 
--- Of a communicator and a sort all such makings are listed.
-pub record AreAllOf (ranks : List RankCalls) (views : List RankView) (object : Object) (comm : Made) (listed : List Made) : Type 0 where
-  pub each : (k : ℕ) → ((j : ℕ) → j ≤ k → (first : ObjectHere) × IsMaking ranks views object comm j first) → (made : Made) × Contains listed made × IsMadeOf ranks views object comm k made
+-- Those of all of these communicators, one communicator after the other.
+pub record AreObjectsOfAll (ranks : List RankCalls) (views : List RankView) (object : Object) (comms listed : List Made) : Type 0 where
+  pub lists : List (List Made)
+  pub one_each : length lists ≡ length comms
+  pub each : (at : ℕ) (comm : Made) (list : List Made) → slice_get comms at ≡ Some comm → slice_get lists at ≡ Some list → AreObjectsOf ranks views object comm list
+  pub all : listed ≡ flat_map (λ list. list) lists
 
--- The windows and files that the members of these communicators make.
+-- The windows and files that the members of these communicators make: the windows of all, and then the files.
 pub record AreObjects (ranks : List RankCalls) (views : List RankView) (comms listed : List Made) : Type 0 where
-  pub each : All (IsObjectOf ranks views comms) listed
-  pub windows : (comm : Made) → Contains comms comm → AreAllOf ranks views objects.Window comm listed
-  pub files : (comm : Made) → Contains comms comm → AreAllOf ranks views objects.File comm listed
-
--- The objects of this sort of a communicator are added behind those that are listed.
-pub record AddsOf (ranks : List RankCalls) (views : List RankView) (object : Object) (comm : Made) (old new : List Made) : Type 0 where
-  pub keeps : (made : Made) → Contains old made → Contains new made
-  pub each : (made : Made) → Contains new made → Contains old made ⊎ ((k : ℕ) × IsMadeOf ranks views object comm k made × ((j : ℕ) → j < k → (first : ObjectHere) × IsMaking ranks views object comm j first))
-  pub all : AreAllOf ranks views object comm new
-
--- The same of all of these communicators.
-pub record AddsAll (ranks : List RankCalls) (views : List RankView) (object : Object) (comms old new : List Made) : Type 0 where
-  pub keeps : (made : Made) → Contains old made → Contains new made
-  pub each : (made : Made) → Contains new made → Contains old made ⊎ ((comm : Made) × (k : ℕ) × Contains comms comm × IsMadeOf ranks views object comm k made
-      × ((j : ℕ) → j < k → (first : ObjectHere) × IsMaking ranks views object comm j first))
-  pub all : (comm : Made) → Contains comms comm → AreAllOf ranks views object comm new
+  pub windows : List Made
+  pub files : List Made
+  pub all_windows : AreObjectsOfAll ranks views objects.Window comms windows
+  pub all_files : AreObjectsOfAll ranks views objects.File comms files
+  pub both : listed ≡ windows ++ files

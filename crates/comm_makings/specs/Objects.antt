@@ -1,6 +1,6 @@
 -- Windows and files (MPI 4.0, 12.2 and 14.2). They are made by collective calls on a communicator, of all its members in its
 -- order, and each of the two sorts has numbers and an order of makings of its own.
-use Rattle.std.specs.Prelude.{◌≡◌, ℕ, ◌+◌, ◌==◌, ◌||◌, Bool, true, false, List, [], ◌∷◌, Option, Some, None, cond, count_by, is_some, take}
+use Rattle.std.specs.Prelude.{◌≡◌, ℕ, ◌+◌, ◌==◌, ◌||◌, Bool, true, false, List, [], ◌∷◌, Option, Some, None, cond, count_by, is_some, length, take}
 use Rattle.std.specs.List.{filter_map, slice_get}
 use Rattle.std.specs.Option.{option_and_then, option_map}
 use Rattle.mpi_model.specs.Kinds.{object_number}
@@ -108,11 +108,14 @@ object_makings_on object handle at (call ∷ calls) [] = []
 object_makings_on object handle at (call ∷ calls) (here ∷ meant) =
     object_making_before (makes_such object call.action) handle at here.comm (object_makings_on object handle (at + 1) calls meant)
 
--- The objects of one sort of a rank: their handles, which call gives which, and which calls make them of which communicator.
-pub record IsObjectView (object : Object) (calls : List CommCall) (meant : List Meant) (view : ObjectView) : Type 0 where
+-- The objects of one sort of a rank: their handles, which call gives which, and which calls make them of which of so many
+-- handles of communicators.
+pub record IsObjectView (object : Object) (calls : List CommCall) (meant : List Meant) (count : ℕ) (view : ObjectView) : Type 0 where
   pub handles : view.handles.items ≡ object_handles object calls
   pub given : EachIs view.given.items (handle_given object calls)
+  pub given_each : length view.given.items ≡ length calls
   pub makings : ListsAre view.makings.items (λ handle. object_makings_on object handle 0 calls meant)
+  pub makings_each : length view.makings.items ≡ count
 
 -- the call that ends a number, as a use of it
 abbrev pub end_use : ℕ → ℕ → Uses

@@ -91,11 +91,14 @@ pub record IsView (world : ℕ) (calls : RankCalls) (view : RankView) : Type 0 w
   pub handles : view.handles.items ≡ handles_of world calls.own calls.calls.items
   pub meant : view.meant.items ≡ meant_of world calls.own calls.calls.items
   pub makings : ListsAre view.makings.items (λ handle. makings_on false handle 0 calls.calls.items view.meant.items)
+  pub makings_each : length view.makings.items ≡ length view.handles.items
   pub by_group : ListsAre view.by_group.items (λ handle. makings_on true handle 0 calls.calls.items view.meant.items)
+  pub by_group_each : length view.by_group.items ≡ length view.handles.items
   pub told : EachIs view.told.items (λ handle. first_told_on handle calls.calls.items view.meant.items)
+  pub told_each : length view.told.items ≡ length view.handles.items
   pub end : IsEnd calls.calls.items view.meant.items view.end
-  pub windows : IsObjectView objects.Window calls.calls.items view.meant.items view.windows
-  pub files : IsObjectView objects.File calls.calls.items view.meant.items view.files
+  pub windows : IsObjectView objects.Window calls.calls.items view.meant.items (length view.handles.items) view.windows
+  pub files : IsObjectView objects.File calls.calls.items view.meant.items (length view.handles.items) view.files
 
 -- those of all ranks
 pub record AreViews (world : ℕ) (ranks : List RankCalls) (views : List RankView) : Type 0 where

@@ -83,7 +83,7 @@ fn answer_of(
     world: u32,
     ranks: &[RankCalls],
     views: &[RankView],
-    run: Run,
+    mut run: Run,
 ) -> Result<Derived, AllocError>
     requires few { length ranks.now < 2 ^ 32 }
     requires world { world ≡ world_of ranks.now }
@@ -92,25 +92,11 @@ fn answer_of(
     ensures derived { IfOk result (IsDerivedFrom ranks.now) }
     ensures sound { IfOk result (λ d. IsSound (world_of ranks.now) ranks.now d.comms.items) }
 {
-    let Run {
-        standings,
-        comms,
-        values,
-        next,
-        taken,
-        over,
-        ..
-    } = run;
-    drop(values);
-    drop(next);
-    drop(taken);
-    drop(over);
     let uses = all_uses(alloc, ranks, views)?;
-    let left_out = left_out(alloc, ranks, views, &uses.comms, &standings)?;
-    let mut objects = objects_of(alloc, ranks, views, &comms)?;
-    let mut made = comms;
-    made.append(&mut objects)?;
-    let comms = written(alloc, world, ranks.len() as u32, views, &uses, &made)?;
+    let left_out = left_out(alloc, ranks, views, &uses.comms, &run.standings)?;
+    let mut objects = objects_of(alloc, ranks, views, &run.comms)?;
+    run.comms.append(&mut objects)?;
+    let comms = written(alloc, world, ranks.len() as u32, views, &uses, &run.comms)?;
     Ok(Derived {
         world,
         comms,

@@ -1,6 +1,6 @@
 //! The windows, or the files, that a rank's calls make, name and end.
 
-ghost use Rattle.std.specs.Prelude.{◌≡◌, ℕ, IfOk, OnOk, Some, cond, nat_eq, option_map, reverse};
+ghost use Rattle.std.specs.Prelude.{◌≡◌, ℕ, IfOk, OnOk, Some, cond, length, nat_eq, option_map, reverse};
 ghost use Rattle.indexmap.specs.IndexMap.{get};
 ghost use Rattle.comm_makings.specs.Each.{EachIs, ListsAre};
 ghost use Rattle.comm_makings.specs.Names.{next_call};
@@ -160,7 +160,8 @@ fn given_of(
     object: Object,
     calls: &[CommCall],
 ) -> Result<Vec<Option<usize>>, AllocError>
-    ensures { IfOk result (λ v. EachIs v.items (handle_given object calls.now)) }
+    ensures each { IfOk result (λ v. EachIs v.items (handle_given object calls.now)) }
+    ensures all { IfOk result (λ v. length v.items ≡ length calls.now) }
 {
     let mut given = Vec::new(alloc);
     let mut count = 0usize;
@@ -184,7 +185,8 @@ fn makings_of(
     meant: &[Meant],
     count: usize,
 ) -> Result<Vec<Vec<usize>>, AllocError>
-    ensures { IfOk result (λ lists. ListsAre lists.items (λ handle. object_makings_on object handle 0 calls.now meant.now)) }
+    ensures each { IfOk result (λ lists. ListsAre lists.items (λ handle. object_makings_on object handle 0 calls.now meant.now)) }
+    ensures all { IfOk result (λ lists. length lists.items ≡ count) }
 {
     let mut lists = lists(alloc, count)?;
     for (at, call) in calls.iter().enumerate() {
@@ -206,7 +208,7 @@ pub(crate) fn object_view(
     meant: &[Meant],
     count: usize,
 ) -> Result<ObjectView, AllocError>
-    ensures { IfOk result (IsObjectView object calls.now meant.now) }
+    ensures { IfOk result (IsObjectView object calls.now meant.now count) }
 {
     Ok(ObjectView {
         handles: handles_of(alloc, object, calls)?,

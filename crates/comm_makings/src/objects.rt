@@ -1,7 +1,7 @@
 //! The windows and files that the members of communicators make (MPI 4.0, 12.2 and 14.2.1).
 
-ghost use Rattle.std.specs.Prelude.{◌≡◌, ◌↔◌, All, IfOk, IsTrue, OnOk, map};
-ghost use Rattle.comm_makings.specs.ObjectMakings.{AddsAll, AddsOf, AreObjects, HasMaker, IsFirstHere, IsMadeOf, IsMaking, IsObject, given_at, made_member, returned_here, smaller_here, kth_making, maker_of, member_of, object_here, view_by};
+ghost use Rattle.std.specs.Prelude.{◌≡◌, ◌↔◌, All, IfOk, IsTrue, map};
+ghost use Rattle.comm_makings.specs.ObjectMakings.{AreObjects, AreObjectsOf, AreObjectsOfAll, HasMaker, IsFirstHere, IsMadeOf, IsMaking, IsMost, IsObject, IsOneMakingOf, count_in, given_at, kth_making, made_member, maker_of, makings_count, member_of, object_here, returned_here, smaller_here, view_by};
 
 use crate::calls::{Action, ObjectMaker, RankCalls};
 use crate::here::call_at;
@@ -124,6 +124,7 @@ fn returned_here(here: Option<ObjectHere>) -> Option<ObjectHere>
 }
 
 /// The call of the smallest member whose text has it, returned.
+#[tactic(auto, using(crate::proofs::ObjectFirsts::no_here))]
 fn first_here(all: &[Option<ObjectHere>]) -> Option<ObjectHere>
     ensures { IsFirstHere all.now result }
 {
@@ -196,10 +197,12 @@ fn object_of(
     requires { IsMaking ranks.now views.now object comm.now k first }
     ensures { IfOk result (IsMadeOf ranks.now views.now object comm.now k) }
 {
+    let members = members_of(alloc, ranks, views, object, &comm.members, k)?;
+    let same_ranks = copy_of(alloc, &comm.ranks)?;
     Ok(Made {
         object,
-        members: members_of(alloc, ranks, views, object, &comm.members, k)?,
-        ranks: copy_of(alloc, &comm.ranks)?,
+        members,
+        ranks: same_ranks,
         dims: None,
         order: Order {
             class: 2,
@@ -207,6 +210,17 @@ fn object_of(
             rank: first.rank,
         },
     })
+}
+
+/// Of the members' calls, where they are one making, that of the smallest member whose text has it, returned.
+#[tactic(auto, using(crate::proofs::ObjectFirsts::none_one, crate::proofs::ObjectFirsts::other_one))]
+fn making_of(all: &[Option<ObjectHere>]) -> Option<ObjectHere>
+    ensures { IsOneMakingOf all.now result }
+{
+    match first_here(all) {
+        None => None,
+        Some(first) => { if are_alike(all, first.maker) { Some(first) } else { None } },
+    }
 }
 
 /// The k-th object of a communicator, where the members that have its call agree.
@@ -221,75 +235,85 @@ fn kth_object(
     ensures { IfOk result (IsObject ranks.now views.now object comm.now k) }
 {
     let all = all_here(alloc, ranks, views, object, &comm.members, k)?;
-    let Some(first) = first_here(&all) else {
-        return Ok(None);
-    };
-    if are_alike(&all, first.maker) {
-        Ok(Some(object_of(alloc, ranks, views, object, comm, k, first)?))
-    } else {
-        Ok(None)
+    match making_of(&all) {
+        None => Ok(None),
+        Some(first) => Ok(Some(object_of(alloc, ranks, views, object, comm, k, first)?)),
     }
 }
 
+/// How many calls of a member make objects of this sort of the communicator, where its text has the communicator.
+fn count_in(views: &[RankView], object: Object, member: Member) -> Option<usize>
+    ensures { result ≡ count_in views.now object member }
+{
+    let view = view_by(views.get(member.rank as usize)?, object);
+    Some(view.makings.get(member.handle?)?.len())
+}
+
 /// How many calls of a member make objects of this sort of the communicator.
-fn count_of(views: &[RankView], object: Object, member: Member) -> usize {
-    match (views.get(member.rank as usize), member.handle) {
-        (Some(view), Some(handle)) => match view_by(view, object).makings.get(handle) {
-            Some(list) => list.len(),
-            None => 0,
-        },
-        _ => 0,
+fn makings_count(views: &[RankView], object: Object, member: Member) -> usize
+    ensures { result ≡ makings_count views.now object member }
+{
+    match count_in(views, object, member) {
+        Some(count) => count,
+        None => 0,
     }
 }
 
 /// How many calls those of the member with most are.
-fn most_of(views: &[RankView], object: Object, members: &[Member]) -> usize {
+fn most_of(views: &[RankView], object: Object, members: &[Member]) -> usize
+    ensures { IsMost views.now object members.now result }
+{
     let mut most = 0;
     for member in members {
-        most = most.max(count_of(views, object, *member));
+        most = most.max(makings_count(views, object, *member));
     }
     most
 }
 
-/// Adds the objects of this sort of a communicator, up to the first making in which its members differ.
-fn add_of(
+/// The objects of this sort of a communicator, up to the first making in which its members differ.
+#[tactic(auto, using(crate::proofs::ObjectLists::first_none, crate::proofs::ObjectLists::first_all))]
+fn objects_in(
     alloc: Global,
     ranks: &[RankCalls],
     views: &[RankView],
     object: Object,
     comm: &Made,
-    objects: &mut Vec<Made>,
-) -> Result<(), AllocError>
-    ensures { OnOk result (AddsOf ranks.now views.now object comm.now objects.old.items objects.new.items) }
+) -> Result<Vec<Made>, AllocError>
+    ensures { IfOk result (λ v. AreObjectsOf ranks.now views.now object comm.now v.items) }
 {
+    let mut listed = Vec::new(alloc);
     for k in 0..most_of(views, object, &comm.members) {
-        match kth_object(alloc, ranks, views, object, comm, k)? {
-            Some(made) => objects.push(made)?,
-            None => return Ok(()),
+        let kth = kth_object(alloc, ranks, views, object, comm, k)?;
+        match kth {
+            Some(made) => listed.push(made)?,
+            None => return Ok(listed),
         }
     }
-    Ok(())
+    Ok(listed)
 }
 
-/// Adds the objects of this sort of all communicators.
-fn add_all(
+/// The objects of this sort of all communicators.
+#[tactic(auto, using(crate::proofs::ObjectLists::all_none, crate::proofs::ObjectLists::all_more))]
+fn objects_by(
     alloc: Global,
     ranks: &[RankCalls],
     views: &[RankView],
     object: Object,
     comms: &[Made],
-    objects: &mut Vec<Made>,
-) -> Result<(), AllocError>
-    ensures { OnOk result (AddsAll ranks.now views.now object comms.now objects.old.items objects.new.items) }
+) -> Result<Vec<Made>, AllocError>
+    ensures { IfOk result (λ v. AreObjectsOfAll ranks.now views.now object comms.now v.items) }
 {
+    let mut listed = Vec::new(alloc);
     for comm in comms {
-        add_of(alloc, ranks, views, object, comm, objects)?;
+        let mut of_comm = objects_in(alloc, ranks, views, object, comm)?;
+        listed.append(&mut of_comm)?;
     }
-    Ok(())
+    Ok(listed)
 }
 
 /// The windows and files that the members of the communicators make. Each of the two sorts has an order of its own: the k-th
 /// call of each member is one making, and what can't be read of one sort stops nothing else.
+#[tactic(auto, using(crate::proofs::ObjectLists::are_both))]
 pub(crate) fn objects_of(
     alloc: Global,
     ranks: &[RankCalls],
@@ -298,8 +322,10 @@ pub(crate) fn objects_of(
 ) -> Result<Vec<Made>, AllocError>
     ensures { IfOk result (λ v. AreObjects ranks.now views.now comms.now v.items) }
 {
+    let mut windows = objects_by(alloc, ranks, views, Object::Window, comms)?;
+    let mut files = objects_by(alloc, ranks, views, Object::File, comms)?;
     let mut objects = Vec::new(alloc);
-    add_all(alloc, ranks, views, Object::Window, comms, &mut objects)?;
-    add_all(alloc, ranks, views, Object::File, comms, &mut objects)?;
+    objects.append(&mut windows)?;
+    objects.append(&mut files)?;
     Ok(objects)
 }

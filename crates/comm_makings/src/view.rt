@@ -1,6 +1,6 @@
 //! What each rank called on each of its communicators.
 
-ghost use Rattle.std.specs.Prelude.{◌≡◌, ◌==◌, ◌++◌, [], IfOk, OnOk};
+ghost use Rattle.std.specs.Prelude.{◌≡◌, ◌==◌, ◌++◌, [], IfOk, OnOk, length};
 ghost use Rattle.comm_makings.specs.Each.{EachBecomes, EachIs, ListsAre, ListsBecome};
 ghost use Rattle.comm_makings.specs.Views.{AreViews, IsEnd, IsView, comm_at, first_told_on, is_by_group, is_kind, is_orphan, makings_on, place_if, rank_told, told_now};
 
@@ -32,7 +32,8 @@ pub(crate) struct RankView {
 
 /// An empty list for each of this many handles.
 pub(crate) fn lists(alloc: Global, count: usize) -> Result<Vec<Vec<usize>>, AllocError>
-    ensures { IfOk result (λ lists. ListsAre lists.items (λ handle. [])) }
+    ensures each { IfOk result (λ lists. ListsAre lists.items (λ handle. [])) }
+    ensures all { IfOk result (λ lists. length lists.items ≡ count) }
 {
     let mut lists = Vec::new(alloc);
     for _ in 0..count {
@@ -43,7 +44,8 @@ pub(crate) fn lists(alloc: Global, count: usize) -> Result<Vec<Vec<usize>>, Allo
 
 /// Adds a call to the list of a handle.
 pub(crate) fn add_to(lists: &mut Vec<Vec<usize>>, at: usize, call: usize) -> Result<(), AllocError>
-    ensures { OnOk result (ListsBecome lists.old.items lists.new.items (λ handle list. list ++ place_if (at == handle) call [])) }
+    ensures each { OnOk result (ListsBecome lists.old.items lists.new.items (λ handle list. list ++ place_if (at == handle) call [])) }
+    ensures all { OnOk result (length lists.new.items ≡ length lists.old.items) }
 {
     if at < lists.len() {
         lists[at].push(call)?;
@@ -117,7 +119,8 @@ fn makings_by(
     count: usize,
     by_group: bool,
 ) -> Result<Vec<Vec<usize>>, AllocError>
-    ensures { IfOk result (λ lists. ListsAre lists.items (λ handle. makings_on by_group handle 0 calls.now meant.now)) }
+    ensures each { IfOk result (λ lists. ListsAre lists.items (λ handle. makings_on by_group handle 0 calls.now meant.now)) }
+    ensures all { IfOk result (λ lists. length lists.items ≡ count) }
 {
     let mut lists = lists(alloc, count)?;
     for (at, call) in calls.iter().enumerate() {
@@ -155,7 +158,8 @@ fn rank_told(call: &CommCall) -> Option<u32>
 
 /// Notes the rank that is told on a handle, unless one was told before.
 fn note_told(told: &mut Vec<Option<u32>>, handle: usize, rank: u32)
-    ensures { EachBecomes told.old.items told.new.items (λ at before. told_now (handle == at) rank before) }
+    ensures each { EachBecomes told.old.items told.new.items (λ at before. told_now (handle == at) rank before) }
+    ensures all { length told.new.items ≡ length told.old.items }
 {
     if handle < told.len() && told[handle].is_none() {
         told[handle] = Some(rank);
@@ -169,7 +173,8 @@ fn told_on(
     meant: &[Meant],
     count: usize,
 ) -> Result<Vec<Option<u32>>, AllocError>
-    ensures { IfOk result (λ told. EachIs told.items (λ handle. first_told_on handle calls.now meant.now)) }
+    ensures each { IfOk result (λ told. EachIs told.items (λ handle. first_told_on handle calls.now meant.now)) }
+    ensures all { IfOk result (λ told. length told.items ≡ count) }
 {
     let mut told = vec![in alloc; None; count]?;
     for (at, call) in calls.iter().enumerate() {
