@@ -1,6 +1,6 @@
 //! The windows and files that the members of communicators make (MPI 4.0, 12.2 and 14.2.1).
 
-ghost use Rattle.std.specs.Prelude.{◌≡◌, ◌↔◌, All, IfOk, IsTrue, map};
+ghost use Rattle.std.specs.Prelude.{◌≡◌, ◌≤◌, ◌↔◌, All, IfOk, IsTrue, map};
 ghost use Rattle.comm_makings.specs.ObjectMakings.{AreObjects, AreObjectsOf, AreObjectsOfAll, HasMaker, IsFirstHere, IsMadeOf, IsMaking, IsMost, IsObject, IsOneMakingOf, count_in, given_at, kth_making, made_member, maker_of, makings_count, member_of, object_here, returned_here, smaller_here, view_by};
 
 use crate::calls::{Action, ObjectMaker, RankCalls};
@@ -219,7 +219,13 @@ fn making_of(all: &[Option<ObjectHere>]) -> Option<ObjectHere>
 {
     match first_here(all) {
         None => None,
-        Some(first) => { if are_alike(all, first.maker) { Some(first) } else { None } },
+        Some(first) => {
+            if are_alike(all, first.maker) {
+                Some(first)
+            } else {
+                None
+            }
+        },
     }
 }
 
@@ -259,13 +265,21 @@ fn makings_count(views: &[RankView], object: Object, member: Member) -> usize
     }
 }
 
+/// The larger of two numbers.
+fn larger(one: usize, other: usize) -> usize
+    ensures first { one ≤ result }
+    ensures second { other ≤ result }
+{
+    if one < other { other } else { one }
+}
+
 /// How many calls those of the member with most are.
 fn most_of(views: &[RankView], object: Object, members: &[Member]) -> usize
     ensures { IsMost views.now object members.now result }
 {
     let mut most = 0;
     for member in members {
-        most = most.max(makings_count(views, object, *member));
+        most = larger(most, makings_count(views, object, *member));
     }
     most
 }
