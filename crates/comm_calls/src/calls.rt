@@ -34,7 +34,7 @@ pub struct CommCalls {
 }
 
 impl Model for CommCalls {
-    ghost use Rattle.comm_calls.specs.Calls.{ReadCalls};
+    ghost use Rattle.comm_calls.specs.Calls.{ReadCalls, read_of};
 
     ghost Value = { ReadCalls };
 
