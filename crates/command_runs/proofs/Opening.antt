@@ -44,10 +44,10 @@ longer most bytes (Some rest) taken consumes more = omega (arith, more, ap lengt
 
 whole_unread : {R : Type 0} (most : ℕ) (file : Option (List ℕ)) (left : R → Option (List ℕ)) (failures : R → ℕ) (old new : R) (cause : WholeFault)
     → StandsAtFirst file (left old) → IsRefusedFor most left failures old new cause → IsNoWant cause → IsUnreadable most (Fails failures) file
-whole_unread most None left failures old new cause stands refused no = tt
-whole_unread most (Some bytes) left failures old new wholes.Memory stands refused no = absurd no
-whole_unread most (Some bytes) left failures old new wholes.Failed stands refused no = inl (old, new, refused)
-whole_unread most (Some bytes) left failures old new wholes.TooLong stands refused no =
+whole_unread most None left failures old new cause stands refused other = tt
+whole_unread most (Some bytes) left failures old new wholes.Memory stands refused other = absurd other
+whole_unread most (Some bytes) left failures old new wholes.Failed stands refused other = inl (old, new, refused)
+whole_unread most (Some bytes) left failures old new wholes.TooLong stands refused other =
     inr (longer most bytes (left new) refused.0 (subst (λ (l : Option (List ℕ)). Consumes l (left new) refused.0) stands refused.1) refused.2)
 
 -- a file that isn't read whole
