@@ -25,13 +25,13 @@ fn shown<T>(items: &[T]) -> &[T]
 }
 
 /// Which sort of object it is; nothing of a communicator.
-fn sort_text(object: Object) -> &'static [u8]
-    ensures { result.now ≡ sort_text object }
+fn put_sort(out: &mut Text, object: Object)
+    ensures { Adds out.old out.new (sort_text object) }
 {
     match object {
-        Object::Communicator => b"",
-        Object::Window => b"window ",
-        Object::File => b"file ",
+        Object::Communicator => out.put(b""),
+        Object::Window => out.put(b"window "),
+        Object::File => out.put(b"file "),
     }
 }
 
@@ -40,7 +40,7 @@ fn put_comm(out: &mut Text, comm: &Comm)
     ensures { Adds out.old out.new (comm_text comm.now) }
 {
     out.put(b"  ");
-    out.put(sort_text(comm.object));
+    put_sort(out, comm.object);
     out.put_number(comm.id as u64);
     out.put(b": ");
     put_named_ranks(out, &comm.members);
