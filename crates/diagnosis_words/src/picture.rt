@@ -371,12 +371,31 @@ impl<'a> Picture<'a> {
         }
     }
 
-    /// Edges to all of the ranks.
-    fn put_edges_to(&mut self, from: Name, ranks: &[u32]) -> Result<(), AllocError> {
-        for rank in ranks {
-            self.put_edge_to(from, *rank, false)?;
+    /// Edges to nodes of ranks, each once.
+    fn put_edges_to_nodes(
+        &mut self,
+        from: Name,
+        places: Vec<usize>,
+        is_dashed: bool,
+    ) -> Result<(), AllocError> {
+        let mut places = places;
+        places.sort()?;
+        places.dedup();
+        for at in places.iter() {
+            self.put_edge(from, Name::Ranks(*at), is_dashed)?;
         }
         Ok(())
+    }
+
+    /// Edges to all of the ranks.
+    fn put_edges_to(&mut self, from: Name, ranks: &[u32]) -> Result<(), AllocError> {
+        let mut places = Vec::new(self.source.alloc);
+        for rank in ranks {
+            if let Some(at) = self.nodes.of_ranks.get(rank) {
+                places.push(*at)?;
+            }
+        }
+        self.put_edges_to_nodes(from, places, false)
     }
 
     /// Edges to those of the ranks of which one is enough that may still go on, or to all where none may.
@@ -387,12 +406,15 @@ impl<'a> Picture<'a> {
         others: Others<'a>,
     ) -> Result<(), AllocError> {
         let may_one = others.has_one(ranks);
+        let mut places = Vec::new(self.source.alloc);
         for rank in ranks {
             if !may_one || others.has(*rank) {
-                self.put_edge_to(from, *rank, true)?;
+                if let Some(at) = self.nodes.of_ranks.get(rank) {
+                    places.push(*at)?;
+                }
             }
         }
-        Ok(())
+        self.put_edges_to_nodes(from, places, true)
     }
 
     /// A point below a node.
