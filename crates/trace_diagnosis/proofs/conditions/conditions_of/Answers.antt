@@ -33,7 +33,7 @@ drop_cut-requires-clause-all c =
     let puts = c.in_ok-put_polls.ensures f (λ p. length-map (map asked_plain p.asked.items) (asked_at run p.rank) ∙ length-map p.asked.items asked_plain)
     (asks ∙ polls_asked run c.in_ok-polls.polls.items case.pollers.now c.in_ok-polls.ensures.polls) in
     let n : length first ≡ length case.ops.now = length_of_shapes run first are in
-    let whole : length c.put_polls.new.of_ranks ≡ of_ranks.len = puts.len ∙ ap length c.deref_mut.ensures.value ∙ sym of_ranks.ok in
+    let whole : length c.put_polls.new.of_ranks ≡ of_ranks.len = puts.len ∙ ap length c.deref_mut.ensures.value ∙ sym of_ranks.ok.0 in
     let second = c.deref_mut-2.ensures.value ∙ take_at c.put_polls.new.of_ranks _ of_ranks.len whole in
     omega (arith, ap length second, puts.len, n, c.requires.all)
 
@@ -58,7 +58,7 @@ returns c =
     ∙ ap (map (asked_of run)) c.deref.ensures.value in
     let puts = c.in_ok-put_polls.ensures f (λ p. length-map (map asked_plain p.asked.items) (asked_at run p.rank) ∙ length-map p.asked.items asked_plain)
     (asks ∙ polls_asked run c.in_ok-polls.polls.items case.pollers.now c.in_ok-polls.ensures.polls) in
-    let whole : length put ≡ of_ranks.len = puts.len ∙ ap length c.deref_mut.ensures.value ∙ sym of_ranks.ok in
+    let whole : length put ≡ of_ranks.len = puts.len ∙ ap length c.deref_mut.ensures.value ∙ sym of_ranks.ok.0 in
     let second : c.deref_mut-2.result.now ≡ put = c.deref_mut-2.ensures.value ∙ take_at put _ of_ranks.len whole in
     let drops = subst (λ (l : List (Option Condition)). AreDropped gone case.ranks l last) second c.drop_cut.ensures in
     let end : length last ≡ of_ranks.len = drops.len ∙ whole in

@@ -20,7 +20,7 @@ loop-rank-preserved c =
     = c.take_at-condition.ensures.taken ∙ ap (λ (ws : List (Option Wait)). wait_at ws n) same ∙ c.loop-rank.invariant.rest n (omega arith) in
     let now : shapes new ≡ set (shapes old.items) n None = c.take_at-condition.ensures.rest ∙ ap (λ (ws : List (Option Wait)). set ws n None) same in
     let whole : length new ≡ old.len
-    = sym (length-map new (option_map shape)) ∙ ap length now ∙ length-set (shapes old.items) n None ∙ length-map old.items (option_map shape) ∙ sym old.ok in
+    = sym (length-map new (option_map shape)) ∙ ap length now ∙ length-set (shapes old.items) n None ∙ length-map old.items (option_map shape) ∙ sym old.ok.0 in
     record {
       found = flat_range_step held_told (held_at all) c.loop-rank.found.items _ n
           (c.in_ok-push_held.ensures ∙ ap (λ (o : Option Wait). map held_told c.loop-rank.found.items ++ held_by n o) taken) c.loop-rank.invariant.found;
