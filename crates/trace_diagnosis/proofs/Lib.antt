@@ -4,3 +4,11 @@ mod Needing
 mod Ranges
 mod Leading
 mod Rooted
+mod Halved
+mod Lists
+mod Putting
+mod Nobody
+mod Stuck
+mod Tailing
+mod Found
+mod Composing

@@ -5,8 +5,8 @@ use Rattle.trace_ops.specs.declared.state.State.{State}
 use Rattle.trace_ops.specs.declared.state.State.TheVariants.{Free, Waiting, Ended}
 use Rattle.trace_stuck.specs.Graph.{is_up}
 use Rattle.trace_stuck.specs.Named.{at_rank}
-use Rattle.trace_stuck.specs.Shape.{shape}
-use Rattle.trace_stuck.specs.declared.condition.Condition.{Condition}
+use Rattle.trace_stuck.specs.Shape as waits
+use Rattle.trace_diagnosis.specs.Conditions.{wait_at}
 use Rattle.trace_diagnosis.specs.Holding.{holds, nobody}
 use Rattle.trace_diagnosis.specs.Needs.{needs_of}
 use Rattle.trace_diagnosis.specs.declared.diagnosis.Need.{Need}
@@ -23,16 +23,17 @@ abbrev pub others : List Bool → ℕ → ℕ → Bool
 others able r s = is_up able s && not (r == s)
 
 -- what a rank with this condition needs: nothing where it isn't held
-abbrev pub needs_in : List Bool → ℕ → Condition → List Need
-needs_in able r c = if holds nobody (shape c) then [] else needs_of (others able r) (shape c)
+abbrev pub needs_in : List Bool → ℕ → waits.Wait → List Need
+needs_in able r w = if holds nobody w then [] else needs_of (others able r) w
+
+-- what a rank with this condition needs, where it has one
+abbrev pub needs_by : List Bool → ℕ → Option waits.Wait → List Need
+needs_by able r None = []
+needs_by able r (Some w) = needs_in able r w
 
 -- what a rank needs
-abbrev pub needs_at : List Bool → List (Option Condition) → ℕ → List Need
-needs_at able conditions r = of (slice_get conditions r)
-  where
-    of : Option (Option Condition) → List Need
-    of (Some (Some c)) = needs_in able r c
-    of o = []
+abbrev pub needs_at : List Bool → List (Option waits.Wait) → ℕ → List Need
+needs_at able ws r = needs_by able r (wait_at ws r)
 
 -- the node of a need: the rank, or the node of all rounds
 abbrev pub node_of : ℕ → Need → ℕ

@@ -4,9 +4,8 @@
 -- says nothing of such programs.)
 use Rattle.std.specs.Prelude.{ℕ, Bool, true, false, ◌&&◌, ◌||◌, ◌==◌, not, Option, Some, None, List, slice_get, unwrap_or}
 use Rattle.trace_stuck.specs.Shape as waits
-use Rattle.trace_stuck.specs.Shape.{Waits, OnNothing, OnRank, OnAll, OnOne, OnMismatched, none, and, shape}
+use Rattle.trace_stuck.specs.Shape.{Waits, OnNothing, OnRank, OnAll, OnOne, OnMismatched, none, and}
 use Rattle.trace_stuck.specs.Graph.{is_up}
-use Rattle.trace_stuck.specs.declared.condition.Condition.{Condition}
 use Rattle.trace_diagnosis.specs.declared.holding.Going.{Going}
 
 abbrev mutual
@@ -42,6 +41,6 @@ abbrev pub going : Going → ℕ → Bool
 going g r = is_up g.able.now r && is_other g.but r
 
 -- A rank is held where it has a condition that doesn't hold where no rank can go on.
-abbrev pub is_held : Option Condition → Bool
+abbrev pub is_held : Option waits.Wait → Bool
 is_held None = false
-is_held (Some c) = not (holds nobody (shape c))
+is_held (Some w) = not (holds nobody w)

@@ -5,7 +5,12 @@ pub mod Graph
 pub mod Roots
 pub mod LeftOver
 pub mod Standing
+pub mod Called
 pub mod Polls
+pub mod Tails
+pub mod Conditions
+pub mod Askers
 pub mod Rounds
 pub mod Near
 pub mod Missed
+pub mod Waiting

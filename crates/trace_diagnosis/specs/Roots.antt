@@ -4,7 +4,7 @@ use Rattle.std.specs.List.{range_with_len}
 use Rattle.std.specs.declared.alloc.Global.{Global}
 use Rattle.trace_stuck.specs.Graph.{is_up, label_at}
 use Rattle.trace_stuck.specs.Hearts.{IsInHeart, Reaches}
-use Rattle.trace_stuck.specs.declared.condition.Condition.{Condition}
+use Rattle.trace_stuck.specs.Shape as waits
 use Rattle.trace_diagnosis.specs.Graph.{HaveEdges, needs_at}
 use Rattle.trace_diagnosis.specs.Holding.{is_held}
 use Rattle.trace_diagnosis.specs.declared.diagnosis.Need.{Need}
@@ -62,15 +62,15 @@ abbrev pub KeepRoots : (old new : List Root) → Type 0
 KeepRoots old new = (edges : List (Vec ℕ Global)) (held : List Bool) (ranks : ℕ) →
     All (IsSound edges held ranks) old → All (IsSound edges held ranks) new
 
--- The roots are those of what so many ranks need, under some conditions and where just these haven't ended: the list of needs
--- and the edges are those that the conditions give.
-pub record AreRoots (able : List Bool) (ranks : ℕ) (conditions : List (Option Condition)) (roots : List Root) : Type 0 where
+-- The roots are those of what so many ranks need that wait or poll for this, and where just these haven't ended: the list of
+-- needs and the edges are those that the conditions give.
+pub record AreRoots (able : List Bool) (ranks : ℕ) (ws : List (Option waits.Wait)) (roots : List Root) : Type 0 where
   pub all : List (Vec Need Global)
   pub edges : List (Vec ℕ Global)
-  pub needs : map (λ v. v.items) all ≡ map (needs_at able conditions) (range_with_len 0 ranks)
+  pub needs : map (λ v. v.items) all ≡ map (needs_at able ws) (range_with_len 0 ranks)
   pub drawn : HaveEdges ranks all edges
-  pub sound : All (IsSound edges (map is_held conditions) ranks) roots
+  pub sound : All (IsSound edges (map is_held ws) ranks) roots
 
--- There are no roots, or they are those of some conditions.
-abbrev pub HaveRoots : List Bool → ℕ → List Root → Type 0
-HaveRoots able ranks roots = (roots ≡ []) ⊎ ((conditions : List (Option Condition)) × AreRoots able ranks conditions roots)
+-- No rank waits or polls for anything, and there are no roots; or they are those of what the ranks wait or poll for.
+abbrev pub HaveRoots : List Bool → ℕ → List (Option waits.Wait) → List Root → Type 0
+HaveRoots able ranks ws roots = (All (λ w. w ≡ None) ws × (roots ≡ [])) ⊎ AreRoots able ranks ws roots

@@ -1,5 +1,9 @@
 //! The calls of a rank, as its readable events tell them.
 
+ghost use Rattle.std.specs.Prelude.{◌≡◌, ◌≤◌, ◌^◌, slice_get};
+ghost use Rattle.std.specs.Option.{option_copied, option_map};
+ghost use Rattle.trace_diagnosis.specs.Called.{called_in, called_plain, count_of, entered_at, entered_in, returned_at, returned_in};
+
 use mpi_model::{Call, Event, OpName, Outs};
 use trace_know::{Cell, Knowledge, Readable};
 
@@ -11,7 +15,9 @@ pub(crate) struct Called<'a> {
 }
 
 /// The call of an Enter.
-fn entered_in(event: &Event) -> Option<&Call> {
+fn entered_in(event: &Event) -> Option<&Call>
+    ensures { option_copied result ≡ entered_in event.now }
+{
     match event {
         Event::Enter(call, _) => Some(call),
         Event::Return(_, _) => None,
@@ -19,7 +25,9 @@ fn entered_in(event: &Event) -> Option<&Call> {
 }
 
 /// The outcome of a Return.
-fn returned_in(event: &Event) -> Option<&Outs> {
+fn returned_in(event: &Event) -> Option<&Outs>
+    ensures { option_copied result ≡ returned_in event.now }
+{
     match event {
         Event::Return(outs, _) => Some(outs),
         Event::Enter(_, _) => None,
@@ -35,12 +43,17 @@ pub(crate) fn wall_in(event: &Event) -> u64 {
 }
 
 /// How many calls these events tell: the last may have no Return.
-pub(crate) fn count_of(events: &Readable<'_>) -> u64 {
+pub(crate) fn count_of(events: &Readable<'_>) -> u64
+    ensures count { result ≡ count_of events.now }
+    ensures few { result ≤ 2 ^ 63 }
+{
     (events.len() / 2 + events.len() % 2) as u64
 }
 
 /// The event at a place, where it is readable.
-pub(crate) fn event_at<'a>(events: &Readable<'a>, place: u64) -> Option<&'a Event> {
+pub(crate) fn event_at<'a>(events: &Readable<'a>, place: u64) -> Option<&'a Event>
+    ensures { option_copied result ≡ slice_get events.now place }
+{
     if place < events.len() as u64 {
         Some(events.at(place as usize))
     } else {
@@ -48,15 +61,41 @@ pub(crate) fn event_at<'a>(events: &Readable<'a>, place: u64) -> Option<&'a Even
     }
 }
 
-/// The call of a number, where its Enter is readable.
-pub(crate) fn called_at<'a>(events: &Readable<'a>, number: u64) -> Option<Called<'a>> {
-    let place = number.saturating_mul(2);
-    let call = entered_in(event_at(events, place)?)?;
-    let outs = match event_at(events, place.saturating_add(1)) {
+/// The call of the Enter at a place.
+fn entered_at<'a>(events: &Readable<'a>, place: u64) -> Option<&'a Call>
+    ensures { option_copied result ≡ entered_at events.now place }
+{
+    match event_at(events, place) {
+        Some(event) => entered_in(event),
+        None => None,
+    }
+}
+
+/// The outcome of the Return at a place.
+fn returned_at<'a>(events: &Readable<'a>, place: u64) -> Option<&'a Outs>
+    ensures { option_copied result ≡ returned_at events.now place }
+{
+    match event_at(events, place) {
         Some(event) => returned_in(event),
         None => None,
-    };
-    Some(Called { call, outs })
+    }
+}
+
+/// The call of a number, where its Enter is readable.
+pub(crate) fn called_at<'a>(events: &Readable<'a>, number: u64) -> Option<Called<'a>>
+    ensures { option_map called_plain result ≡ called_in events.now number }
+{
+    if number >= count_of(events) {
+        return None;
+    }
+    let place = number * 2;
+    match entered_at(events, place) {
+        Some(call) => Some(Called {
+            call,
+            outs: returned_at(events, place + 1),
+        }),
+        None => None,
+    }
 }
 
 /// The wall time of the event at a place.

@@ -6,6 +6,8 @@
 ghost use Rattle.std.specs.Prelude.{◌≡◌, ◌++◌, ◌≤◌, ◌+◌, ◌^◌, ℕ, IfOk, OnOk, length, map, vec_len};
 ghost use Rattle.std.specs.List.{range_with_len};
 ghost use Rattle.trace_stuck.specs.Graph.{edge};
+ghost use Rattle.trace_stuck.specs.Shape.{shape};
+ghost use Rattle.trace_diagnosis.specs.Askers.{shapes};
 ghost use Rattle.trace_diagnosis.specs.Graph.{HaveEdges, has_not_ended, needs_at, needs_in, node_of};
 
 use crate::diagnosis::Need;
@@ -54,7 +56,7 @@ fn needs_with(
     rank: u32,
     condition: &Condition,
 ) -> Result<Vec<Need>, AllocError>
-    ensures { IfOk result (λ needs. needs.items ≡ needs_in able.now rank condition.now) }
+    ensures { IfOk result (λ needs. needs.items ≡ needs_in able.now rank (shape condition.now)) }
 {
     let mut needs = Vec::new(alloc);
     if is_unmet(condition) {
@@ -74,7 +76,7 @@ fn needs_at(
     conditions: &[Option<Condition>],
     rank: u32,
 ) -> Result<Vec<Need>, AllocError>
-    ensures { IfOk result (λ needs. needs.items ≡ needs_at able.now conditions.now rank) }
+    ensures { IfOk result (λ needs. needs.items ≡ needs_at able.now (shapes conditions.now) rank) }
 {
     match conditions.get(rank as usize) {
         Some(Some(condition)) => needs_with(alloc, able, rank, condition),
@@ -90,7 +92,7 @@ fn all_needs(
     ranks: u32,
 ) -> Result<Vec<Vec<Need>>, AllocError>
     ensures len { IfOk result (λ all. vec_len all ≡ ranks) }
-    ensures needs { IfOk result (λ all. map (λ needs. needs.items) all.items ≡ map (needs_at able.now conditions.now) (range_with_len 0 ranks)) }
+    ensures needs { IfOk result (λ all. map (λ needs. needs.items) all.items ≡ map (needs_at able.now (shapes conditions.now)) (range_with_len 0 ranks)) }
 {
     let mut all = Vec::new(alloc);
     for rank in 0..ranks {
@@ -142,7 +144,7 @@ pub(crate) fn graph_of(
     ranks: u32,
 ) -> Result<Graph, AllocError>
     requires { ranks ≤ 2 ^ 31 }
-    ensures needs { IfOk result (λ g. map (λ needs. needs.items) g.needs.items ≡ map (needs_at able.now conditions.now) (range_with_len 0 ranks)) }
+    ensures needs { IfOk result (λ g. map (λ needs. needs.items) g.needs.items ≡ map (needs_at able.now (shapes conditions.now)) (range_with_len 0 ranks)) }
     ensures len { IfOk result (λ g. vec_len g.edges ≡ ranks + 1) }
     ensures edges { IfOk result (λ g. HaveEdges ranks g.needs.items g.edges.items) }
     ensures same { IfOk result (λ g. vec_len g.askers ≡ vec_len g.edges) }

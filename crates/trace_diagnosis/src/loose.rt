@@ -1,10 +1,12 @@
 //! Messages and receives in no pair.
 
-ghost use Rattle.std.specs.Prelude.{◌≡◌, ◌++◌, List, IfOk, OnOk, filter};
+ghost use Rattle.std.specs.Prelude.{◌≡◌, ◌++◌, List, IfOk, OnOk, false, filter, is_none, true};
+ghost use Rattle.std.specs.List.{list_any};
 ghost use Rattle.mpi_model.specs.declared.message.Receive.{Receive as Wanted};
 ghost use Rattle.trace_pair.specs.Ends.{AreLast};
 ghost use Rattle.trace_wait.specs.Matching.{is_unpaired_receive};
-ghost use Rattle.trace_diagnosis.specs.LeftOver.{is_left_beside, is_loose, is_undecided_beside, loose};
+ghost use Rattle.trace_pair.specs.Table.{taken_by};
+ghost use Rattle.trace_diagnosis.specs.LeftOver.{has_sure_loose, is_left_beside, is_loose, is_sure_loose, is_undecided_beside, loose};
 
 use mpi_model::{Message, OpName, Receive};
 use std::alloc::{AllocError, Global};
@@ -12,26 +14,45 @@ use trace_ops::RankOps;
 use trace_pair::{Ends, Pair, PairTable, PairsByReceive, Reaches};
 
 /// Whether the message of that name is in one of the pairs, which go by message; looked for at a place first.
-fn is_in(pairs: &[Pair], place: &mut usize, name: OpName) -> bool {
-    if let Some(pair) = pairs.get(*place) {
-        if pair.message == name {
-            *place = place.saturating_add(1);
-            return true;
-        }
+fn is_in(pairs: &[Pair], place: &mut usize, name: OpName) -> bool
+    ensures { result ≡ true → is_none (taken_by pairs.now name) ≡ false }
+{
+    if is_of_at(pairs, *place, name) {
+        *place = place.saturating_add(1);
+        return true;
     }
-    match pairs.binary_search_by_key(&name, |pair| pair.message) {
-        Ok(found) => {
-            *place = found.saturating_add(1);
-            true
-        }
-        Err(_) => false,
+    let found = pairs.partition_point(|pair| pair.message < name);
+    *place = found;
+    if !is_of_at(pairs, found, name) {
+        return false;
     }
+    *place = found.saturating_add(1);
+    true
+}
+
+/// Whether the pair at a place is of the message of that name.
+fn is_of_at(pairs: &[Pair], place: usize, name: OpName) -> bool
+    ensures { result ≡ true → is_none (taken_by pairs.now name) ≡ false }
+{
+    if place >= pairs.len() {
+        return false;
+    }
+    pairs[place].message == name
+}
+
+/// Whether a message is sure and in no pair.
+fn is_sure_loose(pairs: &[Pair], place: &mut usize, m: &Message) -> bool
+    ensures { result ≡ false → is_sure_loose pairs.now m.now ≡ false }
+{
+    m.trust.is_sure() && !is_in(pairs, place, m.name)
 }
 
 /// Whether one of the messages is sure and in no pair.
-fn has_loose(pairs: &[Pair], place: &mut usize, sends: &[Message]) -> bool {
+fn has_loose(pairs: &[Pair], place: &mut usize, sends: &[Message]) -> bool
+    ensures { result ≡ false → list_any (is_sure_loose pairs.now) sends.now ≡ false }
+{
     for m in sends {
-        if m.trust.is_sure() && !is_in(pairs, place, m.name) {
+        if is_sure_loose(pairs, place, m) {
             return true;
         }
     }
@@ -39,7 +60,9 @@ fn has_loose(pairs: &[Pair], place: &mut usize, sends: &[Message]) -> bool {
 }
 
 /// Whether some message is sure and in no pair.
-pub(crate) fn is_some_loose(pairs: &[Pair], ops: &[RankOps]) -> bool {
+pub(crate) fn is_some_loose(pairs: &[Pair], ops: &[RankOps]) -> bool
+    ensures { result ≡ false → has_sure_loose pairs.now ops.now ≡ false }
+{
     let mut place = 0;
     for own in ops {
         if has_loose(pairs, &mut place, own.sends()) {

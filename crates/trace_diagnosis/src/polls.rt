@@ -4,8 +4,10 @@
 //! beyond, and its last calls are such polls and returned local calls, two polls at least; at the very end may stand a
 //! test or probe that hasn't returned.
 
-ghost use Rattle.std.specs.Prelude.{◌≡◌};
+ghost use Rattle.std.specs.Prelude.{◌≡◌, ◌+◌, ◌<◌, ◌^◌, if◌then◌else◌};
+ghost use Rattle.std.specs.Option.{option_copied};
 ghost use Rattle.trace_diagnosis.specs.Polls.{is_poll, is_unsuccessful};
+ghost use Rattle.trace_diagnosis.specs.Tails.{is_poll_part, may_stand, part_in, part_of, polls_from, returned_part, stands_in, tail_first};
 
 use crate::calls::{Called, called_at, count_of};
 use mpi_model::{Call, CommRef, Outs, Peer, ProbeEnvelope};
@@ -56,16 +58,26 @@ enum Part {
     Other,
 }
 
+/// What a returned call is that is no poll without success.
+fn returned_part(call: &Call) -> Part
+    ensures { result ≡ returned_part call.now }
+{
+    match call {
+        Call::Local => Part::Local,
+        _ => Part::Other,
+    }
+}
+
 /// What the call is.
-fn part_of(called: &Called<'_>) -> Part {
+fn part_of(called: &Called<'_>) -> Part
+    ensures { result ≡ part_of called.now.call.now (option_copied called.now.outs) }
+{
     match called.outs {
         Some(outs) => {
             if is_unsuccessful(called.call, outs) {
                 Part::Poll
-            } else if matches!(called.call, Call::Local) {
-                Part::Local
             } else {
-                Part::Other
+                returned_part(called.call)
             }
         }
         None => {
@@ -88,35 +100,64 @@ pub(crate) struct Tail {
 }
 
 /// What the call of a number is.
-fn part_at(events: &Readable<'_>, number: u64) -> Part {
+fn part_at(events: &Readable<'_>, number: u64) -> Part
+    ensures { result ≡ part_in events.now number }
+{
     match called_at(events, number) {
         Some(called) => part_of(&called),
         None => Part::Other,
     }
 }
 
-/// The longest tail of the calls that a rank which polls may have made.
-pub(crate) fn tail_of(events: &Readable<'_>) -> Tail {
-    let calls = count_of(events);
-    let mut tail = Tail {
-        first: calls,
-        count: 0,
-    };
-    for behind in 0..calls {
-        let number = calls - 1 - behind;
-        match part_at(events, number) {
-            Part::Poll => tail.count = tail.count.saturating_add(1),
-            Part::Local => {}
-            Part::Pending => {
-                if behind > 0 {
-                    return tail;
-                }
-            }
-            Part::Other => return tail,
-        }
-        tail.first = number;
+/// Whether it may stand among the last calls of a rank that polls.
+fn may_stand(is_last: bool, part: Part) -> bool
+    ensures { result ≡ may_stand is_last part }
+{
+    match part {
+        Part::Poll | Part::Local => true,
+        Part::Pending => is_last,
+        Part::Other => false,
     }
-    tail
+}
+
+/// The same of the call of a number.
+fn stands_at(events: &Readable<'_>, number: u64) -> bool
+    requires { number + 1 < 2 ^ 64 }
+    ensures { result ≡ stands_in events.now number }
+{
+    may_stand(number + 1 == count_of(events), part_at(events, number))
+}
+
+/// Whether the call of a number is a poll without success.
+fn is_poll_at(events: &Readable<'_>, number: u64) -> bool
+    ensures { result ≡ is_poll_part (part_in events.now number) }
+{
+    match part_at(events, number) {
+        Part::Poll => true,
+        Part::Pending | Part::Local | Part::Other => false,
+    }
+}
+
+/// The longest tail of the calls that a rank which polls may have made.
+pub(crate) fn tail_of(events: &Readable<'_>) -> Tail
+    ensures first { result.first ≡ tail_first events.now }
+    ensures count { result.count ≡ polls_from events.now result.first }
+{
+    let mut first = count_of(events);
+    let mut count = 0;
+    'back: while first > 0 && stands_at(events, first - 1) {
+        first -= 1;
+        count = more_if(count, is_poll_at(events, first));
+    }
+    Tail { first, count }
+}
+
+/// One more, where there is one.
+fn more_if(count: u64, is_one: bool) -> u64
+    requires { count + 1 < 2 ^ 64 }
+    ensures { result ≡ count + (if is_one then 1 else 0) }
+{
+    if is_one { count + 1 } else { count }
 }
 
 /// The numbers that tell a source.

@@ -1,9 +1,9 @@
 //! The rounds whose calls don't match, and those that some members haven't entered.
 
-ghost use Rattle.std.specs.Prelude.{◌≡◌, ◌<◌, IfOk, length};
+ghost use Rattle.std.specs.Prelude.{◌≡◌, ◌++◌, ◌∷◌, ◌<◌, [], All, IfOk, OnOk, length, map};
 ghost use Rattle.std.specs.List.Sorted.{IsPermutation};
 ghost use Rattle.trace_wait.specs.Rounds.{group};
-ghost use Rattle.trace_diagnosis.specs.Rounds.{HasMembers, entered, entered_at, has_entered, missing};
+ghost use Rattle.trace_diagnosis.specs.Rounds.{AreTold, HasMembers, entered, entered_at, has_entered, mismatched_in, missing, name_of, open_in, opened, opened_told};
 
 use crate::calls::named;
 use crate::diagnosis::{CallGroup, MismatchedRound, OpenRound, Rounds};
@@ -187,7 +187,9 @@ fn mismatched_of(
     layout: &Layout,
     entries: &Entries<'_>,
     round: RoundName,
-) -> Result<MismatchedRound, AllocError> {
+) -> Result<MismatchedRound, AllocError>
+    ensures { IfOk result (λ m. m.round ≡ round) }
+{
     let members = members_rising(alloc, layout, round.object)?;
     let entrants = entrants_of(alloc, entries, &members, round)?;
     let groups = groups_of(alloc, entrants)?;
@@ -219,11 +221,68 @@ fn open_of(
     })
 }
 
+/// Adds a round whose calls don't match.
+fn push_mismatched(
+    alloc: Global,
+    layout: &Layout,
+    entries: &Entries<'_>,
+    round: RoundName,
+    told: &mut Vec<MismatchedRound>,
+) -> Result<(), AllocError>
+    ensures { OnOk result (map (λ m. m.round) told.new.items ≡ map (λ m. m.round) told.old.items ++ round ∷ []) }
+{
+    let one = mismatched_of(alloc, layout, entries, round)?;
+    told.push(one)?;
+    Ok(())
+}
+
+/// Adds a round that some members haven't entered.
+fn push_open(
+    alloc: Global,
+    layout: &Layout,
+    entries: &Entries<'_>,
+    round: RoundName,
+    function: CollectiveFunction,
+    root: Option<u32>,
+    told: &mut Vec<OpenRound>,
+) -> Result<(), AllocError>
+    ensures calls { OnOk result (map opened_told told.new.items ≡ map opened_told told.old.items ++ opened round function root ∷ []) }
+    ensures members { OnOk result (All (HasMembers layout.now entries.now) told.old.items → All (HasMembers layout.now entries.now) told.new.items) }
+{
+    let one = open_of(alloc, layout, entries, round, function, root)?;
+    told.push(one)?;
+    Ok(())
+}
+
 /// The name of a round.
-fn name_of(round: &Round) -> RoundName {
+fn name_of(round: &Round) -> RoundName
+    ensures { result ≡ name_of round.now }
+{
     RoundName {
         object: round.comm,
         k: round.k,
+    }
+}
+
+/// Adds a round, where its calls don't match or some members haven't entered it.
+fn push_round(
+    alloc: Global,
+    layout: &Layout,
+    entries: &Entries<'_>,
+    round: &Round,
+    told: &mut Rounds,
+) -> Result<(), AllocError>
+    ensures mismatched { OnOk result (map (λ m. m.round) told.new.mismatched.items ≡ map (λ m. m.round) told.old.mismatched.items ++ mismatched_in round.now) }
+    ensures calls { OnOk result (map opened_told told.new.open.items ≡ map opened_told told.old.open.items ++ open_in round.now) }
+    ensures members { OnOk result (All (HasMembers layout.now entries.now) told.old.open.items → All (HasMembers layout.now entries.now) told.new.open.items) }
+{
+    let name = name_of(round);
+    match round.standing {
+        Standing::Mismatched => push_mismatched(alloc, layout, entries, name, &mut told.mismatched),
+        Standing::Partial(function, root, _, _) => {
+            push_open(alloc, layout, entries, name, function, root, &mut told.open)
+        }
+        Standing::Complete(_, _) => Ok(()),
     }
 }
 
@@ -233,20 +292,17 @@ pub(crate) fn rounds_of(
     layout: &Layout,
     entries: &Entries<'_>,
     rounds: &[Round],
-) -> Result<Rounds, AllocError> {
-    let mut mismatched = Vec::new(alloc);
-    let mut open = Vec::new(alloc);
+) -> Result<Rounds, AllocError>
+    ensures { IfOk result (AreTold layout.now entries.now rounds.now) }
+{
+    let mut told = Rounds {
+        mismatched: Vec::new(alloc),
+        open: Vec::new(alloc),
+    };
     for round in rounds {
-        let name = name_of(round);
-        match round.standing {
-            Standing::Mismatched => mismatched.push(mismatched_of(alloc, layout, entries, name)?)?,
-            Standing::Partial(function, root, _, _) => {
-                open.push(open_of(alloc, layout, entries, name, function, root)?)?
-            }
-            Standing::Complete(_, _) => {}
-        }
+        push_round(alloc, layout, entries, round, &mut told)?;
     }
-    Ok(Rounds { mismatched, open })
+    Ok(told)
 }
 
 /// The ranks of a mismatched round's groups, in rising order.

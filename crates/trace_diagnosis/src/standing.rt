@@ -1,10 +1,11 @@
 //! How each rank stands: whether it has ended, and where its last call stands.
 
-ghost use Rattle.std.specs.Prelude.{◌≡◌, IfOk};
+ghost use Rattle.std.specs.Prelude.{◌≡◌, ◌<◌, ◌≤◌, IfOk, length, map};
+ghost use Rattle.std.specs.List.{range_with_len};
 ghost use Rattle.trace_know.specs.Cell.{shown};
-ghost use Rattle.trace_know.specs.Prefix.{prefix_of};
 ghost use Rattle.trace_ops.specs.Ops.{AreOwn};
-ghost use Rattle.trace_diagnosis.specs.Standing.{beyond_of, ends_with, stand_at, stand_of};
+ghost use Rattle.trace_wait.specs.Ranks.{ops_of};
+ghost use Rattle.trace_diagnosis.specs.Standing.{beyond_of, ends_with, stand_at, stand_of, stands_at, stands_by, stands_told};
 
 use crate::calls::{called_at, count_of, wall_at};
 use crate::diagnosis::{Beyond, LastCall, Stand, Standing};
@@ -161,9 +162,7 @@ fn standing_with(
     cut: bool,
 ) -> Result<Standing, AllocError>
     requires { AreOwn 0 entries.now }
-    ensures rank { IfOk result (λ s. s.rank ≡ rank) }
-    ensures stand { IfOk result (λ s. s.stand ≡ stand_of own.now.state (prefix_of know.now rank)) }
-    ensures beyond { IfOk result (λ s. s.beyond ≡ beyond_of know.now rank cut) }
+    ensures { IfOk result (λ s. stands_told s ≡ stands_by own.now.state know.now rank cut) }
 {
     let call = last_call(alloc, know, own, entries, rank)?;
     Ok(Standing {
@@ -172,6 +171,14 @@ fn standing_with(
         call,
         beyond: beyond_of(know, rank, cut),
     })
+}
+
+/// What a rank did.
+pub(crate) fn ops_at(ops: &[RankOps], rank: u32) -> &RankOps
+    requires { rank < length ops.now }
+    ensures { result.now ≡ ops_of ops.now rank }
+{
+    &ops[rank as usize]
 }
 
 /// How each rank stands.
@@ -183,13 +190,15 @@ pub(crate) fn standing_of(
     cut: &[bool],
     ranks: u32,
 ) -> Result<Vec<Standing>, AllocError>
-    requires { AreOwn 0 entries.now }
+    requires own { AreOwn 0 entries.now }
+    requires ranks { ranks ≤ length ops.now }
+    ensures { IfOk result (λ all. map stands_told all.items ≡ map (stands_at know.now ops.now cut.now) (range_with_len 0 ranks)) }
 {
     let mut all = Vec::new(alloc);
     for rank in 0..ranks {
-        if let Some(own) = ops.get(rank as usize) {
-            all.push(standing_with(alloc, know, own, entries, rank, is_up(cut, rank))?)?;
-        }
+        let is_cut = is_up(cut, rank);
+        let standing = standing_with(alloc, know, ops_at(ops, rank), entries, rank, is_cut)?;
+        all.push(standing)?;
     }
     Ok(all)
 }

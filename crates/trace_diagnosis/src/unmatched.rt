@@ -1,10 +1,11 @@
 //! Messages that are left over, receives that starve, and the nearest misses of both.
 
-ghost use Rattle.std.specs.Prelude.{◌≡◌, ◌++◌, All, IfOk, OnOk, map};
+ghost use Rattle.std.specs.Prelude.{◌≡◌, ◌++◌, ◌∷◌, [], if◌then◌else◌, All, Bool, IfOk, List, OnOk, filter, map, true};
 ghost use Rattle.std.specs.List.{flat_map};
 ghost use Rattle.trace_ops.specs.Ops.{AreOwn};
-ghost use Rattle.trace_diagnosis.specs.LeftOver.{unfinished_of};
-ghost use Rattle.trace_diagnosis.specs.Missed.{IsNearMessage, IsNearReceive};
+ghost use Rattle.trace_stuck.specs.Graph.{is_up};
+ghost use Rattle.trace_diagnosis.specs.LeftOver.{IsOfWaiting, IsUnmatched, is_told, left_over, unfinished_of};
+ghost use Rattle.trace_diagnosis.specs.Missed.{HasNearMessages, HasNearReceives, IsNearMessage, IsNearReceive};
 
 use crate::before::Through;
 use crate::conditions::Poller;
@@ -73,7 +74,9 @@ pub(crate) struct Run<'a> {
 
 impl<'a> Run<'a> {
     /// Whether a message that is left over is told: it was sent to a rank that is held or has no condition.
-    fn is_told(&self, m: &Message) -> bool {
+    fn is_told(&self, m: &Message) -> bool
+        ensures { result ≡ is_told self.now.held.now self.now.waits.now m.now }
+    {
         is_up(self.held, m.to) || !is_up(self.waits, m.to)
     }
 }
@@ -91,6 +94,7 @@ struct Found {
 /// What starves and what is left over.
 fn found_in(alloc: Global, run: &Run<'_>, reaches: &Reaches<'_>) -> Result<Found, AllocError>
     requires { reaches.now ≡ run.now.ops.now }
+    ensures { IfOk result (λ f. f.left.items ≡ left_over run.now.ops.now run.now.pairs.now.pairs) }
 {
     let received = run.pairs.by_receive(alloc)?;
     let loose = loose_messages(alloc, run.pairs, run.ops)?;
@@ -446,6 +450,48 @@ fn taken_at(taken: &[Vec<TakenBy>], at: usize) -> &[TakenBy] {
     }
 }
 
+/// What is told of a message that is left over.
+fn left_over_with(
+    alloc: Global,
+    receives: &AllReceives,
+    found: &Found,
+    idle: &Idle,
+    through: &Through,
+    m: &Message,
+) -> Result<LeftOver, AllocError>
+    ensures message { IfOk result (λ l. l.message ≡ m.now) }
+    ensures near { IfOk result HasNearReceives }
+{
+    Ok(LeftOver {
+        message: *m,
+        before: through.at(patterns_of(m)[3]),
+        near: receives.near(alloc, found, idle, m)?,
+    })
+}
+
+/// Adds a message that is left over, where it is told.
+fn push_told(
+    alloc: Global,
+    run: &Run<'_>,
+    receives: &AllReceives,
+    found: &Found,
+    idle: &Idle,
+    through: &Through,
+    m: &Message,
+    told: &mut Vec<LeftOver>,
+) -> Result<(), AllocError>
+    ensures messages { OnOk result (map (λ l. l.message) told.new.items ≡ map (λ l. l.message) told.old.items
+        ++ (if is_told run.now.held.now run.now.waits.now m.now then m.now ∷ [] else [])) }
+    ensures near { OnOk result (All HasNearReceives told.old.items → All HasNearReceives told.new.items) }
+{
+    if !run.is_told(m) {
+        return Ok(());
+    }
+    let one = left_over_with(alloc, receives, found, idle, through, m)?;
+    told.push(one)?;
+    Ok(())
+}
+
 /// The messages that are left over and told.
 fn told_messages(
     alloc: Global,
@@ -453,19 +499,35 @@ fn told_messages(
     found: &Found,
     idle: &Idle,
     through: &Through,
-) -> Result<Vec<LeftOver>, AllocError> {
+) -> Result<Vec<LeftOver>, AllocError>
+    ensures messages { IfOk result (λ told. map (λ l. l.message) told.items ≡ filter (is_told run.now.held.now run.now.waits.now) found.now.left.items) }
+    ensures near { IfOk result (λ told. All HasNearReceives told.items) }
+{
     let receives = AllReceives::of(alloc, found, idle)?;
     let mut told = Vec::new(alloc);
     for m in &found.left {
-        if run.is_told(m) {
-            told.push(LeftOver {
-                message: *m,
-                before: through.at(patterns_of(m)[3]),
-                near: receives.near(alloc, found, idle, m)?,
-            })?;
-        }
+        push_told(alloc, run, &receives, found, idle, through, m, &mut told)?;
     }
     Ok(told)
+}
+
+/// Adds what is told of a receive that starves.
+fn push_starving(
+    q: &Receive,
+    before: u64,
+    near: Vec<NearMessage>,
+    told: &mut Vec<Starving>,
+) -> Result<(), AllocError>
+    requires { All (IsNearMessage q.now) near.items }
+    ensures waiting { OnOk result ((waits : List Bool) → is_up waits q.now.at ≡ true → All (IsOfWaiting waits) told.old.items → All (IsOfWaiting waits) told.new.items) }
+    ensures near { OnOk result (All HasNearMessages told.old.items → All HasNearMessages told.new.items) }
+{
+    told.push(Starving {
+        receive: *q,
+        before,
+        near,
+    })?;
+    Ok(())
 }
 
 /// The receives that starve and are told: those of ranks that wait or poll.
@@ -477,17 +539,18 @@ fn told_receives(
     found: &Found,
     idle: &Idle,
     through: &Through,
-) -> Result<Vec<Starving>, AllocError> {
+) -> Result<Vec<Starving>, AllocError>
+    ensures waiting { IfOk result (λ told. All (IsOfWaiting run.now.waits.now) told.items) }
+    ensures near { IfOk result (λ told. All HasNearMessages told.items) }
+{
     let messages = AllMessages::of(alloc, run, inits, reaches, found, idle)?;
     let mut told = Vec::new(alloc);
     for (at, q) in found.starving.iter().enumerate() {
-        if is_up(run.waits, q.at) {
-            told.push(Starving {
-                receive: *q,
-                before: through.at(pattern_of(q)),
-                near: messages.near(alloc, found, idle, at, q)?,
-            })?;
+        if !is_up(run.waits, q.at) {
+            continue;
         }
+        let near = messages.near(alloc, found, idle, at, q)?;
+        push_starving(q, through.at(pattern_of(q)), near, &mut told)?;
     }
     Ok(told)
 }
@@ -499,7 +562,7 @@ pub(crate) fn unmatched_of(
     inits: &Inits,
 ) -> Result<Unmatched, AllocError>
     requires { AreOwn 0 run.now.ops.now }
-    ensures { IfOk result (λ u. u.unfinished.items ≡ flat_map unfinished_of run.now.ops.now) }
+    ensures { IfOk result (IsUnmatched run.now.ops.now run.now.pairs.now.pairs run.now.held.now run.now.waits.now) }
 {
     let table = reaches_of(alloc, run.ops)?;
     let reaches = Reaches::new(run.ops, &table);

@@ -11,3 +11,6 @@ returns-clause-few c =
 
 pub returns-clause-own : goal.returns-clause-own
 returns-clause-own c = subst (λ (os : List Ops). AreOwn 0 os) (sym c.in_ok-ops.ensures) (c.ops_laws.ensures.all c.args.layout.now c.args.know.now)
+
+pub returns-clause-ranks : goal.returns-clause-ranks
+returns-clause-ranks c = ap length c.in_ok-ops.ensures ∙ length-map-range_with_len (ops_of c.args.layout.now c.args.know.now) 0 c.args.layout.now.ranks
