@@ -287,26 +287,33 @@ impl<'a> Picture<'a> {
         self.out.put(b"\"");
     }
 
-    /// What is said of a node of ranks.
-    fn words_of(&self, node: &Node) -> Result<Vec<u8>, AllocError> {
+    /// What is said of the node of ranks at a place.
+    fn words_at(&self, at: usize) -> Result<Vec<u8>, AllocError> {
         let mut words = Writer::new(self.source, self.all);
-        words.put_node(&node.group);
-        if node.shapes > 1 {
-            words.put(b"\nand ");
-            words.put_number(node.shapes.saturating_sub(1) as u64);
-            words.put(b" more like it");
+        if let Some(node) = self.nodes.nodes.as_slice().get(at) {
+            words.put_node(&node.group);
+            if node.shapes > 1 {
+                words.put(b"\nand ");
+                words.put_number(node.shapes.saturating_sub(1) as u64);
+                words.put(b" more like it");
+            }
         }
         let Writer { out, .. } = words;
         out.into_bytes()
     }
 
-    /// A node of ranks.
+    /// The first rank of the node at a place.
+    fn first_at(&self, at: usize) -> u32 {
+        match self.nodes.nodes.as_slice().get(at) {
+            Some(node) => node.group.first(),
+            None => 0,
+        }
+    }
+
+    /// The node of ranks at a place.
     fn put_ranks_node(&mut self, at: usize) -> Result<(), AllocError> {
-        let Some(node) = self.nodes.nodes.as_slice().get(at) else {
-            return Ok(());
-        };
-        let words = self.words_of(node)?;
-        let style = style_of(self.source, node.group.first());
+        let words = self.words_at(at)?;
+        let style = style_of(self.source, self.first_at(at));
         self.put_node(Name::Ranks(at));
         self.put_label(words.as_slice());
         self.out.put(style);
@@ -508,10 +515,7 @@ impl<'a> Picture<'a> {
 
     /// The edges of a node of ranks, by the first of them.
     fn put_edges(&mut self, at: usize) -> Result<(), AllocError> {
-        let Some(node) = self.nodes.nodes.as_slice().get(at) else {
-            return Ok(());
-        };
-        let rank = node.group.first();
+        let rank = self.first_at(at);
         let others = Others {
             source: self.source,
             but: Some(rank),
