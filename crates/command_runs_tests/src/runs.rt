@@ -71,28 +71,19 @@ MPI_Comm comm=2
 MPI_Barrier returning at walltime 1.75, cputime 0.25 seconds in thread 0.
 ";
 
-/// The run of a replay or of a report over a shelf, whose files are named.
-fn ran<W: Write>(
+/// The run of a replay or of a report over these files, which are named.
+fn ran<O: Opener, W: Write>(
     alloc: Global,
     replays: bool,
-    files: &Shelf,
+    files: &O,
     out: &mut W,
 ) -> Result<Outcome, RunFault> {
     let input = input_at(alloc, None, "layout.json", "manifest.json", files)?;
+    let run = Run::new(alloc, &input, files);
     if replays {
-        run_with(
-            Verb::Replay,
-            &Run::new(alloc, &input, files),
-            &mut Unwatched,
-            out,
-        )
+        run_with(Verb::Replay, &run, &mut Unwatched, out)
     } else {
-        run_with(
-            Verb::Report,
-            &Run::new(alloc, &input, files),
-            &mut Unwatched,
-            out,
-        )
+        run_with(Verb::Report, &run, &mut Unwatched, out)
     }
 }
 
