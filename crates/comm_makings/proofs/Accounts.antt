@@ -9,8 +9,9 @@ use Rattle.mpi_model.specs.Communicators.{Communicator}
 use Rattle.comm_makings.specs.Derived.{AreAccounted, IsDerivedFrom, IsLeftOut, IsOfMade, IsSound}
 use Rattle.comm_makings.specs.Here.{call_at, meant_at}
 use Rattle.comm_makings.specs.Left.{calls_in, giving, is_known_to, left_at, left_by, left_in, left_of, left_out_of, left_with, standing_given, why_left, why_of, why_open, with_handle}
+use Rattle.comm_makings.specs.ObjectMakings.{AreObjects}
 use Rattle.comm_makings.specs.State.{AreMembers, IsMemberOf, IsRight, standing_at}
-use Rattle.comm_makings.specs.Uses.{AreCounted, count_at}
+use Rattle.comm_makings.specs.Uses.{AreAllCounted, count_at}
 use Rattle.comm_makings.specs.Views.{AreViews}
 use Rattle.comm_makings.specs.World.{world_of}
 use Rattle.comm_makings.specs.Written.{IsWritten}
@@ -27,6 +28,8 @@ use Rattle.comm_makings.specs.declared.left.Giver.{Giver}
 use Rattle.comm_makings.specs.declared.state.HandleState.{HandleState}
 use Rattle.comm_makings.specs.declared.state.HandleState.TheVariants as standings
 use Rattle.comm_makings.specs.declared.state.Made.{Made}
+use Rattle.comm_makings.specs.declared.state.Progress.{Progress}
+use Rattle.comm_makings.specs.declared.uses.AllUses.{AllUses}
 use Rattle.comm_makings.specs.declared.uses.HandleUses.{HandleUses}
 use Rattle.comm_makings.specs.declared.view.RankView.{RankView}
 use Rattle.comm_makings.proofs.Places.{numbers_joined, numbers_next}
@@ -100,33 +103,37 @@ module _ (ranks : List RankCalls) (views : List RankView) (uses : List HandleUse
         by_standing rank at handle call giver meant called gave means given (standing_at stand rank handle) refl;
   }
 
-pub derives : (ranks : List RankCalls) (views : List RankView) (uses : List HandleUses) (made : List Made) (stand : List (Vec HandleState Global)) (values : List (Vec GroupValue Global)) (derived : Derived)
-    → derived.world ≡ world_of ranks → AreViews (world_of ranks) ranks views → IsRight ranks views stand values made → AreCounted ranks views uses
-    → IsWritten (world_of ranks) (length ranks) views uses made derived.comms.items → derived.left_out.items ≡ left_out_of ranks views uses stand → IsDerivedFrom ranks derived
-derives ranks views uses made stand values derived world read right counted written left = record {
+pub derives : (ranks : List RankCalls) (views : List RankView) (uses : AllUses) (made objects all : List Made) (stand : List (Vec HandleState Global)) (values : List (Vec GroupValue Global)) (next : List Progress) (derived : Derived)
+    → derived.world ≡ world_of ranks → AreViews (world_of ranks) ranks views → IsRight ranks views stand values made next → AreObjects ranks views made objects → AreAllCounted ranks views uses
+    → all ≡ made ++ objects → IsWritten (world_of ranks) (length ranks) views uses all derived.comms.items → derived.left_out.items ≡ left_out_of ranks views uses.comms.items stand → IsDerivedFrom ranks derived
+derives ranks views uses made objects all stand values next derived world read right are counted both written left = record {
   views = views;
   uses = uses;
   made = made;
+  objects = objects;
   standings = stand;
   world = world;
   read = read;
   counted = counted;
   derive = right.comms_derive;
+  derive_objects = are;
   stand = right.handles_named;
-  written = written;
+  written = subst (λ (l : List Made). IsWritten (world_of ranks) (length ranks) views uses l derived.comms.items) both written;
   left_out = left;
-  accounted = subst (AreAccounted ranks views uses made) (sym left) (accounted ranks views uses made stand right.handles_named);
+  accounted = subst (AreAccounted ranks views uses.comms.items made) (sym left) (accounted ranks views uses.comms.items made stand right.handles_named);
 }
 
-pub sounds : (ranks : List RankCalls) (views : List RankView) (uses : List HandleUses) (made : List Made) (stand : List (Vec HandleState Global)) (values : List (Vec GroupValue Global)) (comms : List Communicator)
-    → AreViews (world_of ranks) ranks views → IsRight ranks views stand values made → AreCounted ranks views uses
-    → IsWritten (world_of ranks) (length ranks) views uses made comms → IsSound (world_of ranks) ranks comms
-sounds ranks views uses made stand values comms read right counted written = record {
+pub sounds : (ranks : List RankCalls) (views : List RankView) (uses : AllUses) (made objects all : List Made) (stand : List (Vec HandleState Global)) (values : List (Vec GroupValue Global)) (next : List Progress) (comms : List Communicator)
+    → AreViews (world_of ranks) ranks views → IsRight ranks views stand values made next → AreObjects ranks views made objects → AreAllCounted ranks views uses
+    → all ≡ made ++ objects → IsWritten (world_of ranks) (length ranks) views uses all comms → IsSound (world_of ranks) ranks comms
+sounds ranks views uses made objects all stand values next comms read right are counted both written = record {
   views = views;
   uses = uses;
   made = made;
+  objects = objects;
   read = read;
   counted = counted;
   derive = right.comms_derive;
-  written = written;
+  derive_objects = are;
+  written = subst (λ (l : List Made). IsWritten (world_of ranks) (length ranks) views uses l comms) both written;
 }

@@ -8,7 +8,7 @@ use Rattle.std.proofs.lemmas.Option.{same_Some, slice_get_within}
 use Rattle.mpi_model.specs.Communicators.{Communicator}
 use Rattle.comm_makings.specs.Written.{AreChosen, AreIn, AreOthers, AreWrittenOf, IsWorld, IsWritten, IsWrittenOf, is_named, named_at, named_with}
 use Rattle.comm_makings.specs.declared.state.Made.{Made}
-use Rattle.comm_makings.specs.declared.uses.HandleUses.{HandleUses}
+use Rattle.comm_makings.specs.declared.uses.AllUses.{AllUses}
 use Rattle.comm_makings.specs.declared.view.RankView.{RankView}
 use Rattle.comm_makings.specs.declared.written.Named.{Named}
 use Rattle.comm_makings.proofs.Lists.{All-from_slice_get, All-slice_get, get_more}
@@ -34,7 +34,7 @@ given_by {X} f (suc n) k x e =
       | inr last ↦ (n, omega arith, is ∙ ap Some (sym last.1))
     ]
 
-named_in : (uses : List HandleUses) (made : List Made) (place : ℕ) (named : Named) → named_at uses made place ≡ Some named → (named.place ≡ place) × (place < length made)
+named_in : (uses : AllUses) (made : List Made) (place : ℕ) (named : Named) → named_at uses made place ≡ Some named → (named.place ≡ place) × (place < length made)
 named_in uses made place named e = of_some (slice_get made place) refl e
   where
     by_test : (comm : Made) (b : Bool) → cond b (Some (record { order = comm.order; place = place })) None ≡ Some named → named.place ≡ place
@@ -45,7 +45,7 @@ named_in uses made place named e = of_some (slice_get made place) refl e
     of_some None here e = absurd (cc)
     of_some (Some comm) here e = (by_test comm (nat_lt 0 comm.order.class && is_named uses comm) e, slice_get_within made place comm here)
 
-pub chosen_in : (uses : List HandleUses) (made : List Made) (chosen : List Named) → AreChosen uses made chosen → AreIn made chosen
+pub chosen_in : (uses : AllUses) (made : List Made) (chosen : List Named) → AreChosen uses made chosen → AreIn made chosen
 chosen_in uses made chosen are =
     let P : Named → Type 0 = λ n. n.place < length made in
     let all : List Named = filter_map (named_at uses made) (range_with_len 0 (length made)) in
@@ -57,15 +57,15 @@ chosen_in uses made chosen are =
     subst (λ (p : ℕ). p < length made) (sym is.0) less in
     record { each = λ i n e. All-slice_get P chosen i n (All-permutation P all chosen are.same (All-from_slice_get P all each)) e }
 
-pub record AreWrittenTo (views : List RankView) (uses : List HandleUses) (made : List Made) (chosen : List Named) (comms : List Communicator) (count : ℕ) : Type 0 where
+pub record AreWrittenTo (views : List RankView) (uses : AllUses) (made : List Made) (chosen : List Named) (comms : List Communicator) (count : ℕ) : Type 0 where
   pub same : length comms ≡ count
   pub each : (i : ℕ) (named : Named) (one : Made) (comm : Communicator) → slice_get chosen i ≡ Some named → slice_get made named.place ≡ Some one
       → slice_get comms i ≡ Some comm → IsWrittenOf views uses one comm
 
-pub written_none : (views : List RankView) (uses : List HandleUses) (made : List Made) (chosen : List Named) → AreWrittenTo views uses made chosen [] 0
+pub written_none : (views : List RankView) (uses : AllUses) (made : List Made) (chosen : List Named) → AreWrittenTo views uses made chosen [] 0
 written_none views uses made chosen = record { same = omega arith; each = λ i named one comm e f g. absurd (cc) }
 
-pub written_more : (views : List RankView) (uses : List HandleUses) (made : List Made) (chosen : List Named) (comms : List Communicator) (count : ℕ) (named : Named) (one : Made) (comm : Communicator)
+pub written_more : (views : List RankView) (uses : AllUses) (made : List Made) (chosen : List Named) (comms : List Communicator) (count : ℕ) (named : Named) (one : Made) (comm : Communicator)
     → AreWrittenTo views uses made chosen comms count → slice_get chosen count ≡ Some named → slice_get made named.place ≡ Some one → IsWrittenOf views uses one comm
     → AreWrittenTo views uses made chosen (comms ++ comm ∷ []) (count + 1)
 written_more views uses made chosen comms count named one comm are here there is = record {
@@ -80,10 +80,10 @@ written_more views uses made chosen comms count named one comm are here there is
   ];
 }
 
-pub written_all : (views : List RankView) (uses : List HandleUses) (made : List Made) (chosen : List Named) (comms : List Communicator) (count : ℕ)
+pub written_all : (views : List RankView) (uses : AllUses) (made : List Made) (chosen : List Named) (comms : List Communicator) (count : ℕ)
     → AreWrittenTo views uses made chosen comms count → count ≤ length chosen → length chosen ≤ count → AreWrittenOf views uses made chosen comms
 written_all views uses made chosen comms count are most least = record { same = omega (arith, are.same); each = are.each }
 
-pub is_written : (number count : ℕ) (views : List RankView) (uses : List HandleUses) (made : List Made) (first : Communicator) (others all : List Communicator)
+pub is_written : (number count : ℕ) (views : List RankView) (uses : AllUses) (made : List Made) (first : Communicator) (others all : List Communicator)
     → IsWorld number count first → AreOthers views uses made others → all ≡ first ∷ others → IsWritten number count views uses made all
 is_written number count views uses made first others all is rest starts = record { first = first; others = others; starts = starts; is_world = is; rest = rest }

@@ -1,5 +1,5 @@
 -- Which handle calls of the profile mean, and which numbers name one alone.
-use Rattle.std.proofs.Common.{◌≡◌, ◌≢◌, ◌⊎◌, ◌↔◌, ◌<◌, ◌≤◌, ◌+◌, ◌-◌, ◌^◌, ◌==◌, ◌&&◌, ◌||◌, ◌++◌, ◌∙◌, ℕ, zero, suc, Bool, true, false, not, List, [], ◌∷◌, Option, Some, None, All, IsTrue, length, get_or, get_or-set_same, map, min, set, take, drop, ap, sym, subst, refl, inl, inr, ⊎_elim, arith, nat_lt, nat_le, cond, is_some, length-append, option_map, zero-add}
+use Rattle.std.proofs.Common.{◌≡◌, ◌≢◌, ◌⊎◌, ◌↔◌, ◌<◌, ◌≤◌, ◌+◌, ◌-◌, ◌^◌, ◌==◌, ◌&&◌, ◌||◌, ◌++◌, ◌∙◌, ℕ, zero, suc, Bool, true, false, not, List, [], ◌∷◌, Option, Some, None, All, IsTrue, length, get_or, get_or-set_same, map, min, set, take, drop, ap, sym, subst, refl, inl, inr, ⊎_elim, arith, nat_lt, nat_le, cond, is_some, append-nil, length-append, option_map, zero-add}
 use Rattle.std.specs.List.{count_by, list_any, slice_get, sum_by}
 use Rattle.std.specs.List.Sorted.{IsPartitionPoint, IsPartitionedBy, IsPermutation}
 use Rattle.std.specs.Ordering.{is_lt, nat_cmp, ordering_then}
@@ -11,9 +11,10 @@ use Rattle.std.proofs.lemmas.List.Sums.{sum_by-cons, sum_by_more}
 use Rattle.std.proofs.lemmas.List.Sorted.{All-permutation, Contains-permutation}
 use Rattle.std.proofs.lemmas.Option.{get_or_from_slice_get, same_Some, slice_get-get_or, slice_get-map, slice_get_within}
 use Rattle.mpi_model.specs.declared.layout.comm.Stretch.{Stretch}
+use Rattle.mpi_model.specs.declared.object.Object.{Object}
 use Rattle.mpi_model.specs.Names.{holds, is_before}
 use Rattle.comm_makings.specs.Each.{EachBecomes, EachIs}
-use Rattle.comm_makings.specs.Uses.{AreCounted, AreHeld, AreOrdered, Comes, IsCounted, IsHolder, IsHolderOf, IsLatest, IsLatestOf, IsNotBefore, IsOnly, NoneBegun, count_in, count_of, has_number, holds_all, is_at, is_stray, is_stray_of, numbered, place_of, places_from, precedes, stands_alone}
+use Rattle.comm_makings.specs.Uses.{AreCounted, AreHeld, AreOrdered, Comes, IsCounted, IsCountedOf, IsHolder, IsHolderOf, IsLatest, IsLatestOf, IsNotBefore, IsOnly, NoneBegun, count_in, count_of, has_number, holds_all, is_at, is_stray, is_stray_of, numbered, place_of, places_from, precedes, stands_alone}
 use Rattle.comm_makings.specs.declared.calls.RankCalls.{RankCalls}
 use Rattle.comm_makings.specs.declared.calls.Uses.{Uses}
 use Rattle.comm_makings.specs.declared.uses.HandleUses.{HandleUses}
@@ -371,6 +372,34 @@ no_stray : (number : ℕ) (held : List HeldUses) → ((k : ℕ) (g : HeldUses) �
 no_stray number [] none = refl
 no_stray number (h ∷ hs) none = rw (none 0 h refl) (no_stray number hs (λ k g e. none (suc k) g e))
 
+tests_same : (a b : ℕ) → a ≡ b → (a == b) ≡ true
+tests_same a b e = grind (arith, nat_tests, common_steps)
+
+-- of two lists, one behind the other
+stray_join : (number : ℕ) (held calls : List HeldUses) → is_stray (held ++ calls) number ≡ (is_stray held number || is_stray calls number)
+stray_join number [] calls = refl
+stray_join number (h ∷ hs) calls = ap (λ (b : Bool). is_stray_of number h || b) (stray_join number hs calls) ∙ sym (or_assoc (is_stray_of number h) (is_stray hs number) (is_stray calls number))
+  where
+    or_assoc : (a b c : Bool) → ((a || b) || c) ≡ (a || (b || c))
+    or_assoc true b c = refl
+    or_assoc false b c = refl
+
+either_first : (a b : Bool) → (a || b) ≡ false → a ≡ false
+either_first true b e = e
+either_first false b e = refl
+
+either_second : (a b : Bool) → (a || b) ≡ false → b ≡ false
+either_second true b e = absurd (let both : true ≡ false = e in cc)
+either_second false b e = e
+
+neither : (a b : Bool) → a ≡ false → b ≡ false → (a || b) ≡ false
+neither a b x y = rw (x, y) refl
+
+-- a call that has the number and isn't stray means a handle
+means_some : (holder : Option ℕ) (a b : ℕ) → a ≡ b → (not (is_some holder) && (a == b)) ≡ false → is_some holder ≡ true
+means_some None a b same e = absurd (let both : true ≡ false = sym (tests_same a b same) ∙ e in cc)
+means_some (Some k) a b same e = refl
+
 -- the group at a place, with the handle that it means
 held_at : (handles : List Stretch) (uses : List Uses) (held : List HeldUses) → AreHeld handles uses held → (i : ℕ) (group : Uses) → slice_get uses i ≡ Some group
     → (g : HeldUses) × (slice_get held i ≡ Some g) × (g.uses ≡ group) × IsHolderOf handles g.uses g.holder
@@ -388,9 +417,6 @@ group_at : (handles : List Stretch) (uses : List Uses) (held : List HeldUses) �
 group_at handles uses held are k g e =
     ap (λ (l : List Uses). slice_get l k) (sym are.same) ∙ slice_get-map (λ (g : HeldUses). g.uses) held k ∙ ap (option_map (λ (g : HeldUses). g.uses)) e
 
-tests_same : (a b : ℕ) → a ≡ b → (a == b) ≡ true
-tests_same a b e = grind (arith, nat_tests, common_steps)
-
 same_by_test : (a b : ℕ) → (a == b) ≡ true → a ≡ b
 same_by_test a b e = grind (arith, nat_tests, common_steps)
 
@@ -399,6 +425,10 @@ holds_first handle uses h = first_le handle.first uses.first (is_before uses.fir
   where
     first_le : (a b : ℕ) (x y : Bool) → ((nat_le a b && x) && y) ≡ true → a ≤ b
     first_le a b x y e = grind (arith, nat_tests, common_steps)
+
+and_none : (a : Bool) → (a && false) ≡ false
+and_none true = refl
+and_none false = refl
 
 and_both : (a b : Bool) → a ≡ true → b ≡ false → (a && not b) ≡ true
 and_both a b x y = rw (x, y) refl
@@ -413,7 +443,7 @@ and_second true false h = refl
 and_second false true h = absurd (let both : false ≡ true = h in cc)
 and_second false false h = refl
 
-module _ (handles : List Stretch) (uses : List Uses) (held : List HeldUses) (are : AreHeld handles uses held) (at : ℕ) (handle : Stretch) (here : slice_get handles at ≡ Some handle) where
+module _ (handles : List Stretch) (uses : List Uses) (held calls : List HeldUses) (are : AreHeld handles uses held) (at : ℕ) (handle : Stretch) (here : slice_get handles at ≡ Some handle) where
   one_is : numbered handles handle.number ≡ 1 → (k : ℕ) (other : Stretch) → slice_get handles k ≡ Some other → other.number ≡ handle.number → k ≡ at
   one_is one k other e same = one_number handle.number handles k at other handle one e same here refl
 
@@ -425,10 +455,14 @@ module _ (handles : List Stretch) (uses : List Uses) (held : List HeldUses) (are
       let equal : is.latest.handle ≡ handle = same_Some is.latest.handle handle (sym is.latest.here ∙ ap (slice_get handles) there ∙ here) in
       ap (holds_all group) (sym equal) ∙ is.within
 
-  only_from : stands_alone handles held handle ≡ true → IsOnly handles uses at
+  only_from : stands_alone handles (held ++ calls) handle ≡ true → IsOnly handles uses calls at
   only_from test =
-      let one : numbered handles handle.number ≡ 1 = same_by_test (numbered handles handle.number) 1 (and_first (numbered handles handle.number == 1) (is_stray held handle.number) test) in
-      let none : is_stray held handle.number ≡ false = and_second (numbered handles handle.number == 1) (is_stray held handle.number) test in
+      let one : numbered handles handle.number ≡ 1 =
+      same_by_test (numbered handles handle.number) 1 (and_first (numbered handles handle.number == 1) (is_stray (held ++ calls) handle.number) test) in
+      let both : (is_stray held handle.number || is_stray calls handle.number) ≡ false =
+      sym (stray_join handle.number held calls) ∙ and_second (numbered handles handle.number == 1) (is_stray (held ++ calls) handle.number) test in
+      let none : is_stray held handle.number ≡ false = either_first (is_stray held handle.number) (is_stray calls handle.number) both in
+      let no_call : is_stray calls handle.number ≡ false = either_second (is_stray held handle.number) (is_stray calls handle.number) both in
       record {
         handle = handle;
         here = here;
@@ -438,6 +472,7 @@ module _ (handles : List Stretch) (uses : List Uses) (held : List HeldUses) (are
             let stray : is_stray_of handle.number g.0 ≡ false = stray_at handle.number held i g.0 none g.1 in
             let all : holds_all g.0.uses handle ≡ true = within_by one g.0.uses g.0.holder g.3 (ap (λ (u : Uses). u.number) g.2 ∙ same) stray in
             ap (λ (u : Uses). holds_all u handle) (sym g.2) ∙ all;
+        known = λ i group e same. means_some group.holder group.uses.number handle.number same (stray_at handle.number calls i group no_call e);
       }
 
   holder_here : ((other : ℕ) (twin : Stretch) → slice_get handles other ≡ Some twin → twin.number ≡ handle.number → other ≡ at) → (group : Uses) → group.number ≡ handle.number
@@ -465,7 +500,14 @@ module _ (handles : List Stretch) (uses : List Uses) (held : List HeldUses) (are
       by_test false e = e
       by_test true e = absurd (is at (means (same_by_test group.number handle.number e)))
 
-  only_to : IsOnly handles uses at → stands_alone handles held handle ≡ true
+  known_call : (group : HeldUses) → (group.uses.number ≡ handle.number → is_some group.holder ≡ true) → is_stray_of handle.number group ≡ false
+  known_call group known = by_test (group.uses.number == handle.number) refl
+    where
+      by_test : (b : Bool) → (group.uses.number == handle.number) ≡ b → (not (is_some group.holder) && (group.uses.number == handle.number)) ≡ false
+      by_test true e = rw (known (same_by_test group.uses.number handle.number e)) refl
+      by_test false e = rw e (and_none (not (is_some group.holder)))
+
+  only_to : IsOnly handles uses calls at → stands_alone handles (held ++ calls) handle ≡ true
   only_to only =
       let equal : only.handle ≡ handle = same_Some only.handle handle (sym only.here ∙ here) in
       let number : only.handle.number ≡ handle.number = ap (λ (s : Stretch). s.number) equal in
@@ -475,51 +517,52 @@ module _ (handles : List Stretch) (uses : List Uses) (held : List HeldUses) (are
       let none : is_stray held handle.number ≡ false = no_stray handle.number held (λ k g e.
       not_stray g.uses g.holder (All-slice_get (λ (g : HeldUses). IsHolderOf handles g.uses g.holder) held k g are.each e)
       (λ same. holder_here alone g.uses same (ap (λ (s : Stretch). holds_all g.uses s) (sym equal) ∙ only.within k g.uses (group_at handles uses held are k g e) (same ∙ sym number)))) in
-      and_both (numbered handles handle.number == 1) (is_stray held handle.number) (tests_same (numbered handles handle.number) 1 one) none
+      let no_call : is_stray calls handle.number ≡ false = no_stray handle.number calls (λ k g e. known_call g (λ same. only.known k g e (same ∙ sym number))) in
+      and_both (numbered handles handle.number == 1) (is_stray (held ++ calls) handle.number) (tests_same (numbered handles handle.number) 1 one)
+      (stray_join handle.number held calls ∙ neither (is_stray held handle.number) (is_stray calls handle.number) none no_call)
 
-only_by : (handles : List Stretch) (uses : List Uses) (held : List HeldUses) → AreHeld handles uses held → (at : ℕ) (is : Bool) (o : Option Stretch) → slice_get handles at ≡ o
-    → option_map (stands_alone handles held) o ≡ Some is → (is ≡ true) ↔ IsOnly handles uses at
-only_by handles uses held are at is None here e = absurd (cc)
-only_by handles uses held are at is (Some handle) here e =
-    let same : stands_alone handles held handle ≡ is = same_Some (stands_alone handles held handle) is e in
-    (λ yes. only_from handles uses held are at handle here (same ∙ yes), λ only. sym same ∙ only_to handles uses held are at handle here only)
+only_by : (handles : List Stretch) (uses : List Uses) (held calls : List HeldUses) → AreHeld handles uses held → (at : ℕ) (is : Bool) (o : Option Stretch) → slice_get handles at ≡ o
+    → option_map (stands_alone handles (held ++ calls)) o ≡ Some is → (is ≡ true) ↔ IsOnly handles uses calls at
+only_by handles uses held calls are at is None here e = absurd (cc)
+only_by handles uses held calls are at is (Some handle) here e =
+    let same : stands_alone handles (held ++ calls) handle ≡ is = same_Some (stands_alone handles (held ++ calls) handle) is e in
+    (λ yes. only_from handles uses held calls are at handle here (same ∙ yes), λ only. sym same ∙ only_to handles uses held calls are at handle here only)
 
--- what the calls of the profile say of all handles
-pub counted : (handles : List Stretch) (uses : List Uses) (held : List HeldUses) (result : HandleUses) → AreHeld handles uses held
-    → EachIs result.counts.items (count_of held) → length result.counts.items ≡ length handles → result.only.items ≡ map (stands_alone handles held) handles
-    → IsCounted handles uses result
-counted handles uses held result are counts each only = record {
+-- what the calls of the profile, and those on communicators, say of all handles
+pub counted : (handles : List Stretch) (uses : List Uses) (held calls all : List HeldUses) (result : HandleUses) → AreHeld handles uses held → all ≡ held ++ calls
+    → EachIs result.counts.items (count_of all) → length result.counts.items ≡ length handles → result.only.items ≡ map (stands_alone handles all) handles
+    → IsCounted handles uses calls result
+counted handles uses held calls all result are is counts each only = record {
   held = held;
   holders = are;
-  counts = counts;
+  counts = λ k x e. counts k x e ∙ ap (λ (l : List HeldUses). count_of l k) is;
   count_each = each;
-  only = λ at is e.
-      only_by handles uses held are at is (slice_get handles at) refl
-      (sym (slice_get-map (stands_alone handles held) handles at) ∙ ap (λ (l : List Bool). slice_get l at) (sym only) ∙ e);
-  only_each = ap length only ∙ length-map handles (stands_alone handles held);
+  only = λ at test e.
+      only_by handles uses held calls are at test (slice_get handles at) refl
+      (sym (slice_get-map (stands_alone handles (held ++ calls)) handles at) ∙ ap (λ (l : List Bool). slice_get l at)
+      (sym (only ∙ ap (λ (l : List HeldUses). map (stands_alone handles l) handles) is)) ∙ e);
+  only_each = ap length only ∙ length-map handles (stands_alone handles all);
 }
 
 -- ---- one rank after the other
 
-pub record AreCountedTo (ranks : List RankCalls) (views : List RankView) (uses : List HandleUses) (count : ℕ) : Type 0 where
+pub record AreCountedTo (object : Object) (ranks : List RankCalls) (views : List RankView) (uses : List HandleUses) (count : ℕ) : Type 0 where
   pub same : length uses ≡ count
   pub each : (rank : ℕ) (result : HandleUses) (calls : RankCalls) (view : RankView) → slice_get uses rank ≡ Some result → slice_get ranks rank ≡ Some calls
-      → slice_get views rank ≡ Some view → IsCounted view.handles.items calls.uses.items result
+      → slice_get views rank ≡ Some view → IsCountedOf object calls view result
 
-pub counted_none : (ranks : List RankCalls) (views : List RankView) → AreCountedTo ranks views [] 0
-counted_none ranks views = record { same = omega arith; each = λ rank result calls view e f g. absurd (cc) }
+pub counted_none : (object : Object) (ranks : List RankCalls) (views : List RankView) → AreCountedTo object ranks views [] 0
+counted_none object ranks views = record { same = omega arith; each = λ rank result calls view e f g. absurd (cc) }
 
-counted_at : (result other : HandleUses) (calls c : RankCalls) (view v : RankView) → other ≡ result → calls ≡ c → view ≡ v
-    → IsCounted view.handles.items calls.uses.items result → IsCounted v.handles.items c.uses.items other
-counted_at result other calls c view v a b d is =
-    subst (λ (x : RankView). IsCounted x.handles.items c.uses.items other) d
-    (subst (λ (x : RankCalls). IsCounted view.handles.items x.uses.items other) b
-    (subst (λ (x : HandleUses). IsCounted view.handles.items calls.uses.items x) (sym a) is))
+counted_at : (object : Object) (result other : HandleUses) (calls c : RankCalls) (view v : RankView) → other ≡ result → calls ≡ c → view ≡ v → IsCountedOf object calls view result → IsCountedOf object c v other
+counted_at object result other calls c view v a b d is =
+    subst (λ (x : RankView). IsCountedOf object c x other) d
+    (subst (λ (x : RankCalls). IsCountedOf object x view other) b (subst (IsCountedOf object calls view) (sym a) is))
 
-pub counted_more : (ranks : List RankCalls) (views : List RankView) (uses : List HandleUses) (count : ℕ) (calls : RankCalls) (view : RankView) (result : HandleUses)
-    → AreCountedTo ranks views uses count → slice_get ranks count ≡ Some calls → slice_get views count ≡ Some view → IsCounted view.handles.items calls.uses.items result
-    → AreCountedTo ranks views (uses ++ result ∷ []) (count + 1)
-counted_more ranks views uses count calls view result are here there is = record {
+pub counted_more : (object : Object) (ranks : List RankCalls) (views : List RankView) (uses : List HandleUses) (count : ℕ) (calls : RankCalls) (view : RankView) (result : HandleUses)
+    → AreCountedTo object ranks views uses count → slice_get ranks count ≡ Some calls → slice_get views count ≡ Some view → IsCountedOf object calls view result
+    → AreCountedTo object ranks views (uses ++ result ∷ []) (count + 1)
+counted_more object ranks views uses count calls view result are here there is = record {
   same = omega (arith, length-append uses (result ∷ []), are.same);
   each = λ rank other c v e f g. elim (get_more uses result rank other e) [
     | inl before ↦ are.each rank other c v before f g
@@ -527,10 +570,14 @@ counted_more ranks views uses count calls view result are here there is = record
         let at : rank ≡ count = last.0 ∙ are.same in
         let same_calls : calls ≡ c = same_Some calls c (sym here ∙ ap (slice_get ranks) (sym at) ∙ f) in
         let same_view : view ≡ v = same_Some view v (sym there ∙ ap (slice_get views) (sym at) ∙ g) in
-        counted_at result other calls c view v last.1 same_calls same_view is
+        counted_at object result other calls c view v last.1 same_calls same_view is
   ];
 }
 
-pub counted_all : (ranks : List RankCalls) (views : List RankView) (uses : List HandleUses) (count : ℕ) → AreCountedTo ranks views uses count → count ≤ length ranks → length ranks ≤ count
-    → AreCounted ranks views uses
-counted_all ranks views uses count are most least = record { same = omega (arith, are.same); each = are.each }
+pub counted_all : (object : Object) (ranks : List RankCalls) (views : List RankView) (uses : List HandleUses) (count : ℕ) → AreCountedTo object ranks views uses count → count ≤ length ranks → length ranks ≤ count
+    → AreCounted object ranks views uses
+counted_all object ranks views uses count are most least = record { same = omega (arith, are.same); each = are.each }
+
+-- nothing more is held
+pub without_more : (held : List HeldUses) → held ≡ held ++ []
+without_more held = sym (append-nil held)

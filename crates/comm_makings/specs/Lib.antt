@@ -1,6 +1,8 @@
 pub mod Each
 pub mod Selection
 pub mod Here
+pub mod Objects
+pub mod ObjectMakings
 pub mod Parts
 pub mod Splits
 pub mod World
@@ -13,6 +15,7 @@ pub mod Written
 pub mod Naming
 pub mod Views
 pub mod Makes
+pub mod Untold
 pub mod Derives
 pub mod Offers
 pub mod State

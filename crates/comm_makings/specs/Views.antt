@@ -2,9 +2,11 @@
 use Rattle.std.specs.Prelude.{◌≡◌, ◌⊎◌, ◌<◌, ℕ, ◌+◌, ◌==◌, ◌&&◌, Bool, true, false, not, List, [], ◌∷◌, Option, Some, None, cond, is_some, length, unwrap_or}
 use Rattle.std.specs.List.{slice_get}
 use Rattle.std.specs.Option.{option_and_then, option_map}
+use Rattle.mpi_model.specs.declared.object.Object.TheVariants as objects
 use Rattle.comm_makings.specs.Each.{EachIs, ListsAre}
 use Rattle.comm_makings.specs.Here.{making_of}
 use Rattle.comm_makings.specs.Naming.{handles_of, meant_of}
+use Rattle.comm_makings.specs.Objects.{IsObjectView}
 use Rattle.comm_makings.specs.declared.calls.Action.{Action}
 use Rattle.comm_makings.specs.declared.calls.Action.TheVariants as actions
 use Rattle.comm_makings.specs.declared.calls.CommCall.{CommCall}
@@ -89,9 +91,14 @@ pub record IsView (world : ℕ) (calls : RankCalls) (view : RankView) : Type 0 w
   pub handles : view.handles.items ≡ handles_of world calls.own calls.calls.items
   pub meant : view.meant.items ≡ meant_of world calls.own calls.calls.items
   pub makings : ListsAre view.makings.items (λ handle. makings_on false handle 0 calls.calls.items view.meant.items)
+  pub makings_each : length view.makings.items ≡ length view.handles.items
   pub by_group : ListsAre view.by_group.items (λ handle. makings_on true handle 0 calls.calls.items view.meant.items)
+  pub by_group_each : length view.by_group.items ≡ length view.handles.items
   pub told : EachIs view.told.items (λ handle. first_told_on handle calls.calls.items view.meant.items)
+  pub told_each : length view.told.items ≡ length view.handles.items
   pub end : IsEnd calls.calls.items view.meant.items view.end
+  pub windows : IsObjectView objects.Window calls.calls.items view.meant.items (length view.handles.items) view.windows
+  pub files : IsObjectView objects.File calls.calls.items view.meant.items (length view.handles.items) view.files
 
 -- those of all ranks
 pub record AreViews (world : ℕ) (ranks : List RankCalls) (views : List RankView) : Type 0 where

@@ -2,7 +2,7 @@
 
 ghost use Rattle.std.specs.Prelude.{◌≡◌, ◌≢◌, ◌<◌, ◌^◌, IfErr, IfOk, None, OnOk, Some, length};
 ghost use Rattle.comm_makings.specs.Derived.{IsDerivedFrom, IsSound};
-ghost use Rattle.comm_makings.specs.State.{IsRight};
+ghost use Rattle.comm_makings.specs.State.{IsRun};
 ghost use Rattle.comm_makings.specs.Views.{AreViews};
 ghost use Rattle.comm_makings.specs.World.{first_told, other_told, world_fault, world_of};
 ghost use Rattle.comm_makings.specs.declared.answer.DeriveFault.TheVariants.{Memory};
@@ -10,8 +10,9 @@ ghost use Rattle.comm_makings.specs.declared.answer.DeriveFault.TheVariants.{Mem
 use crate::answer::{DeriveFault, Derived};
 use crate::calls::RankCalls;
 use crate::left::left_out;
+use crate::objects::objects_of;
 use crate::run::{Run, run_of};
-use crate::uses::uses_of_all;
+use crate::uses::all_uses;
 use crate::view::{RankView, views_of};
 use crate::written::written;
 use std::alloc::{AllocError, Global};
@@ -82,17 +83,19 @@ fn answer_of(
     world: u32,
     ranks: &[RankCalls],
     views: &[RankView],
-    run: &Run,
+    mut run: Run,
 ) -> Result<Derived, AllocError>
     requires few { length ranks.now < 2 ^ 32 }
     requires world { world ≡ world_of ranks.now }
     requires views { AreViews world ranks.now views.now }
-    requires right { IsRight ranks.now views.now run.now.standings.items run.now.values.items run.now.comms.items }
+    requires right { IsRun ranks.now views.now run }
     ensures derived { IfOk result (IsDerivedFrom ranks.now) }
     ensures sound { IfOk result (λ d. IsSound (world_of ranks.now) ranks.now d.comms.items) }
 {
-    let uses = uses_of_all(alloc, ranks, views)?;
-    let left_out = left_out(alloc, ranks, views, &uses, &run.standings)?;
+    let uses = all_uses(alloc, ranks, views)?;
+    let left_out = left_out(alloc, ranks, views, &uses.comms, &run.standings)?;
+    let mut objects = objects_of(alloc, ranks, views, &run.comms)?;
+    run.comms.append(&mut objects)?;
     let comms = written(alloc, world, ranks.len() as u32, views, &uses, &run.comms)?;
     Ok(Derived {
         world,
@@ -101,9 +104,9 @@ fn answer_of(
     })
 }
 
-/// The communicators that the calls of the ranks make: the world, and those that calls of the profile name, as a layout
-/// has them. Time and memory grow with the calls on communicators and groups and the members of what they make, not with
-/// all calls.
+/// The communicators, windows and files that the calls of the ranks make: the world, and those that calls name, as a layout
+/// has them. Time and memory grow with the calls on communicators and groups, windows and files and the members of what they
+/// make, not with all calls.
 pub fn derive(alloc: Global, ranks: &[RankCalls]) -> Result<Derived, DeriveFault>
     requires { length ranks.now < 2 ^ 32 }
     ensures world { IfOk result (λ d. d.world ≡ world_of ranks.now) }
@@ -115,5 +118,5 @@ pub fn derive(alloc: Global, ranks: &[RankCalls]) -> Result<Derived, DeriveFault
     let world = world_of(ranks)?;
     let views = views_of(alloc, world, ranks)?;
     let run = run_of(alloc, ranks, &views)?;
-    Ok(answer_of(alloc, world, ranks, &views, &run)?)
+    Ok(answer_of(alloc, world, ranks, &views, run)?)
 }

@@ -45,11 +45,15 @@ fn giving(action: &Action) -> Option<Giver>
             made_by: function_of(making),
             number: number_said(*given),
         }),
-        Action::GivesComm { given } => Some(Giver {
+        Action::GivesComm { given, .. } => Some(Giver {
             made_by: MadeBy::Other,
             number: number_said(*given),
         }),
-        Action::CommRank { .. } | Action::Free { .. } | Action::Group { .. } => None,
+        Action::CommRank { .. }
+        | Action::Free { .. }
+        | Action::Group { .. }
+        | Action::MakeObject { .. }
+        | Action::EndObject { .. } => None,
     }
 }
 

@@ -1,16 +1,19 @@
 //! Which calls of the profile name which handles of a rank.
 
-ghost use Rattle.std.specs.Prelude.{◌≡◌, ◌≤◌, ◌==◌, ◌&&◌, ◌+◌, ◌-◌, ◌^◌, ℕ, IfOk, cond, false, is_some, length, map, min, nat_eq, not, true, unwrap_or};
+ghost use Rattle.std.specs.Prelude.{[], ◌≡◌, ◌≤◌, ◌==◌, ◌&&◌, ◌++◌, ◌+◌, ◌-◌, ◌^◌, ℕ, IfOk, OnOk, cond, false, is_some, length, map, min, nat_eq, not, true, unwrap_or};
 ghost use Rattle.std.specs.List.Sorted.{IsPartitionPoint, IsPartitionedBy};
 ghost use Rattle.indexmap.specs.IndexMap.{get};
 ghost use Rattle.mpi_model.specs.Names.{holds};
 ghost use Rattle.comm_makings.specs.Each.{EachBecomes, EachIs};
-ghost use Rattle.comm_makings.specs.Uses.{AreCounted, AreHeld, AreOrdered, IsCounted, IsHolderOf, IsLatestOf, count_at, count_of, holds_all, is_at, is_stray, numbered, places_from, precedes, stands_alone};
+ghost use Rattle.comm_makings.specs.Objects.{end_uses};
+ghost use Rattle.comm_makings.specs.Uses.{AreAllCounted, AreCounted, IsCountedOf, uses_by, AreHeld, AreOrdered, IsCounted, IsHolderOf, IsLatestOf, call_use, call_use_at, count_at, count_of, held_calls, holds_all, is_at, is_stray, number_on, numbered, places_from, precedes, stands_alone};
 
-use crate::calls::{RankCalls, Uses};
-use crate::handle::Handle;
+use crate::calls::{Action, CommCall, Making, RankCalls, Uses};
+use crate::handle::{Handle, Meant};
+use crate::object_view::end_uses;
 use crate::view::RankView;
 use indexmap::IndexMap;
+use mpi_model::Object;
 use std::alloc::{AllocError, Global};
 
 /// What the calls of the profile say of a rank's handles.
@@ -20,6 +23,14 @@ pub(crate) struct HandleUses {
     pub counts: Vec<u64>,
     /// Of each handle, whether its number names nothing else of the rank.
     pub only: Vec<bool>,
+}
+
+/// What the calls of the profile say of the handles of all ranks.
+#[derive(Drop)]
+pub(crate) struct AllUses {
+    pub comms: Vec<HandleUses>,
+    pub windows: Vec<HandleUses>,
+    pub files: Vec<HandleUses>,
 }
 
 /// A handle in the order of its number and its first call.
@@ -135,6 +146,74 @@ fn held_by(alloc: Global, handles: &[Handle], uses: &[Uses]) -> Result<Vec<HeldU
     Ok(held)
 }
 
+/// The number of the communicator that a call names of which all members make it (MPI 4.0, 7.4, 11.8 to 11.10, 12.2 and
+/// 14.2.1): those of MPI_Comm_create_group are of a group alone.
+fn number_on(action: &Action) -> Option<u32>
+    ensures { result ≡ number_on action.now }
+{
+    match action {
+        Action::Make { parent, making, .. } => match making {
+            Making::CreateGroup { .. } => None,
+            Making::Dup
+            | Making::DupWithInfo
+            | Making::Idup
+            | Making::IdupWithInfo
+            | Making::Split { .. }
+            | Making::Create { .. }
+            | Making::CartCreate { .. }
+            | Making::CartSub { .. }
+            | Making::GraphCreate { .. }
+            | Making::DistGraphCreate { .. }
+            | Making::DistGraphCreateAdjacent { .. } => *parent,
+        },
+        Action::Free { comm } => *comm,
+        Action::GivesComm { comm, .. } => *comm,
+        Action::MakeObject { parent, .. } => *parent,
+        Action::CommRank { .. } | Action::Group { .. } | Action::EndObject { .. } => None,
+    }
+}
+
+/// A call on communicators as a use of the handle that it means.
+fn call_use(call: &CommCall, meant: Meant) -> Option<HeldUses>
+    ensures { result ≡ call_use call.now meant }
+{
+    let number = number_on(&call.action)?;
+    Some(HeldUses {
+        uses: Uses {
+            number,
+            first: call.call,
+            last: call.call,
+            count: 1,
+        },
+        holder: meant.comm,
+    })
+}
+
+/// The same of the call at a place.
+fn call_use_at(calls: &[CommCall], meant: &[Meant], at: usize) -> Option<HeldUses>
+    ensures { result ≡ call_use_at calls.now meant.now at }
+{
+    let call = calls.get(at)?;
+    let meant = meant.get(at).copied()?;
+    call_use(call, meant)
+}
+
+/// Adds the uses of handles by the calls on communicators.
+fn add_calls(
+    calls: &[CommCall],
+    meant: &[Meant],
+    held: &mut Vec<HeldUses>,
+) -> Result<(), AllocError>
+    ensures { OnOk result (held.new.items ≡ held.old.items ++ held_calls calls.now meant.now) }
+{
+    for at in 0..calls.len() {
+        if let Some(group) = call_use_at(calls, meant, at) {
+            held.push(group)?;
+        }
+    }
+    Ok(())
+}
+
 /// So many more calls name the handle at this place.
 fn add_at(counts: &mut Vec<u64>, at: usize, more: u64)
     ensures counts { EachBecomes counts.old.items counts.new.items (λ k before. cond (at == k) (min (before + more) (2 ^ 64 - 1)) before) }
@@ -212,38 +291,128 @@ fn only_of(alloc: Global, handles: &[Handle], held: &[HeldUses]) -> Result<Vec<b
     Ok(only)
 }
 
-/// What the calls of the profile name.
+/// What the calls of a rank name: those of the profile, and those on communicators.
 #[tactic(auto, using(crate::proofs::Holders::counted))]
-pub(crate) fn uses_of(
-    alloc: Global,
-    handles: &[Handle],
-    uses: &[Uses],
-) -> Result<HandleUses, AllocError>
-    ensures { IfOk result (IsCounted handles.now uses.now) }
+fn uses_of(alloc: Global, view: &RankView, calls: &RankCalls) -> Result<HandleUses, AllocError>
+    ensures { IfOk result (IsCounted view.now.handles.items calls.now.uses.items (held_calls calls.now.calls.items view.now.meant.items)) }
 {
-    let held = held_by(alloc, handles, uses)?;
+    let handles = &view.handles;
+    let mut held = held_by(alloc, handles, &calls.uses)?;
+    add_calls(&calls.calls, &view.meant, &mut held)?;
     Ok(HandleUses {
         counts: counts_of(alloc, handles.len(), &held)?,
         only: only_of(alloc, handles, &held)?,
     })
 }
 
+/// These calls that name windows, or files, and behind them those that end one.
+fn with_ends(
+    alloc: Global,
+    object: Object,
+    uses: &[Uses],
+    calls: &[CommCall],
+) -> Result<Vec<Uses>, AllocError>
+    ensures { IfOk result (λ v. v.items ≡ uses.now ++ end_uses object calls.now) }
+{
+    let mut ends = end_uses(alloc, object, calls)?;
+    let mut all = Vec::new(alloc);
+    all.extend_from_slice(uses)?;
+    all.append(&mut ends)?;
+    Ok(all)
+}
+
+/// What the calls of a rank name of its windows, or of its files: those of the profile, and those that end one.
+#[tactic(auto, using(crate::proofs::Holders::counted, crate::proofs::Holders::without_more))]
+fn object_uses(
+    alloc: Global,
+    object: Object,
+    handles: &[Handle],
+    uses: &[Uses],
+    calls: &[CommCall],
+) -> Result<HandleUses, AllocError>
+    ensures { IfOk result (IsCounted handles.now (uses.now ++ end_uses object calls.now) []) }
+{
+    let uses = with_ends(alloc, object, uses, calls)?;
+    let held = held_by(alloc, handles, &uses)?;
+    Ok(HandleUses {
+        counts: counts_of(alloc, handles.len(), &held)?,
+        only: only_of(alloc, handles, &held)?,
+    })
+}
+
+/// What the calls of a rank name of objects of one sort.
+fn named_by(
+    alloc: Global,
+    object: Object,
+    view: &RankView,
+    calls: &RankCalls,
+) -> Result<HandleUses, AllocError>
+    ensures { IfOk result (IsCountedOf object calls.now view.now) }
+{
+    match object {
+        Object::Communicator => uses_of(alloc, view, calls),
+        Object::Window => {
+            object_uses(
+                alloc,
+                object,
+                &view.windows.handles,
+                &calls.windows,
+                &calls.calls,
+            )
+        },
+        Object::File => object_uses(
+            alloc,
+            object,
+            &view.files.handles,
+            &calls.files,
+            &calls.calls,
+        ),
+    }
+}
+
 /// The same of all ranks.
 #[tactic(auto, using(crate::proofs::Holders::counted_none, crate::proofs::Holders::counted_all))]
-pub(crate) fn uses_of_all(
+fn named_by_all(
     alloc: Global,
+    object: Object,
     ranks: &[RankCalls],
     views: &[RankView],
 ) -> Result<Vec<HandleUses>, AllocError>
     requires { length views.now ≡ length ranks.now }
-    ensures { IfOk result (λ v. AreCounted ranks.now views.now v.items) }
+    ensures { IfOk result (λ v. AreCounted object ranks.now views.now v.items) }
 {
     let mut all = Vec::new(alloc);
     for (at, rank) in ranks.iter().enumerate() {
-        let view = &views[at];
-        all.push(uses_of(alloc, &view.handles, &rank.uses)?)?;
+        all.push(named_by(alloc, object, &views[at], rank)?)?;
     }
     Ok(all)
+}
+
+/// What the calls of all ranks name of objects of each sort.
+pub(crate) fn all_uses(
+    alloc: Global,
+    ranks: &[RankCalls],
+    views: &[RankView],
+) -> Result<AllUses, AllocError>
+    requires { length views.now ≡ length ranks.now }
+    ensures { IfOk result (AreAllCounted ranks.now views.now) }
+{
+    Ok(AllUses {
+        comms: named_by_all(alloc, Object::Communicator, ranks, views)?,
+        windows: named_by_all(alloc, Object::Window, ranks, views)?,
+        files: named_by_all(alloc, Object::File, ranks, views)?,
+    })
+}
+
+/// What the calls name of objects of one sort.
+pub(crate) fn uses_by(uses: &AllUses, object: Object) -> &[HandleUses]
+    ensures { result.now ≡ uses_by uses.now object }
+{
+    match object {
+        Object::Communicator => &uses.comms,
+        Object::Window => &uses.windows,
+        Object::File => &uses.files,
+    }
 }
 
 /// How many calls of the profile name a handle of a rank.

@@ -135,38 +135,63 @@ impl<'a> Writer<'a> {
         }
     }
 
-    /// Which requests of a call are open.
-    fn put_open(&mut self, call: &Call, open: &[OpName]) {
+    /// Which requests of a call are open: those that lack a partner, where there are such, those of the ranks asked for first.
+    fn put_open(&mut self, call: &Call, open: &[OpName], asked: &[u32]) {
+        let Ok(told) = self.source.told_requests(open, asked) else {
+            self.out.give_up();
+            return;
+        };
         match requests_of(call) {
             Some(count) => {
-                self.put_number(open.len() as u64);
+                self.put_number(told.len() as u64);
                 self.put(b" of ");
                 self.put_counted(count, b" request", b" requests");
-                self.put_either(open.len(), b" is open: ", b" are open: ");
+                self.put_either(told.len(), b" is open: ", b" are open: ");
             }
             None => self.put(b"its request is open: "),
         }
-        self.put_operations(open);
+        self.put_operations(told.as_slice());
     }
 
     /// Which requests of a rank's last call are open, behind a colon, where there are any.
-    pub fn put_open_of(&mut self, last: &LastCall) {
+    pub fn put_open_of(&mut self, last: &LastCall, asked: &[u32]) {
         if !last.open.is_empty() {
             self.put(b": ");
-            self.put_open(&last.call, last.open.as_slice());
+            self.put_open(&last.call, last.open.as_slice(), asked);
         }
     }
 
-    /// What a test or a probe without success looks for.
+    /// What a test or a probe without success looks for, by the last of these calls.
     pub fn put_polled(&mut self, rank: u32, polled: &Polled) {
         self.put_whole(rank, polled.number, &polled.call);
-        self.put(b" (");
+        self.put(b" (last ");
         self.put_call(rank, polled.number);
         self.put(b")");
-        if !polled.open.is_empty() {
+        if polled.open.is_empty() {
+            return;
+        }
+        if requests_of(&polled.call).is_some() {
+            self.put(b": ");
+            self.put_open(&polled.call, polled.open.as_slice(), &[]);
+        } else {
             self.put(b" on ");
             self.put_operations(polled.open.as_slice());
         }
+    }
+
+    /// The function of an operation.
+    pub fn put_op_function(&mut self, name: OpName) {
+        match self.source.operation(name) {
+            Some(operation) => self.put_function(name.rank, name.call, &operation.call),
+            None => self.put(b"a call"),
+        }
+    }
+
+    /// Where the call of an operation stands: ` (call 4, main.c:9 in main)`.
+    pub fn put_in_brackets(&mut self, name: OpName) {
+        self.put(b" (");
+        self.put_call(name.rank, name.call);
+        self.put(b")");
     }
 
     /// The call of an operation: `MPI_Send, call 4, main.c:9 in main`.

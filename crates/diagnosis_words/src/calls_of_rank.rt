@@ -12,7 +12,7 @@ use trace_node::Answer;
 use trace_pair::Pair;
 
 /// How many calls are told.
-const MOST_CALLS: u64 = 10;
+pub(crate) const MOST_CALLS: u64 = 10;
 
 /// Says in words the last ten calls of a rank that can be read, each with its times and with the calls that its messages
 /// went to or came from; nothing of a rank of which nothing can be read. It is said behind

@@ -4,23 +4,28 @@ use crate::source::Source;
 use crate::texts::TextFacts;
 use crate::words::{clipped, front};
 use crate::writer::Writer;
-use mpi_model::{Layout, OpName};
+use mpi_model::{Event, Layout, OpName};
 use std::alloc::{AllocError, Global};
 use trace_diagnosis::Diagnosis;
+use trace_know::{Cell, Knowledge};
 use trace_node::Answer;
 
 /// The most lines of a list.
 const MOST_SHOWN: usize = 10;
 
-/// Says in words of which places two pieces tell two things, and which messages are in no pair since an open receive may have
-/// taken them. It is said behind [`diagnosis_words`](crate::diagnosis_words), and of the answer, since a diagnosis tells
-/// neither.
+/// The most messages that are named on a line.
+const MOST_NAMED: usize = 3;
+
+/// Says in words of which places two pieces tell two things, and which messages are in no pair since a receive may have taken
+/// them. It is said behind [`diagnosis_words`](crate::diagnosis_words), and of the answer and of what is known, since a
+/// diagnosis tells neither.
 pub fn answer_doubts(
     alloc: Global,
     layout: &Layout,
     diagnosis: &Diagnosis,
     texts: &TextFacts,
     answer: &Answer,
+    know: &Knowledge,
     all: bool,
 ) -> Result<Vec<u8>, AllocError> {
     let source = Source {
@@ -35,12 +40,26 @@ pub fn answer_doubts(
         writer.put_conflict(*rank, *place);
     }
     writer.put_more(answer.conflicts().len(), cap);
-    for name in front(answer.postponed(), cap) {
-        writer.put_postponed(*name);
-    }
-    writer.put_more(answer.postponed().len(), cap);
+    writer.put_postponed(know, answer.postponed());
+    let undecided = undecided_of(alloc, diagnosis, answer)?;
+    writer.put_undecided(know, undecided.as_slice());
     let Writer { out, .. } = writer;
     clipped(alloc, &out.into_bytes()?, all)
+}
+
+/// The messages that are undecided, but for those that are postponed.
+fn undecided_of(
+    alloc: Global,
+    diagnosis: &Diagnosis,
+    answer: &Answer,
+) -> Result<Vec<OpName>, AllocError> {
+    let mut names = Vec::new(alloc);
+    for message in diagnosis.unmatched.undecided.iter() {
+        if answer.postponed().binary_search(&message.name).is_err() {
+            names.push(message.name)?;
+        }
+    }
+    Ok(names)
 }
 
 impl<'a> Writer<'a> {
@@ -57,16 +76,68 @@ impl<'a> Writer<'a> {
         });
     }
 
-    /// That a message is in no pair, since an open receive may have taken it.
-    fn put_postponed(&mut self, name: OpName) {
-        self.put(b"  rank ");
+    /// The messages in no pair that a receive may have taken whose source no status tells, in one line.
+    fn put_postponed(&mut self, know: &Knowledge, names: &[OpName]) {
+        if names.is_empty() {
+            return;
+        }
+        self.put(b"  ");
+        self.put_counted(names.len(), b" message is", b" messages are");
+        self.put(
+            b" paired with no receive, since one whose source no status tells may have taken ",
+        );
+        self.put_either(names.len(), b"it: ", b"them: ");
+        self.put_calls_known(know, names);
+    }
+
+    /// Other messages in no pair that a receive may have taken, in one line.
+    fn put_undecided(&mut self, know: &Knowledge, names: &[OpName]) {
+        if names.is_empty() {
+            return;
+        }
+        self.put(b"  ");
+        self.put_counted(names.len(), b" message fits", b" messages fit");
+        self.put(b" a receive, and it is not certain which one takes ");
+        self.put_either(names.len(), b"it: ", b"them: ");
+        self.put_calls_known(know, names);
+    }
+
+    /// The first calls of a list, and how many more there are; then the line ends.
+    fn put_calls_known(&mut self, know: &Knowledge, names: &[OpName]) {
+        for (i, name) in names.iter().enumerate() {
+            if i == MOST_NAMED && !self.all {
+                self.put(b" and ");
+                self.put_number(names.len().saturating_sub(i) as u64);
+                self.put(b" more");
+                break;
+            }
+            self.put(if i == 0 {
+                b"".as_slice()
+            } else {
+                b"; ".as_slice()
+            });
+            self.put_known_call(know, *name);
+        }
+        self.put(b"\n");
+    }
+
+    /// A call by what is known of it: `rank 0, MPI_Startall (call 2, r0.txt:17, part 1)`.
+    fn put_known_call(&mut self, know: &Knowledge, name: OpName) {
+        self.put(b"rank ");
         self.put_number(name.rank as u64);
         self.put(b", ");
-        self.put_by(name);
+        if let Cell::One(Event::Enter(call, _)) = know.cell(
+            name.rank,
+            name.call.saturating_mul(2),
+        ) {
+            self.put_function(name.rank, name.call, call);
+        }
+        self.put(b" (");
+        self.put_call(name.rank, name.call);
         if name.part > 0 {
             self.put(b", part ");
             self.put_number(name.part as u64);
         }
-        self.put(b": its message may belong to a receive whose source no status tells\n");
+        self.put(b")");
     }
 }

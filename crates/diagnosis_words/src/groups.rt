@@ -70,12 +70,15 @@ pub(crate) fn key_of(source: Source<'_>, standing: &Standing) -> Result<Vec<u8>,
     put_number(&mut key, stand_number(standing.stand));
     put_number(&mut key, beyond_number(standing.beyond));
     put_number(&mut key, u64::from(source.polling(standing.rank).is_some()));
+    if standing.call.is_none() {
+        put_number(&mut key, u64::from(source.texts.has_text(standing.rank)));
+    }
     put_last(&mut key, source, standing);
     key.into_bytes()
 }
 
 /// A group of one rank.
-fn group_of(alloc: Global, standing: &Standing) -> Result<Group, AllocError> {
+pub(crate) fn group_of(alloc: Global, standing: &Standing) -> Result<Group, AllocError> {
     let mut ranks = Vec::new(alloc);
     ranks.push(standing.rank)?;
     let (number, wall) = match &standing.call {
@@ -90,8 +93,13 @@ fn group_of(alloc: Global, standing: &Standing) -> Result<Group, AllocError> {
 }
 
 impl Group {
+    /// The first of its ranks.
+    pub fn first(&self) -> u32 {
+        self.ranks.as_slice().first().copied().unwrap_or(0)
+    }
+
     /// Adds a rank that stands as these do.
-    fn add(&mut self, standing: &Standing) -> Result<(), AllocError> {
+    pub fn add(&mut self, standing: &Standing) -> Result<(), AllocError> {
         self.ranks.push(standing.rank)?;
         if let Some(last) = &standing.call {
             let (first, most) = self.calls;
@@ -100,6 +108,17 @@ impl Group {
         }
         Ok(())
     }
+}
+
+/// Ranks one by one.
+pub(crate) fn singles_of(source: Source<'_>, ranks: &[u32]) -> Result<Vec<Group>, AllocError> {
+    let mut groups = Vec::new(source.alloc);
+    for rank in ranks {
+        if let Some(standing) = source.standing(*rank) {
+            groups.push(group_of(source.alloc, standing)?)?;
+        }
+    }
+    Ok(groups)
 }
 
 /// Ranks by how they stand, in the order of their first ranks.

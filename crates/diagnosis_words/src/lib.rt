@@ -5,10 +5,11 @@
 //! they print is shown by cases (`tests/cases/`).
 //!
 //! - [`named`]: which calls a diagnosis names; [`texts`]: what the texts tell of them; [`source`]: all that is printed from
-//! - [`json`]: the diagnosis as JSON; [`picture`]: in the language of Graphviz
+//! - [`json`]: the diagnosis as JSON; [`picture`]: in the language of Graphviz; [`needed`]: which parts of a condition it draws
 //! - [`words`]: in words: what is told, in what order, and where a list is cut; [`doubts_of_answer`]: what makes the answer
 //!   doubtful; [`one_rank`] and [`calls_of_rank`]: of one rank; [`sentences`]:
-//!   all sentences; [`writer`], [`functions`], [`calls`]: names of things; [`groups`]: ranks that stand alike
+//!   all sentences; [`writer`], [`functions`], [`calls`]: names of things; [`groups`]: ranks that stand alike; [`requests`]:
+//!   which open requests are told
 //! - [`doubtful`]: which functions may wait or move data and aren't read
 #![tactic(auto)]
 
@@ -20,8 +21,10 @@ mod functions;
 mod groups;
 mod json;
 mod named;
+mod needed;
 mod one_rank;
 mod picture;
+mod requests;
 mod sentences;
 mod source;
 mod texts;

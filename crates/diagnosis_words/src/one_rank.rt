@@ -67,7 +67,7 @@ impl<'a> Writer<'a> {
         self.put(b" of ");
         let ranks = self.source.diagnosis.ranks as usize;
         self.put_counted(ranks, b" rank ", b" ranks ");
-        self.put_stands(rank);
+        self.put_stands(rank, &[]);
         self.put(b".\n");
     }
 
@@ -153,7 +153,7 @@ impl<'a> Writer<'a> {
                 .groups
                 .iter()
                 .any(|group| has(group.ranks.as_slice(), rank));
-            if is_in && told < cap {
+            if is_in && !self.source.is_root_round(round.round) && told < cap {
                 self.put_first_of(told, b"\nIts rounds of collective calls:\n");
                 self.put_mismatched_line(round);
                 told = told.saturating_add(1);

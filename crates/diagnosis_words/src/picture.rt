@@ -1,25 +1,25 @@
 //! A diagnosis as a picture, in the language of Graphviz.
 
-use crate::groups::key_of;
-use crate::one_rank::needed_ranks;
+use crate::groups::{Group, group_of, key_of};
+use crate::needed::{Others, holds, one_holds};
 use crate::source::Source;
 use crate::texts::TextFacts;
 use crate::writer::Writer;
 use call_words::Text;
 use mpi_model::Layout;
 use std::alloc::{AllocError, Global};
-use std::collections::BTreeMap;
+use std::collections::{BTreeMap, BTreeSet};
 use trace_diagnosis::{
     Diagnosis, Held, MismatchedRound, Need, RootKind, RoundName, Stand, Standing,
 };
 use trace_stuck::Condition;
 
-/// The most nodes of ranks, unless all are asked for.
+/// The most nodes, unless all are asked for.
 const MOST_NODES: usize = 200;
 
 /// Draws a diagnosis as Graphviz DOT: a node for ranks that stand alike and need the same, with an edge to what they need,
-/// through a point where one of several is enough. What holds up the run is filled, with a bold outline where it has ended
-/// or gives no sign; a round whose calls don't match is a node with its calls.
+/// through a point with dashed edges where one of several is enough. What holds up the run is filled, with a bold outline
+/// where it has ended or gives no sign; a round whose calls don't match is a node with its calls.
 pub fn diagnosis_picture(
     alloc: Global,
     layout: &Layout,
@@ -34,26 +34,38 @@ pub fn diagnosis_picture(
         texts,
     };
     let ranks = drawn_ranks(source)?;
-    let mut nodes = nodes_of(source, ranks.as_slice(), true)?;
-    if !all && nodes.nodes.len() > MOST_NODES {
-        nodes = nodes_of(source, ranks.as_slice(), false)?;
+    let whole = nodes_of(source, ranks.as_slice(), true)?;
+    if all || whole.nodes.len() <= MOST_NODES {
+        let picture = picture_of(source, whole, all)?;
+        if all || picture.count <= MOST_NODES {
+            let Picture { out, .. } = picture;
+            return out.into_bytes();
+        }
     }
+    let shapes = nodes_of(source, ranks.as_slice(), false)?;
+    let Picture { out, .. } = picture_of(source, shapes, all)?;
+    out.into_bytes()
+}
+
+/// A picture with these nodes of ranks.
+fn picture_of(source: Source<'_>, nodes: Nodes, all: bool) -> Result<Picture<'_>, AllocError> {
     let mut picture = Picture {
-        out: Text::new(alloc),
+        out: Text::new(source.alloc),
         source,
         nodes,
         all,
         points: 0,
+        count: 0,
+        edges: BTreeSet::new(source.alloc),
     };
     picture.put_all()?;
-    let Picture { out, .. } = picture;
-    out.into_bytes()
+    Ok(picture)
 }
 
 /// Ranks that are drawn as one.
 #[derive(Debug, Drop)]
 struct Node {
-    ranks: Vec<u32>,
+    group: Group,
     /// How many nodes of one shape it stands for.
     shapes: usize,
 }
@@ -115,16 +127,19 @@ fn is_one_of(condition: &Condition) -> bool {
 
 /// How the node of a rank is drawn: what holds up the run is filled, and bold where it has ended or gives no sign.
 fn style_of(source: Source<'_>, rank: u32) -> &'static [u8] {
-    for root in source.diagnosis.waiting.roots.iter() {
-        if root.ranks.as_slice().binary_search(&rank).is_ok() {
-            return match root.kind {
-                RootKind::Mismatch(_) => b"",
-                RootKind::Cycle | RootKind::Open => b", style=filled",
-                RootKind::Ended | RootKind::Silent => b", style=\"filled,bold\"",
-            };
-        }
+    match source.root_of(rank) {
+        Some(root) => style_of_kind(root.kind),
+        None => b"",
     }
-    b""
+}
+
+/// How ranks of a root are drawn.
+fn style_of_kind(kind: RootKind) -> &'static [u8] {
+    match kind {
+        RootKind::Mismatch(_) => b"",
+        RootKind::Cycle | RootKind::Open => b", style=filled",
+        RootKind::Ended | RootKind::Silent => b", style=\"filled,bold\"",
+    }
 }
 
 /// What ranks have in common that are drawn as one: how they are drawn, how they stand, and what they need; or their shape alone.
@@ -156,25 +171,38 @@ fn node_key(
     key.into_bytes()
 }
 
+/// Whether no rank before has all of this in common with a rank.
+fn is_first(
+    source: Source<'_>,
+    standing: &Standing,
+    wholes: &mut BTreeSet<Vec<u8>>,
+) -> Result<bool, AllocError> {
+    let whole = node_key(source, standing, true)?;
+    if wholes.contains(&whole) {
+        return Ok(false);
+    }
+    wholes.insert(whole)?;
+    Ok(true)
+}
+
 /// The nodes of these ranks.
 fn nodes_of(source: Source<'_>, ranks: &[u32], is_whole: bool) -> Result<Nodes, AllocError> {
     let alloc = source.alloc;
     let mut nodes: Vec<Node> = Vec::new(alloc);
     let mut places: BTreeMap<Vec<u8>, usize> = BTreeMap::new(alloc);
-    let mut wholes: BTreeMap<Vec<u8>, usize> = BTreeMap::new(alloc);
+    let mut wholes = BTreeSet::new(alloc);
     let mut of_ranks = BTreeMap::new(alloc);
     for rank in ranks {
         let Some(standing) = source.standing(*rank) else {
             continue;
         };
         let key = node_key(source, standing, is_whole)?;
-        let whole = node_key(source, standing, true)?;
-        let is_new = wholes.insert(whole, 0)?.is_none();
+        let is_new = !is_whole && is_first(source, standing, &mut wholes)?;
         let known = places.get(&key).copied();
         match known {
             Some(at) => {
                 if let Some(node) = nodes.as_mut_slice().get_mut(at) {
-                    node.ranks.push(*rank)?;
+                    node.group.add(standing)?;
                     if is_new {
                         node.shapes = node.shapes.saturating_add(1);
                     }
@@ -184,10 +212,8 @@ fn nodes_of(source: Source<'_>, ranks: &[u32], is_whole: bool) -> Result<Nodes, 
             None => {
                 of_ranks.insert(*rank, nodes.len())?;
                 places.insert(key, nodes.len())?;
-                let mut first = Vec::new(alloc);
-                first.push(*rank)?;
                 nodes.push(Node {
-                    ranks: first,
+                    group: group_of(alloc, standing)?,
                     shapes: 1,
                 })?;
             }
@@ -205,6 +231,10 @@ struct Picture<'a> {
     all: bool,
     /// How many points were drawn.
     points: u64,
+    /// How many nodes were drawn.
+    count: usize,
+    /// The edges that were drawn, each as its line.
+    edges: BTreeSet<Vec<u8>>,
 }
 
 /// A node, by what it is drawn of.
@@ -215,25 +245,32 @@ enum Name {
     Point(u64),
 }
 
-impl<'a> Picture<'a> {
-    /// The name of a node.
-    fn put_name(&mut self, name: Name) {
-        match name {
-            Name::Ranks(at) => {
-                self.out.put(b"r");
-                self.out.put_number(at as u64);
-            }
-            Name::Round(round) => {
-                self.out.put(b"c");
-                self.out.put_number(round.object as u64);
-                self.out.put(b"_");
-                self.out.put_number(round.k);
-            }
-            Name::Point(n) => {
-                self.out.put(b"p");
-                self.out.put_number(n);
-            }
+/// The name of a node.
+fn put_name(out: &mut Text, name: Name) {
+    match name {
+        Name::Ranks(at) => {
+            out.put(b"r");
+            out.put_number(at as u64);
         }
+        Name::Round(round) => {
+            out.put(b"c");
+            out.put_number(round.object as u64);
+            out.put(b"_");
+            out.put_number(round.k);
+        }
+        Name::Point(n) => {
+            out.put(b"p");
+            out.put_number(n);
+        }
+    }
+}
+
+impl<'a> Picture<'a> {
+    /// The beginning of a node's line.
+    fn put_node(&mut self, name: Name) {
+        self.count = self.count.saturating_add(1);
+        self.out.put(b"  ");
+        put_name(&mut self.out, name);
     }
 
     /// Words as a label: a line feed, a quote and a backslash stand escaped.
@@ -250,33 +287,34 @@ impl<'a> Picture<'a> {
         self.out.put(b"\"");
     }
 
-    /// What is said of a node of ranks.
-    fn words_of(&self, node: &Node) -> Result<Vec<u8>, AllocError> {
+    /// What is said of the node of ranks at a place.
+    fn words_at(&self, at: usize) -> Result<Vec<u8>, AllocError> {
         let mut words = Writer::new(self.source, self.all);
-        words.put_ranks(node.ranks.as_slice());
-        let rank = node.ranks.as_slice().first().copied().unwrap_or(0);
-        if let Some(standing) = self.source.standing(rank) {
-            words.put_node(standing, node.ranks.len());
-        }
-        if node.shapes > 1 {
-            words.put(b"\nand ");
-            words.put_number(node.shapes.saturating_sub(1) as u64);
-            words.put(b" more like it");
+        if let Some(node) = self.nodes.nodes.as_slice().get(at) {
+            words.put_node(&node.group);
+            if node.shapes > 1 {
+                words.put(b"\nand ");
+                words.put_number(node.shapes.saturating_sub(1) as u64);
+                words.put(b" more like it");
+            }
         }
         let Writer { out, .. } = words;
         out.into_bytes()
     }
 
-    /// A node of ranks.
+    /// The first rank of the node at a place.
+    fn first_at(&self, at: usize) -> u32 {
+        match self.nodes.nodes.as_slice().get(at) {
+            Some(node) => node.group.first(),
+            None => 0,
+        }
+    }
+
+    /// The node of ranks at a place.
     fn put_ranks_node(&mut self, at: usize) -> Result<(), AllocError> {
-        let Some(node) = self.nodes.nodes.as_slice().get(at) else {
-            return Ok(());
-        };
-        let words = self.words_of(node)?;
-        let rank = node.ranks.as_slice().first().copied().unwrap_or(0);
-        let style = style_of(self.source, rank);
-        self.out.put(b"  ");
-        self.put_name(Name::Ranks(at));
+        let words = self.words_at(at)?;
+        let style = style_of(self.source, self.first_at(at));
+        self.put_node(Name::Ranks(at));
         self.put_label(words.as_slice());
         self.out.put(style);
         self.out.put(b"];\n");
@@ -298,8 +336,7 @@ impl<'a> Picture<'a> {
             if let RootKind::Mismatch(name) = root.kind {
                 if let Some(round) = rounds.iter().find(|round| round.round == name) {
                     let words = self.words_of_round(round)?;
-                    self.out.put(b"  ");
-                    self.put_name(Name::Round(name));
+                    self.put_node(Name::Round(name));
                     self.put_label(words.as_slice());
                     self.out.put(b", style=filled];\n");
                 }
@@ -308,92 +345,185 @@ impl<'a> Picture<'a> {
         Ok(())
     }
 
-    /// An edge, dashed where one of several is enough.
-    fn put_edge(&mut self, from: Name, to: Name, is_dashed: bool) {
-        self.out.put(b"  ");
-        self.put_name(from);
-        self.out.put(b" -> ");
-        self.put_name(to);
-        self.out.put(if is_dashed {
+    /// The line of an edge, dashed where one of several is enough.
+    fn edge(&self, from: Name, to: Name, is_dashed: bool) -> Result<Vec<u8>, AllocError> {
+        let mut line = Text::new(self.source.alloc);
+        line.put(b"  ");
+        put_name(&mut line, from);
+        line.put(b" -> ");
+        put_name(&mut line, to);
+        line.put(if is_dashed {
             b" [style=dashed];\n".as_slice()
         } else {
             b";\n".as_slice()
         });
+        line.into_bytes()
     }
 
-    /// An edge to a rank that is needed.
-    fn put_edge_to(&mut self, needed: &[u32], from: Name, rank: u32, is_dashed: bool) {
-        let is_needed = needed.binary_search(&rank).is_ok();
-        if let (true, Some(at)) = (is_needed, self.nodes.of_ranks.get(&rank).copied()) {
-            self.put_edge(from, Name::Ranks(at), is_dashed);
+    /// An edge, once.
+    fn put_edge(&mut self, from: Name, to: Name, is_dashed: bool) -> Result<(), AllocError> {
+        let line = self.edge(from, to, is_dashed)?;
+        if !self.edges.contains(&line) {
+            self.out.put(line.as_slice());
+            self.edges.insert(line)?;
+        }
+        Ok(())
+    }
+
+    /// An edge to a rank.
+    fn put_edge_to(&mut self, from: Name, rank: u32, is_dashed: bool) -> Result<(), AllocError> {
+        match self.nodes.of_ranks.get(&rank).copied() {
+            Some(at) => self.put_edge(from, Name::Ranks(at), is_dashed),
+            None => Ok(()),
         }
     }
 
-    /// Edges to those of some ranks that are needed.
-    fn put_edges_to(&mut self, needed: &[u32], ranks: &[u32], from: Name, is_dashed: bool) {
+    /// Edges to nodes of ranks, each once.
+    fn put_edges_to_nodes(
+        &mut self,
+        from: Name,
+        places: Vec<usize>,
+        is_dashed: bool,
+    ) -> Result<(), AllocError> {
+        let mut places = places;
+        places.sort()?;
+        places.dedup();
+        for at in places.iter() {
+            self.put_edge(from, Name::Ranks(*at), is_dashed)?;
+        }
+        Ok(())
+    }
+
+    /// Edges to all of the ranks.
+    fn put_edges_to(&mut self, from: Name, ranks: &[u32]) -> Result<(), AllocError> {
+        let mut places = Vec::new(self.source.alloc);
         for rank in ranks {
-            self.put_edge_to(needed, from, *rank, is_dashed);
+            if let Some(at) = self.nodes.of_ranks.get(rank) {
+                places.push(*at)?;
+            }
         }
+        self.put_edges_to_nodes(from, places, false)
     }
 
-    /// A point, for one of several.
-    fn put_point(&mut self, from: Name) -> Name {
+    /// Edges to those of the ranks of which one is enough that may still go on, or to all where none may.
+    fn put_edges_to_one(
+        &mut self,
+        from: Name,
+        ranks: &[u32],
+        others: Others<'a>,
+    ) -> Result<(), AllocError> {
+        let may_one = others.has_one(ranks);
+        let mut places = Vec::new(self.source.alloc);
+        for rank in ranks {
+            if !may_one || others.has(*rank) {
+                if let Some(at) = self.nodes.of_ranks.get(rank) {
+                    places.push(*at)?;
+                }
+            }
+        }
+        self.put_edges_to_nodes(from, places, true)
+    }
+
+    /// A point below a node.
+    fn put_point(&mut self, from: Name, is_dashed: bool) -> Result<Name, AllocError> {
         let point = Name::Point(self.points);
         self.points = self.points.saturating_add(1);
-        self.out.put(b"  ");
-        self.put_name(point);
+        self.put_node(point);
         self.out.put(b" [shape=point];\n");
-        self.put_edge(from, point, false);
-        point
+        self.put_edge(from, point, is_dashed)?;
+        Ok(point)
     }
 
-    /// What a rank needs of a condition, drawn from a node.
+    /// Where the edges to all parts of a condition begin: at the node, and at a point where it is one of several.
+    fn all_from(&mut self, from: Name, is_dashed: bool) -> Result<Name, AllocError> {
+        if is_dashed {
+            self.put_point(from, true)
+        } else {
+            Ok(from)
+        }
+    }
+
+    /// What a held rank needs of a condition that doesn't hold, drawn from a node.
     #[cycle(parts)]
     fn put_condition(
         &mut self,
-        needed: &[u32],
         condition: &Condition,
+        others: Others<'a>,
         from: Name,
         is_dashed: bool,
-    ) {
+    ) -> Result<(), AllocError> {
         match condition {
-            Condition::Yes => {}
-            Condition::Rank(rank) => self.put_edge_to(needed, from, *rank, is_dashed),
+            Condition::Yes => Ok(()),
+            Condition::Rank(rank) => self.put_edge_to(from, *rank, is_dashed),
             Condition::Mismatched(round) => self.put_edge(from, Name::Round(*round), is_dashed),
-            Condition::All(parts) => self.put_parts(needed, parts.as_slice(), from, is_dashed),
+            Condition::All(parts) => {
+                let from = self.all_from(from, is_dashed)?;
+                self.put_all_parts(parts.as_slice(), others, from)
+            }
             Condition::AllRanks(ranks) => {
-                self.put_edges_to(needed, ranks.as_slice(), from, is_dashed);
+                let from = self.all_from(from, is_dashed)?;
+                self.put_edges_to(from, ranks.as_slice())
             }
             Condition::One(parts) => {
-                let point = self.put_point(from);
-                self.put_parts(needed, parts.as_slice(), point, true);
+                let point = self.put_point(from, is_dashed)?;
+                self.put_one_parts(parts.as_slice(), others, point)
             }
             Condition::OneRank(ranks) => {
-                let point = self.put_point(from);
-                self.put_edges_to(needed, ranks.as_slice(), point, true);
+                let point = self.put_point(from, is_dashed)?;
+                self.put_edges_to_one(point, ranks.as_slice(), others)
             }
         }
     }
 
-    /// What a rank needs of the parts of a condition.
+    /// What is needed of the parts of which all have to hold: those that don't hold where no rank can go on.
     #[cycle(parts)]
-    fn put_parts(&mut self, needed: &[u32], parts: &[Condition], from: Name, is_dashed: bool) {
-        for part in parts {
-            self.put_condition(needed, part, from, is_dashed);
-        }
-    }
-
-    /// The edges of a node of ranks, by the first of them that is held.
-    fn put_edges(&mut self, at: usize) -> Result<(), AllocError> {
-        let Some(node) = self.nodes.nodes.as_slice().get(at) else {
-            return Ok(());
+    fn put_all_parts(
+        &mut self,
+        parts: &[Condition],
+        others: Others<'a>,
+        from: Name,
+    ) -> Result<(), AllocError> {
+        let nobody = Others {
+            source: others.source,
+            but: None,
         };
-        let rank = node.ranks.as_slice().first().copied().unwrap_or(0);
-        if let Some(held) = self.source.held(rank) {
-            let needed = needed_ranks(self.source.alloc, held)?;
-            self.put_condition(needed.as_slice(), &held.waits, Name::Ranks(at), false);
+        for part in parts {
+            if !holds(part, nobody) {
+                self.put_condition(part, others, from, false)?;
+            }
         }
         Ok(())
+    }
+
+    /// What is needed of the parts of which one is enough: those that would hold if all others went on that haven't ended, and
+    /// all where none would.
+    #[cycle(parts)]
+    fn put_one_parts(
+        &mut self,
+        parts: &[Condition],
+        others: Others<'a>,
+        from: Name,
+    ) -> Result<(), AllocError> {
+        let may_one = one_holds(parts, others);
+        for part in parts {
+            if !may_one || holds(part, others) {
+                self.put_condition(part, others, from, true)?;
+            }
+        }
+        Ok(())
+    }
+
+    /// The edges of a node of ranks, by the first of them.
+    fn put_edges(&mut self, at: usize) -> Result<(), AllocError> {
+        let rank = self.first_at(at);
+        let others = Others {
+            source: self.source,
+            but: Some(rank),
+        };
+        match self.source.held(rank) {
+            Some(held) => self.put_condition(&held.waits, others, Name::Ranks(at), false),
+            None => Ok(()),
+        }
     }
 
     /// The whole picture.

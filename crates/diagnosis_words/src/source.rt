@@ -4,7 +4,9 @@ use crate::functions::function_name;
 use crate::texts::{Place, TextFacts};
 use mpi_model::{Call, Layout, OpName};
 use std::alloc::Global;
-use trace_diagnosis::{Diagnosis, Held, LastCall, Operation, Polling, Standing};
+use trace_diagnosis::{
+    Diagnosis, Held, LastCall, Operation, Polling, Root, RootKind, RoundName, Standing,
+};
 
 /// What is printed from.
 #[derive(Clone, Copy)]
@@ -61,6 +63,25 @@ impl<'a> Source<'a> {
             Ok(at) => held.get(at),
             Err(_) => None,
         }
+    }
+
+    /// The root of which a rank is one, but for rounds.
+    pub fn root_of(self, rank: u32) -> Option<&'a Root> {
+        for root in self.diagnosis.waiting.roots.as_slice() {
+            let is_round = matches!(root.kind, RootKind::Mismatch(_));
+            if !is_round && root.ranks.as_slice().binary_search(&rank).is_ok() {
+                return Some(root);
+            }
+        }
+        None
+    }
+
+    /// Whether a round holds up the run itself.
+    pub fn is_root_round(self, round: RoundName) -> bool {
+        let roots = &self.diagnosis.waiting.roots;
+        roots
+            .iter()
+            .any(|root| root.kind == RootKind::Mismatch(round))
     }
 
     /// An operation that the diagnosis names.

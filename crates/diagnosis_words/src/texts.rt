@@ -121,6 +121,11 @@ impl TextFacts {
         Ok(())
     }
 
+    /// Whether a text is of a rank.
+    pub(crate) fn has_text(&self, rank: u32) -> bool {
+        self.notes.iter().any(|note| note.rank() == rank)
+    }
+
     /// The call of this number in the first text that has it, where a second look found it.
     fn site(&self, rank: u32, call: u64) -> Option<&PlacedSite> {
         let sites = self.sites.as_slice();

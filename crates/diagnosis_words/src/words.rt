@@ -7,7 +7,7 @@ use crate::texts::TextFacts;
 use crate::writer::Writer;
 use mpi_model::Layout;
 use std::alloc::{AllocError, Global};
-use trace_diagnosis::{Diagnosis, LeftOver, RootKind, Starving};
+use trace_diagnosis::{Diagnosis, LeftOver, Starving};
 
 /// The most lines of a list, and the fewest to which it is cut where there is much to say.
 const MOST_SHOWN: usize = 10;
@@ -17,7 +17,7 @@ const FEWEST_SHOWN: usize = 3;
 /// The most groups of ranks that are told.
 const MOST_GROUPS: usize = 20;
 
-/// The most ranks of a cycle that are told one by one.
+/// The most lines of ranks below what holds up the run.
 const MOST_MEMBERS: usize = 8;
 
 /// The most lines of all, and the most bytes of a line.
@@ -49,9 +49,10 @@ pub fn diagnosis_words(
     let headline = headline_of(&writer)?;
     writer.put_headline(headline);
     writer.put_summary();
-    writer.put_roots(&lists, cap)?;
+    writer.put_roots(cap)?;
     writer.put_groups(&lists, cap);
-    writer.put_round_lists(cap);
+    writer.put_other_rounds(&lists, cap);
+    writer.put_open_rounds(cap);
     writer.put_message_lists(&lists, cap);
     writer.put_end();
     let Writer { out, .. } = writer;
@@ -62,6 +63,8 @@ pub fn diagnosis_words(
 #[derive(Drop)]
 struct Lists {
     groups: Vec<Group>,
+    /// The places of the rounds whose calls don't match and that hold up nothing by themselves.
+    mismatched: Vec<usize>,
     /// The places of left-over messages and of starving receives.
     left_over: Vec<usize>,
     starving: Vec<usize>,
@@ -121,6 +124,17 @@ fn order_of(is_far: bool, before: u64) -> u8 {
     }
 }
 
+/// The places of the mismatched rounds that are no roots: those are told where the roots are.
+fn other_rounds(source: Source<'_>) -> Result<Vec<usize>, AllocError> {
+    let mut places = Vec::new(source.alloc);
+    for (i, round) in source.diagnosis.rounds.mismatched.iter().enumerate() {
+        if !source.is_root_round(round.round) {
+            places.push(i)?;
+        }
+    }
+    Ok(places)
+}
+
 /// The lists of a diagnosis.
 fn lists_of(source: Source<'_>) -> Result<Lists, AllocError> {
     let alloc = source.alloc;
@@ -133,16 +147,18 @@ fn lists_of(source: Source<'_>) -> Result<Lists, AllocError> {
     let unmatched = &diagnosis.unmatched;
     let left = unmatched.left_over.as_slice();
     let starving = unmatched.starving.as_slice();
+    let mismatched = other_rounds(source)?;
     let mut lengths = Vec::new(alloc);
     lengths.push(diagnosis.waiting.roots.len())?;
     lengths.push(groups.len())?;
-    lengths.push(diagnosis.rounds.mismatched.len())?;
+    lengths.push(mismatched.len())?;
     lengths.push(diagnosis.rounds.open.len())?;
     lengths.push(left.len())?;
     lengths.push(starving.len())?;
     lengths.push(unmatched.unfinished.len())?;
     Ok(Lists {
         groups,
+        mismatched,
         left_over: places_by(alloc, orders_of_left(alloc, left)?.as_slice())?,
         starving: places_by(alloc, orders_of_starving(alloc, starving)?.as_slice())?,
         lengths,
@@ -203,7 +219,7 @@ impl<'a> Writer<'a> {
     }
 
     /// What holds up the run.
-    fn put_roots(&mut self, lists: &Lists, cap: usize) -> Result<(), AllocError> {
+    fn put_roots(&mut self, cap: usize) -> Result<(), AllocError> {
         let roots = self.source.diagnosis.waiting.roots.as_slice();
         if roots.is_empty() {
             return Ok(());
@@ -213,40 +229,15 @@ impl<'a> Writer<'a> {
         let mut members: usize = 0;
         for root in front(roots, cap) {
             self.put_root(root);
-            if matches!(root.kind, RootKind::Cycle) {
-                members = self.put_members_of(root.ranks.as_slice(), members)?;
-            }
+            members = self.put_root_members(root, members, MOST_MEMBERS)?;
         }
         self.put_more(roots.len(), cap);
-        let _ = lists;
         Ok(())
     }
 
     /// At how many lines a list is cut that isn't one of groups of ranks.
     fn list_cap(&self, cap: usize) -> usize {
         if self.all { cap } else { cap.min(MOST_SHOWN) }
-    }
-
-    /// The ranks of a cycle, those that stand alike together, where so many were told before: how many are told then.
-    fn put_members_of(&mut self, ranks: &[u32], told: usize) -> Result<usize, AllocError> {
-        let groups = groups_of(self.source, ranks)?;
-        let mut count = told;
-        for (i, group) in groups.iter().enumerate() {
-            let is_last = count.saturating_add(1) >= MOST_MEMBERS
-                && i.saturating_add(1) < groups.len();
-            if is_last && !self.all {
-                self.put(b"    and ");
-                self.put_number(groups.len().saturating_sub(i) as u64);
-                self.put(b" more\n");
-                return Ok(count.saturating_add(1));
-            }
-            if count >= MOST_MEMBERS && !self.all {
-                return Ok(count);
-            }
-            self.put_member(group);
-            count = count.saturating_add(1);
-        }
-        Ok(count)
     }
 
     /// Where the ranks stand.
@@ -258,19 +249,31 @@ impl<'a> Writer<'a> {
         self.put_more(lists.groups.len(), cap);
     }
 
-    /// Rounds that don't match, and open ones.
-    fn put_round_lists(&mut self, cap: usize) {
+    /// Rounds that don't match, but for those that are told among what holds up the run.
+    fn put_other_rounds(&mut self, lists: &Lists, cap: usize) {
+        let places = lists.mismatched.as_slice();
+        if places.is_empty() {
+            return;
+        }
         let cap = self.list_cap(cap);
-        let rounds = &self.source.diagnosis.rounds;
-        let mismatched = rounds.mismatched.as_slice();
-        if !mismatched.is_empty() {
-            self.put(b"\nRounds of collective calls that don't match:\n");
-            for round in front(mismatched, cap) {
+        let rounds = self.source.diagnosis.rounds.mismatched.as_slice();
+        self.put(if places.len() < rounds.len() {
+            b"\nOther rounds of collective calls that don't match:\n".as_slice()
+        } else {
+            b"\nRounds of collective calls that don't match:\n".as_slice()
+        });
+        for at in front(places, cap) {
+            if let Some(round) = rounds.get(*at) {
                 self.put_mismatched_line(round);
             }
-            self.put_more(mismatched.len(), cap);
         }
-        let open = rounds.open.as_slice();
+        self.put_more(places.len(), cap);
+    }
+
+    /// Open rounds.
+    fn put_open_rounds(&mut self, cap: usize) {
+        let cap = self.list_cap(cap);
+        let open = self.source.diagnosis.rounds.open.as_slice();
         if !open.is_empty() {
             self.put(b"\nRounds of collective calls that not all have entered:\n");
             for round in front(open, cap) {

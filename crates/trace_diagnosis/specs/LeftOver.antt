@@ -30,6 +30,10 @@ is_left_beside ops free m = is_sure m.trust && not (may_take (comes_after ops) f
 abbrev pub is_left : List Ops → List Pair → Message → Bool
 is_left ops pairs = is_left_beside ops (free_receives ops pairs)
 
+-- It is undecided beside these receives where it is sure, and one of them whose envelope fits it may have taken it.
+abbrev pub is_undecided_beside : List Ops → List Receive → Message → Bool
+is_undecided_beside ops free m = is_sure m.trust && may_take (comes_after ops) free m
+
 -- the messages that are left over
 abbrev pub left_over : List Ops → List Pair → List Message
 left_over ops pairs = filter (is_left ops pairs) (loose ops pairs)

@@ -212,6 +212,8 @@ pub struct Unmatched {
     pub left_over: Vec<LeftOver>,
     /// By name.
     pub starving: Vec<Starving>,
+    /// The messages in no pair that a receive in no pair may have taken, by name.
+    pub undecided: Vec<Message>,
     /// The requests that were active when their ranks called `MPI_Finalize`, by name.
     pub unfinished: Vec<OpName>,
 }

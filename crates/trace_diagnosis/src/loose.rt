@@ -4,7 +4,7 @@ ghost use Rattle.std.specs.Prelude.{◌≡◌, ◌++◌, List, IfOk, OnOk, filte
 ghost use Rattle.mpi_model.specs.declared.message.Receive.{Receive as Wanted};
 ghost use Rattle.trace_pair.specs.Ends.{AreLast};
 ghost use Rattle.trace_wait.specs.Matching.{is_unpaired_receive};
-ghost use Rattle.trace_diagnosis.specs.LeftOver.{is_left_beside, is_loose, loose};
+ghost use Rattle.trace_diagnosis.specs.LeftOver.{is_left_beside, is_loose, is_undecided_beside, loose};
 
 use mpi_model::{Message, OpName, Receive};
 use std::alloc::{AllocError, Global};
@@ -121,4 +121,31 @@ pub(crate) fn left_over_of(
         }
     }
     Ok(left)
+}
+
+/// Whether a message in no pair is undecided: it is sure, and a receive in no pair may have taken it. `ends` are those of these
+/// receives.
+fn is_undecided(ends: &Ends, reaches: &Reaches<'_>, m: &Message) -> bool
+    ensures { (free : List Wanted) → AreLast free ends.now → result ≡ is_undecided_beside reaches.now free m.now }
+{
+    m.trust.is_sure() && ends.may_take(reaches, m)
+}
+
+/// Those of the messages in no pair that are undecided.
+pub(crate) fn undecided_of(
+    alloc: Global,
+    ends: &Ends,
+    reaches: &Reaches<'_>,
+    messages: &[Message],
+) -> Result<Vec<Message>, AllocError>
+    ensures { IfOk result (λ found. (free : List Wanted) → AreLast free ends.now
+        → found.items ≡ filter (is_undecided_beside reaches.now free) messages.now) }
+{
+    let mut found = Vec::new(alloc);
+    for m in messages {
+        if is_undecided(ends, reaches, m) {
+            found.push(*m)?;
+        }
+    }
+    Ok(found)
 }

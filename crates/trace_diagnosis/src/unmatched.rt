@@ -13,7 +13,7 @@ use crate::firsts::Firsts;
 use crate::holding::is_up;
 use crate::idle::Idle;
 use crate::inits::Inits;
-use crate::loose::{left_over_of, loose_messages};
+use crate::loose::{left_over_of, loose_messages, undecided_of};
 use crate::near::{NearMessages, NearReceives, is_near};
 use crate::patterns::{Pattern, pattern_of, patterns_of};
 use crate::shelf::first_three;
@@ -85,6 +85,7 @@ struct Found {
     starving: Vec<Receive>,
     /// The messages in no pair that weren't cancelled.
     loose: Vec<Message>,
+    undecided: Vec<Message>,
 }
 
 /// What starves and what is left over.
@@ -95,6 +96,7 @@ fn found_in(alloc: Global, run: &Run<'_>, reaches: &Reaches<'_>) -> Result<Found
     let loose = loose_messages(alloc, run.pairs, run.ops)?;
     let ends = ends_asked(alloc, run.ops, &received)?;
     let left = left_over_of(alloc, &ends, reaches, &loose)?;
+    let undecided = undecided_of(alloc, &ends, reaches, &loose)?;
     let starving = starving_of(
         alloc,
         run.layout,
@@ -109,6 +111,7 @@ fn found_in(alloc: Global, run: &Run<'_>, reaches: &Reaches<'_>) -> Result<Found
         left,
         starving,
         loose,
+        undecided,
     })
 }
 
@@ -507,9 +510,11 @@ pub(crate) fn unmatched_of(
     let left_over = told_messages(alloc, run, &found, &idle, &through)?;
     let starving = told_receives(alloc, run, inits, &reaches, &found, &idle, &through)?;
     let unfinished = unfinished_in(alloc, run.ops)?;
+    let Found { undecided, .. } = found;
     Ok(Unmatched {
         left_over,
         starving,
+        undecided,
         unfinished,
     })
 }

@@ -176,6 +176,7 @@ fn nothing_unmatched(alloc: Global, ops: &[RankOps]) -> Result<Unmatched, AllocE
     Ok(Unmatched {
         left_over: Vec::new(alloc),
         starving: Vec::new(alloc),
+        undecided: Vec::new(alloc),
         unfinished: unfinished_in(alloc, ops)?,
     })
 }

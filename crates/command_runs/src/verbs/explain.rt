@@ -43,6 +43,14 @@ pub(crate) enum Printing {
     Picture(Extent),
 }
 
+/// The rank that is asked for.
+fn asked_of(printing: Printing) -> Option<u32> {
+    match printing {
+        Printing::Rank(rank) => Some(rank),
+        Printing::Words(_) | Printing::Json | Printing::Picture(_) => None,
+    }
+}
+
 /// Writes what holds up the run, by all that the pieces tell.
 pub(crate) fn explain<O: Opener, V: Watcher, W: Write>(
     printing: Printing,
@@ -110,9 +118,11 @@ fn diagnosed<N: Answerer, O: Opener>(
     };
     let know = node.knowledge();
     let diagnosis = diagnose(alloc, layout, answer, know, &[])?;
-    let texts = facts_of(alloc, &diagnosis, notes, files)?;
+    let texts = facts_of(alloc, &diagnosis, asked_of(printing), notes, files)?;
     match printing {
-        Printing::Words(extent) => in_words(alloc, layout, &diagnosis, &texts, answer, extent),
+        Printing::Words(extent) => {
+            in_words(alloc, layout, &diagnosis, &texts, answer, know, extent)
+        }
         Printing::Json => diagnosis_json(alloc, layout, &diagnosis, &texts),
         Printing::Rank(rank) => of_rank(alloc, layout, &diagnosis, &texts, answer, know, rank),
         Printing::Picture(extent) => {
@@ -128,11 +138,12 @@ fn in_words(
     diagnosis: &Diagnosis,
     texts: &TextFacts,
     answer: &Answer,
+    know: &Knowledge,
     extent: Extent,
 ) -> Result<Vec<u8>, AllocError> {
     let all = extent == Extent::Whole;
     let said = diagnosis_words(alloc, layout, diagnosis, texts, all)?;
-    let doubts = answer_doubts(alloc, layout, diagnosis, texts, answer, all)?;
+    let doubts = answer_doubts(alloc, layout, diagnosis, texts, answer, know, all)?;
     let mut text = Text::new(alloc);
     text.put(&said);
     text.put(&doubts);

@@ -54,14 +54,15 @@ fn looked<O: Opener>(
     }
 }
 
-/// What the texts tell of the calls that the diagnosis names.
+/// What the texts tell of the calls that the diagnosis names, and of the last ones of the rank that is asked for.
 pub(crate) fn facts_of<O: Opener>(
     alloc: Global,
     diagnosis: &Diagnosis,
+    asked: Option<u32>,
     notes: Vec<TextNote>,
     files: &O,
 ) -> Result<TextFacts, AllocError> {
-    let named = named_calls(alloc, diagnosis)?;
+    let named = named_calls(alloc, diagnosis, asked)?;
     let mut facts = TextFacts::none(alloc);
     facts.notes = notes;
     for at in 0..facts.notes.len() {

@@ -6,7 +6,7 @@ use mpi_model::Sends;
 use trace_diagnosis::{Doubts, Foreign};
 
 /// The most functions, texts or objects of a line that are told.
-const MOST_NAMED: usize = 8;
+const MOST_NAMED: usize = 10;
 
 impl<'a> Writer<'a> {
     /// Who would be stuck under the other kind of sends.
@@ -39,39 +39,56 @@ impl<'a> Writer<'a> {
         }
     }
 
-    /// An object that the layout doesn't have, with how many calls name it.
-    fn put_foreign(&mut self, foreign: &Foreign) {
-        self.put(sort_word(foreign.object));
-        self.put(b" ");
-        self.put_number(foreign.number as u64);
-        self.put(b" in ");
-        self.put_number(foreign.calls);
-        self.put(if foreign.calls == 1 {
-            b" call".as_slice()
-        } else {
-            b" calls".as_slice()
-        });
+    /// What stands before an element of a list on one line, by its place: nothing where the list is cut before it, of which it
+    /// says how many more there are.
+    fn put_next(&mut self, i: usize, count: usize) -> bool {
+        if i == MOST_NAMED && !self.all {
+            self.put(b" and ");
+            self.put_number(count.saturating_sub(i) as u64);
+            self.put(b" more");
+            return false;
+        }
+        if i > 0 {
+            self.put(b", ");
+        }
+        true
     }
 
-    /// The objects that the layout doesn't have.
+    /// The objects that the layout doesn't have, each with how many calls name it.
     fn put_all_foreign(&mut self, foreign: &[Foreign]) {
         if foreign.is_empty() {
             return;
         }
-        self.put(b"  the layout doesn't have what these calls name, which count as local: ");
+        let mut calls: u64 = 0;
+        for one in foreign {
+            calls = calls.saturating_add(one.calls);
+        }
+        self.put(b"  ");
+        self.put_calls_of(calls, foreign.len(), b" object", b" objects");
+        self.put(b" that the layout doesn't have, which count as local: ");
         for (i, one) in foreign.iter().enumerate() {
-            if i == MOST_NAMED && !self.all {
-                self.put(b", ..");
+            if !self.put_next(i, foreign.len()) {
                 break;
             }
-            self.put(if i == 0 {
-                b"".as_slice()
-            } else {
-                b", ".as_slice()
-            });
-            self.put_foreign(one);
+            self.put(sort_word(one.object));
+            self.put(b" ");
+            self.put_number(one.number as u64);
+            self.put(b" (");
+            self.put_number(one.calls);
+            self.put(b")");
         }
         self.put(b"\n");
+    }
+
+    /// `9 calls of 4 functions`.
+    fn put_calls_of(&mut self, calls: u64, count: usize, one: &[u8], more: &[u8]) {
+        self.put_number(calls);
+        self.put(if calls == 1 {
+            b" call of ".as_slice()
+        } else {
+            b" calls of ".as_slice()
+        });
+        self.put_counted(count, one, more);
     }
 
     /// The functions that may wait or move data and that aren't read.
@@ -80,22 +97,21 @@ impl<'a> Writer<'a> {
         if local.is_empty() {
             return;
         }
-        self.put(
-            b"  calls that may wait for others or move data, and that mpimatch does not read: ",
-        );
+        let mut calls: u64 = 0;
+        for one in local {
+            calls = calls.saturating_add(one.calls);
+        }
+        self.put(b"  ");
+        self.put_calls_of(calls, local.len(), b" function", b" functions");
+        self.put(b" that may wait for others or move data, and that mpimatch does not read: ");
         for (i, one) in local.iter().enumerate() {
-            if i == MOST_NAMED && !self.all {
-                self.put(b", ..");
+            if !self.put_next(i, local.len()) {
                 break;
             }
-            self.put(if i == 0 {
-                b"".as_slice()
-            } else {
-                b", ".as_slice()
-            });
             self.put_name(one.function.as_slice());
-            self.put(b" ");
+            self.put(b" (");
             self.put_number(one.calls);
+            self.put(b")");
         }
         self.put(b"\n");
     }
@@ -107,18 +123,16 @@ impl<'a> Writer<'a> {
         if cut.is_empty() {
             return;
         }
-        self.put(b"  texts that end inside a line or a call: ");
+        self.put(b"  ");
+        self.put_counted(
+            cut.len(),
+            b" text ends inside a line or a call: ",
+            b" texts end inside a line or a call: ",
+        );
         for (i, one) in cut.iter().enumerate() {
-            if i == MOST_NAMED && !self.all {
-                self.put(b", .. (");
-                self.put_counted(cut.len(), b" text)", b" texts)");
+            if !self.put_next(i, cut.len()) {
                 break;
             }
-            self.put(if i == 0 {
-                b"".as_slice()
-            } else {
-                b", ".as_slice()
-            });
             if let Some(note) = texts.notes.as_slice().get(one.note) {
                 self.put(note.file());
             }

@@ -8,49 +8,50 @@ use trace_diagnosis::{LeftOver, NearMessage, NearReceive, Starving, Why};
 const MOST_NEAR: usize = 2;
 
 impl<'a> Writer<'a> {
-    /// In what a receive differs from a message.
+    /// A receive that a message misses by little: `rank 0 receives another tag: MPI_Irecv from rank 1, tag 9 (call 2, ..)`.
     fn put_near_receive(&mut self, near: &NearReceive) {
         let receive = &near.receive;
-        self.put(match near.why {
-            Why::Tag => b"; another tag takes ".as_slice(),
-            Why::Comm => b"; on another communicator takes ".as_slice(),
-            Why::Source => b"; from another source takes ".as_slice(),
-            Why::Dest => b"; it would fit a receive of another rank, ".as_slice(),
-            Why::Taken | Why::Postponed => b"; it may belong to ".as_slice(),
-            Why::Idle => b"; a persistent receive would fit that is not active, ".as_slice(),
-        });
-        self.put(b"rank ");
+        self.put(b"; rank ");
         self.put_number(receive.at as u64);
-        self.put(b" by ");
-        self.put_by(receive.name);
-        self.put(b": from ");
+        self.put(match near.why {
+            Why::Tag => b" receives another tag: ".as_slice(),
+            Why::Comm => b" receives on another communicator: ".as_slice(),
+            Why::Source => b" receives from another source: ".as_slice(),
+            Why::Dest => b" would receive it, were it sent there: ".as_slice(),
+            Why::Taken | Why::Postponed => b" may have received it: ".as_slice(),
+            Why::Idle => b" has a persistent receive for it that is not active: ".as_slice(),
+        });
+        self.put_op_function(receive.name);
+        self.put(b" from ");
         self.put_receive(receive);
+        self.put_in_brackets(receive.name);
     }
 
-    /// In what a message differs from what a receive takes.
+    /// A message that a receive misses by little: `rank 1 sent another tag: MPI_Send to rank 0, tag 8 (call 3, ..)`.
     fn put_near_message(&mut self, near: &NearMessage) {
         let message = &near.message;
-        self.put(match near.why {
-            Why::Tag => b"; with another tag sent ".as_slice(),
-            Why::Comm => b"; on another communicator sent ".as_slice(),
-            Why::Source => b"; from another source than it names sent ".as_slice(),
-            Why::Dest => b"; to another rank sent ".as_slice(),
-            Why::Taken => b"; an earlier receive took what fits: sent ".as_slice(),
-            Why::Postponed => b"; another open receive may have taken what fits: sent ".as_slice(),
-            Why::Idle => b"; a persistent send that would fit was not started: made ".as_slice(),
-        });
-        self.put(b"rank ");
+        self.put(b"; rank ");
         self.put_number(message.from as u64);
-        self.put(b" by ");
-        self.put_by(message.name);
-        self.put(b": to rank ");
+        self.put(match near.why {
+            Why::Tag => b" sent another tag: ".as_slice(),
+            Why::Comm => b" sent on another communicator: ".as_slice(),
+            Why::Source => b", another source, sent: ".as_slice(),
+            Why::Dest => b" sent to another rank: ".as_slice(),
+            Why::Taken => b" sent what fits, and an earlier receive took it: ".as_slice(),
+            Why::Postponed =>
+                b" sent what fits, and an open receive may have taken it: ".as_slice(),
+            Why::Idle => b" has a persistent send for it that is not active: ".as_slice(),
+        });
+        self.put_op_function(message.name);
+        self.put(b" to rank ");
         self.put_number(message.to as u64);
         self.put(b", ");
         self.put_message(message);
+        self.put_in_brackets(message.name);
         if let Some(by) = near.by {
-            self.put(b" (the receive: ");
-            self.put_by(by);
-            self.put(b")");
+            self.put(b", taken by ");
+            self.put_op_function(by);
+            self.put_in_brackets(by);
         }
     }
 

@@ -1,9 +1,12 @@
 //! What is said of what holds up a run.
 
-use crate::groups::{Group, groups_of};
+use crate::groups::{Group, groups_of, singles_of};
+use crate::needed::{takes_all, takes_one};
+use crate::source::Source;
 use crate::writer::Writer;
+use std::alloc::AllocError;
 use trace_diagnosis::{
-    CallGroup, Held, LastCall, MismatchedRound, Need, Root, RootKind, RoundName, Stand,
+    CallGroup, Held, LastCall, MismatchedRound, Need, Root, RootKind, RoundName, Stand, Standing,
 };
 use trace_stuck::Condition;
 
@@ -13,9 +16,42 @@ const MOST_GROUPS: usize = 4;
 /// The most rounds of a rank's needs that are told.
 const MOST_ROUNDS: usize = 2;
 
-/// Whether one of the parts of a condition is enough.
-fn is_one_of(condition: &Condition) -> bool {
-    matches!(condition, Condition::One(_) | Condition::OneRank(_))
+/// How many of the ranks are enough that a condition needs, where it says that of all of them.
+fn how_many(condition: &Condition) -> &'static [u8] {
+    if takes_one(condition) {
+        b"one of "
+    } else if takes_all(condition) {
+        b"all of "
+    } else {
+        b""
+    }
+}
+
+/// Whether ranks that have ended are more than those that wait for them.
+fn is_late(root: &Root) -> bool {
+    root.kind == RootKind::Ended && root.ranks.len() > root.holds_up.len()
+}
+
+/// The ranks of a root that are told below it: of a cycle one by one where there are few, and else those that stand alike
+/// together, where not all do.
+fn members_of(source: Source<'_>, root: &Root, one_by_one: bool) -> Result<Vec<Group>, AllocError> {
+    let ranks = root.ranks.as_slice();
+    if root.kind == RootKind::Cycle {
+        return if one_by_one {
+            singles_of(source, ranks)
+        } else {
+            groups_of(source, ranks)
+        };
+    }
+    if matches!(root.kind, RootKind::Mismatch(_)) || is_late(root) {
+        return Ok(Vec::new(source.alloc));
+    }
+    let groups = groups_of(source, ranks)?;
+    if groups.len() > 1 {
+        Ok(groups)
+    } else {
+        Ok(Vec::new(source.alloc))
+    }
 }
 
 impl<'a> Writer<'a> {
@@ -71,7 +107,7 @@ impl<'a> Writer<'a> {
         }
     }
 
-    /// Who waits for a root: `; 3 ranks wait for it: ranks 0 to 1, 3, in MPI_Allreduce on MPI_COMM_WORLD (round 5) (..)`.
+    /// Who waits for a root: `; 3 ranks wait for it: ranks 0 to 1, 3, in MPI_Allreduce on MPI_COMM_WORLD (round 5, ..)`.
     fn put_waiters(&mut self, root: &Root, own: usize) {
         let waiters = root.holds_up.as_slice();
         if waiters.is_empty() {
@@ -80,79 +116,122 @@ impl<'a> Writer<'a> {
         self.put(b"; ");
         self.put_counted(waiters.len(), b" rank waits for ", b" ranks wait for ");
         self.put_either(own, b"it: ", b"them: ");
+        self.put_ranks(waiters);
         match groups_of(self.source, waiters) {
             Ok(groups) => self.put_waiting_groups(root, groups.as_slice()),
             Err(_) => self.out.give_up(),
         }
     }
 
-    /// Ranks that wait for a root: what they stand in, or the first of them.
+    /// What the ranks stand in that wait for a root: all of them, where they stand alike and wait for no request; else the
+    /// first that waits for the root itself.
     fn put_waiting_groups(&mut self, root: &Root, groups: &[Group]) {
-        self.put_ranks(root.holds_up.as_slice());
         if let [group] = groups {
-            let rank = group.ranks.as_slice().first().copied().unwrap_or(0);
-            if let Some(last) = self.source.last_call(rank) {
-                self.put(b", in ");
-                self.put_group_call(rank, last, group);
-                self.put_open_of(last);
+            if let Some(last) = self.source.last_call(group.first()) {
+                if last.open.is_empty() || group.ranks.len() == 1 {
+                    self.put_waiting_group(root, group, last);
+                    return;
+                }
+            }
+        }
+        for rank in root.needed_by.iter() {
+            if root.ranks.as_slice().binary_search(rank).is_err() {
+                self.put_first(*rank, root.ranks.as_slice());
                 return;
             }
         }
-        if let Some(first) = root.needed_by.as_slice().first().copied() {
-            self.put_first(first);
+    }
+
+    /// What the ranks stand in that wait for a root and stand alike.
+    fn put_waiting_group(&mut self, root: &Root, group: &Group, last: &LastCall) {
+        let rank = group.first();
+        let is_polling = self.source.polling(rank).is_some();
+        self.put(if is_polling {
+            b", behind ".as_slice()
+        } else {
+            b", in ".as_slice()
+        });
+        self.put_group_call(rank, last, group);
+        self.put_open_of(last, root.ranks.as_slice());
+        if is_polling {
+            self.put_either(group.ranks.len(), b"; it polls", b"; they poll");
         }
     }
 
-    /// The first rank that waits for a root itself.
-    fn put_first(&mut self, rank: u32) {
-        if let Some(last) = self.source.last_call(rank) {
-            self.put(b"; first rank ");
-            self.put_number(rank as u64);
+    /// The first rank that waits for a root itself, with its open requests: those first that name the ranks of the root.
+    fn put_first(&mut self, rank: u32, asked: &[u32]) {
+        self.put(b"; first rank ");
+        self.put_number(rank as u64);
+        if let Some(polling) = self.source.polling(rank) {
+            self.put(b" ");
+            self.put_polling(polling);
+        } else if let Some(last) = self.source.last_call(rank) {
             self.put(b", in ");
             self.put_last(rank, last);
-            self.put_open_of(last);
+            self.put_open_of(last, asked);
         }
     }
 
-    /// The ranks of a root by how they stand: the first group, and how many more ranks there are.
+    /// The ranks of a root, with where they stand where they stand alike.
     fn put_own(&mut self, root: &Root) {
         match groups_of(self.source, root.ranks.as_slice()) {
-            Ok(groups) => {
-                let Some(group) = groups.as_slice().first() else {
-                    return;
-                };
-                self.put_own_group(group);
-                let more = root.ranks.len().saturating_sub(group.ranks.len());
-                if more > 0 {
-                    self.put(b", and ");
-                    self.put_counted(more, b" rank more", b" ranks more");
+            Ok(groups) => self.put_own_groups(root, groups.as_slice()),
+            Err(_) => self.out.give_up(),
+        }
+    }
+
+    /// The same, by these groups.
+    fn put_own_groups(&mut self, root: &Root, groups: &[Group]) {
+        if let [group] = groups {
+            self.put_own_group(group);
+            self.put_state(root.kind, group);
+            return;
+        }
+        let count = root.ranks.len();
+        self.put_ranks(root.ranks.as_slice());
+        match root.kind {
+            RootKind::Ended => self.put_either(count, b" has ended", b" have ended"),
+            RootKind::Silent => self.put_either(count, b" gives no sign", b" give no sign"),
+            RootKind::Mismatch(_) | RootKind::Cycle | RootKind::Open => self.put_either(
+                count,
+                b" may still go on by itself",
+                b" may still go on by themselves",
+            ),
+        }
+    }
+
+    /// What is said of ranks that stand alike behind where they stand, by what root they are of.
+    fn put_state(&mut self, kind: RootKind, group: &Group) {
+        match kind {
+            RootKind::Mismatch(_) | RootKind::Cycle | RootKind::Ended => {}
+            RootKind::Silent => {
+                if let Some(standing) = self.source.standing(group.first()) {
+                    self.put_silence(standing, group.ranks.len());
                 }
             }
-            Err(_) => self.out.give_up(),
+            RootKind::Open => self.put_either(
+                group.ranks.len(),
+                b", and may still go on by itself",
+                b", and may still go on by themselves",
+            ),
         }
     }
 
     /// Ranks that stand alike, as the subject of a sentence: `rank 2 is behind MPI_Allreduce (call 7, ..)`.
     fn put_own_group(&mut self, group: &Group) {
-        let rank = group.ranks.as_slice().first().copied().unwrap_or(0);
+        let rank = group.first();
         let Some(standing) = self.source.standing(rank) else {
             return;
         };
-        let count = group.ranks.len();
         self.put_ranks(group.ranks.as_slice());
-        if count == 1 {
+        if group.ranks.len() == 1 {
             self.put(b" ");
             self.put_doing(standing);
             return;
         }
-        self.put(match standing.stand {
-            Stand::Ended => b" have ended, ".as_slice(),
-            Stand::In => b" stand in ".as_slice(),
-            Stand::Behind => b" are behind ".as_slice(),
-            Stand::Nowhere => b" have no call that can be read".as_slice(),
-        });
-        if let Some(last) = &standing.call {
-            self.put_together(rank, last, group);
+        match &standing.call {
+            Some(last) => self.put_own_call(standing, last, group),
+            None => self.put(b" have no call that can be read"),
         }
         if self.source.polling(rank).is_some() {
             self.put(b"; they poll");
@@ -160,14 +239,17 @@ impl<'a> Writer<'a> {
         self.put_beyond(standing.beyond);
     }
 
-    /// Ranks that have ended, and who waits for them.
-    fn put_ended(&mut self, root: &Root) {
-        if root.ranks.len() > root.holds_up.len() {
-            self.put_late(root);
-            return;
+    /// The last call of ranks that stand alike, behind these ranks.
+    fn put_own_call(&mut self, standing: &Standing, last: &LastCall, group: &Group) {
+        match standing.stand {
+            Stand::Ended => {
+                self.put_end_calls(standing.rank, last, group);
+                return;
+            }
+            Stand::In | Stand::Nowhere => self.put(b" stand in "),
+            Stand::Behind => self.put(b" are behind "),
         }
-        self.put_own(root);
-        self.put_waiters(root, root.ranks.len());
+        self.put_together(standing.rank, last, group);
     }
 
     /// The few that wait for many that have ended: they may make a call too many.
@@ -189,48 +271,29 @@ impl<'a> Writer<'a> {
             self.put(b"rank ");
             self.put_number(rank as u64);
             self.put(b" ");
-            self.put_stands(rank);
+            self.put_stands(rank, root.ranks.as_slice());
         }
     }
 
-    /// What one rank does, and which of its requests are open.
-    pub fn put_stands(&mut self, rank: u32) {
+    /// What one rank does, and which of its requests are open: those first that name the ranks asked for.
+    pub fn put_stands(&mut self, rank: u32, asked: &[u32]) {
         if let Some(standing) = self.source.standing(rank) {
             self.put_doing(standing);
         }
         if self.source.polling(rank).is_none() {
             if let Some(last) = self.source.last_call(rank) {
-                self.put_open_of(last);
+                self.put_open_of(last, asked);
             }
         }
     }
 
-    /// What may be the matter with ranks that give no sign, by how the first of them stands.
-    fn put_silence(&mut self, root: &Root) {
-        let rank = root.ranks.as_slice().first().copied().unwrap_or(0);
-        let count = root.ranks.len();
-        let Some(standing) = self.source.standing(rank) else {
-            return;
-        };
+    /// What may be the matter with ranks that give no sign and stand alike.
+    fn put_silence(&mut self, standing: &Standing, count: usize) {
         if standing.beyond.is_some() {
             return;
         }
         match standing.stand {
-            Stand::Nowhere => {
-                if self.source.texts.notes.is_empty() || self.has_text(rank) {
-                    self.put_either(
-                        count,
-                        b": its trace has no call",
-                        b": their traces have no call",
-                    );
-                } else {
-                    self.put_either(
-                        count,
-                        b": it has no trace, its text is missing",
-                        b": they have no trace, their texts are missing",
-                    );
-                }
-            }
+            Stand::Nowhere => self.put_absence(standing.rank, count),
             Stand::In => self.put_either(
                 count,
                 b" and hasn't returned: mpimatch doesn't know what that call waits for",
@@ -244,13 +307,20 @@ impl<'a> Writer<'a> {
         }
     }
 
-    /// Whether a text is of a rank.
-    fn has_text(&self, rank: u32) -> bool {
-        self.source
-            .texts
-            .notes
-            .iter()
-            .any(|note| note.rank() == rank)
+    /// Why ranks have no call: their texts are missing, or have none.
+    fn put_absence(&mut self, rank: u32, count: usize) {
+        let texts = self.source.texts;
+        if texts.notes.is_empty() {
+            self.put(b": nothing is known");
+        } else if texts.has_text(rank) {
+            self.put_either(count, b": its text has none", b": their texts have none");
+        } else {
+            self.put_either(
+                count,
+                b": it has no trace, its text is missing",
+                b": they have no trace, their texts are missing",
+            );
+        }
     }
 
     /// Ranks that wait for one another.
@@ -267,27 +337,19 @@ impl<'a> Writer<'a> {
     /// A root.
     pub fn put_root(&mut self, root: &Root) {
         self.put(b"  ");
-        let count = root.ranks.len();
         match root.kind {
             RootKind::Mismatch(round) => {
                 self.put_mismatch(round);
                 self.put_waiters(root, 2);
             }
             RootKind::Cycle => self.put_cycle(root),
-            RootKind::Ended => self.put_ended(root),
-            RootKind::Silent => {
-                self.put_own(root);
-                self.put_silence(root);
-                self.put_waiters(root, count);
-            }
-            RootKind::Open => {
-                self.put_own(root);
-                self.put_either(
-                    count,
-                    b", and may still go on by itself",
-                    b", and may still go on by themselves",
-                );
-                self.put_waiters(root, count);
+            RootKind::Ended | RootKind::Silent | RootKind::Open => {
+                if is_late(root) {
+                    self.put_late(root);
+                } else {
+                    self.put_own(root);
+                    self.put_waiters(root, root.ranks.len());
+                }
             }
         }
         self.put(b"\n");
@@ -307,11 +369,7 @@ impl<'a> Writer<'a> {
         self.put(b"needs ");
         if !ranks.is_empty() {
             if ranks.len() > 1 {
-                self.put(if is_one_of(&held.waits) {
-                    b"one of ".as_slice()
-                } else {
-                    b"all of ".as_slice()
-                });
+                self.put(how_many(&held.waits));
             }
             self.put_ranks(ranks.as_slice());
         }
@@ -339,24 +397,57 @@ impl<'a> Writer<'a> {
         }
     }
 
-    /// A rank of a cycle, or several that stand alike, with what it needs.
-    pub fn put_member(&mut self, group: &Group) {
-        let rank = group.ranks.as_slice().first().copied().unwrap_or(0);
+    /// Ranks of a root that stand alike, on a line of their own: of a cycle with what they need.
+    fn put_member(&mut self, kind: RootKind, group: &Group) {
+        let rank = group.first();
         self.put(b"    ");
-        if group.ranks.len() == 1 {
+        if kind != RootKind::Cycle {
+            self.put_own_group(group);
+            self.put_state(kind, group);
+        } else if group.ranks.len() == 1 {
             self.put(b"rank ");
             self.put_number(rank as u64);
             self.put(b" ");
-            self.put_stands(rank);
+            self.put_stands(rank, &[]);
+            self.put(b"; it ");
         } else {
             self.put_own_group(group);
-            self.put(b"; the first");
+            self.put(b"; the first ");
         }
-        if let Some(held) = self.source.held(rank) {
-            self.put(b": ");
-            self.put_needs(held);
+        if kind == RootKind::Cycle {
+            if let Some(held) = self.source.held(rank) {
+                self.put_needs(held);
+            }
         }
         self.put(b"\n");
+    }
+
+    /// The ranks of a root on lines of their own, where so many lines of this sort were told before: how many are told then.
+    /// At most so many are told.
+    pub fn put_root_members(
+        &mut self,
+        root: &Root,
+        told: usize,
+        most: usize,
+    ) -> Result<usize, AllocError> {
+        let one_by_one = self.all || root.ranks.len().saturating_add(told) <= most;
+        let groups = members_of(self.source, root, one_by_one)?;
+        let mut count = told;
+        for (i, group) in groups.iter().enumerate() {
+            if count >= most && !self.all {
+                return Ok(count);
+            }
+            count = count.saturating_add(1);
+            let is_last = count >= most && i.saturating_add(1) < groups.len();
+            if is_last && !self.all {
+                self.put(b"    and ");
+                self.put_number(groups.len().saturating_sub(i) as u64);
+                self.put(b" more\n");
+            } else {
+                self.put_member(root.kind, group);
+            }
+        }
+        Ok(count)
     }
 
     /// The last call of a rank that ends, where it is known.

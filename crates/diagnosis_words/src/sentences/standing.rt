@@ -2,7 +2,7 @@
 
 use crate::groups::Group;
 use crate::writer::Writer;
-use trace_diagnosis::{Beyond, LastCall, Polling, Stand, Standing};
+use trace_diagnosis::{Beyond, LastCall, Polling, RootKind, Stand, Standing};
 
 /// The most calls of a polling rank that are told.
 const MOST_POLLED: usize = 2;
@@ -109,11 +109,11 @@ impl<'a> Writer<'a> {
         self.put(b"\n");
     }
 
-    /// `rank 0 polls: its last 107 calls of MPI had no success: ..`.
+    /// `polls: 107 of its last calls are tests or probes without success: MPI_Test (last call 110, ..) on call 2: ..`.
     pub fn put_polling(&mut self, polling: &Polling) {
-        self.put(b"polls: of its last calls ");
+        self.put(b"polls: ");
         self.put_number(polling.count);
-        self.put(b" were tests or probes without success, the last of each: ");
+        self.put(b" of its last calls are tests or probes without success: ");
         for (i, polled) in polling.calls.iter().enumerate() {
             if i == MOST_POLLED && !self.all {
                 self.put(b"; ..");
@@ -140,37 +140,94 @@ impl<'a> Writer<'a> {
             self.put_beyond(standing.beyond);
             return;
         };
-        self.put(match standing.stand {
-            Stand::Ended => b"has ended, ".as_slice(),
-            Stand::In => b"stands in ".as_slice(),
-            Stand::Behind => b"is behind ".as_slice(),
-            Stand::Nowhere => b"has ".as_slice(),
-        });
+        match standing.stand {
+            Stand::Ended => {
+                self.put_end_call(rank, last);
+                return;
+            }
+            Stand::In => self.put(b"stands in "),
+            Stand::Behind => self.put(b"is behind "),
+            Stand::Nowhere => self.put(b"has "),
+        }
         self.put_last(rank, last);
         self.put_beyond(standing.beyond);
     }
 
-    /// What is said in a node of a picture behind its ranks: of one rank its whole call.
-    pub fn put_node(&mut self, standing: &Standing, count: usize) {
-        let Some(last) = &standing.call else {
-            self.put(b"\nno call can be read");
-            return;
-        };
+    /// `has ended (MPI_Finalize, call 34, main.c:12 in main, at 1.500 s, for 0.250 s)`.
+    fn put_end_call(&mut self, rank: u32, last: &LastCall) {
+        self.put(b"has ended (");
+        self.put_function(rank, last.number, &last.call);
+        self.put(b", ");
+        self.put_call(rank, last.number);
+        self.put(b", ");
+        self.put_moment(last.wall);
+        self.put(b")");
+    }
+
+    /// `have ended (MPI_Finalize, calls 30 to 34, main.c:12 in main, from 1.500 s on)`.
+    pub fn put_end_calls(&mut self, rank: u32, last: &LastCall, group: &Group) {
+        self.put(b" have ended (");
+        self.put_function(rank, last.number, &last.call);
+        self.put(b", ");
+        self.put_calls(rank, last, group);
+        self.put(b", from ");
+        self.put_time(group.wall);
+        self.put(b" on)");
+    }
+
+    /// The last call of ranks that stand alike, in a node of a picture: of one rank the whole call.
+    fn put_node_call(&mut self, standing: &Standing, last: &LastCall, group: &Group) {
         self.put(match standing.stand {
             Stand::Ended => b"\nended, ".as_slice(),
             Stand::In | Stand::Nowhere => b"\nin ".as_slice(),
             Stand::Behind => b"\nbehind ".as_slice(),
         });
-        if count == 1 {
+        if group.ranks.len() == 1 {
             self.put_whole(standing.rank, last.number, &last.call);
         } else {
             self.put_common(standing.rank, last);
         }
         self.put(b"\n");
         self.put_round_of(last);
-        self.put_call(standing.rank, last.number);
-        if self.source.polling(standing.rank).is_some() {
+        self.put_calls(standing.rank, last, group);
+    }
+
+    /// What is said in a node of a picture: the ranks, where they stand, and what they are where they hold up the run.
+    pub fn put_node(&mut self, group: &Group) {
+        self.put_ranks(group.ranks.as_slice());
+        let rank = group.first();
+        let Some(standing) = self.source.standing(rank) else {
+            return;
+        };
+        match &standing.call {
+            Some(last) => self.put_node_call(standing, last, group),
+            None => self.put(b"\nno call can be read"),
+        }
+        let count = group.ranks.len();
+        if self.source.polling(rank).is_some() {
             self.put_either(count, b"\nit polls", b"\nthey poll");
+        }
+        if let Some(root) = self.source.root_of(rank) {
+            self.put_node_root(root.kind, standing.stand, count);
+        }
+    }
+
+    /// What ranks are that hold up the run, in a node of a picture.
+    fn put_node_root(&mut self, kind: RootKind, stand: Stand, count: usize) {
+        match kind {
+            RootKind::Mismatch(_) | RootKind::Cycle | RootKind::Ended => {}
+            RootKind::Open => {
+                self.put_either(count, b"\nit may still go on", b"\nthey may still go on");
+            }
+            RootKind::Silent => match stand {
+                Stand::Ended | Stand::Nowhere => {}
+                Stand::In => self.put_either(count, b"\nit gives no sign", b"\nthey give no sign"),
+                Stand::Behind => self.put_either(
+                    count,
+                    b"\nit makes no further call",
+                    b"\nthey make no further call",
+                ),
+            },
         }
     }
 }

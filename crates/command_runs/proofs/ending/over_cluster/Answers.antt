@@ -1,4 +1,4 @@
-use Rattle.std.proofs.Common.{ap, inl, inr, refl}
+use Rattle.std.proofs.Common.{ap, false, inl, inr, refl}
 use Rattle.std.proofs.lemmas.Result.{IfOk-weaker}
 use Rattle.command_runs.proofs.Endings.{cluster_ran, if_both, shown_so}
 use Rattle.command_runs.proofs.ending.over_cluster.Goals as goal
@@ -17,9 +17,9 @@ returns-in-Ok g c =
       ended,
     )) c.ending_after.ensures
 
-pub returns : goal.returns
-returns g c =
+pub returns-in-Err : goal.returns-in-Err
+returns-in-Err g c =
     let file = g.O.Opener.file c.args.files.now in
     if_both c.showing.result _ _ _
-    (λ e status shown. inr (c.in-Err.fault, c.in-Err.ensures.err, shown_so file c.in-Err.fault c.args.out.now _ _ e refl status shown))
+    (λ e status shown. inr (c.in-Err.fault, c.in-Err.ensures.err, shown_so file c.in-Err.fault c.args.out.now false false e refl status shown))
     c.showing.ensures.status c.showing.ensures.errors

@@ -6,10 +6,10 @@ use Rattle.command_runs.specs.Inputs.{HasRank, RefusesLoading}
 use Rattle.command_runs.proofs.Endings.{if_both, ran_over, shown_so}
 use Rattle.command_runs.proofs.ending.over_pair.Goals as goal
 
-pub run_with-requires-clause-rank : goal.run_with-requires-clause-rank
-run_with-requires-clause-rank g c =
+pub run_with-ran-requires : goal.run_with-ran-requires
+run_with-ran-requires g c =
     let has : HasRank (asked_rank c.args.verb) c.in-Ok.input.layout = rw c.asked_rank.ensures at c.in-Ok.ensures.rank in
-    subst (λ (l : Parts). HasRank (asked_rank c.args.verb) l) (sym c.new.ensures.layout) has
+    record { rank = subst (λ (l : Parts). HasRank (asked_rank c.args.verb) l) (sym c.new.ensures.layout) has }
 
 pub returns-in-Ok : goal.returns-in-Ok
 returns-in-Ok g c =
@@ -23,8 +23,8 @@ returns-in-Ok g c =
           c.run_with-ran.ensures.ran c.run_with-ran.ensures.failed ended,
     )) c.ending_after.ensures
 
-pub returns : goal.returns
-returns g c =
+pub returns-in-Err : goal.returns-in-Err
+returns-in-Err g c =
     let file = g.O.Opener.file c.args.files.now in
     let refuses : RefusesLoading _ file (asked_rank c.args.verb) c.args.names.0.now c.args.names.1.now c.in-Err.fault = rw c.asked_rank.ensures at c.in-Err.ensures.err in
     if_both c.showing.result _ _ _

@@ -32,10 +32,10 @@ returns-in-Err-has_rank g c =
     ))
     c.showing.ensures.status c.showing.ensures.errors
 
-pub run_with-requires-clause-rank : goal.run_with-requires-clause-rank
-run_with-requires-clause-rank g c =
+pub run_with-ran-requires : goal.run_with-ran-requires
+run_with-ran-requires g c =
     let has : HasRank (asked_rank c.args.verb) c.in-Ok.prepared.made.input.layout = rw c.asked_rank.ensures at c.in_default-has_rank.ensures.ok in
-    subst (λ (l : Parts). HasRank (asked_rank c.args.verb) l) (sym c.new.ensures.layout) has
+    record { rank = subst (λ (l : Parts). HasRank (asked_rank c.args.verb) l) (sym c.new.ensures.layout) has }
 
 pub returns : goal.returns
 returns g c =

@@ -3,7 +3,7 @@ use Rattle.std.proofs.KnownBytes.{Keeps-refl}
 use Rattle.std.specs.Io.KnownBytes.{Appends}
 use Rattle.command_line.specs.Program.{wish_of}
 use Rattle.command_runs.specs.InitFaults.{IsPutFault}
-use Rattle.command_runs.specs.Inits.{AreFilesOf, KeepsMade, RefusesFiles}
+use Rattle.command_runs.specs.Inits.{AreFilesOf, RefusesFiles}
 use Rattle.command_runs.specs.Prepared.{notes_of}
 use Rattle.command_runs.specs.Writing.{AppendsFront}
 use Rattle.command_runs.specs.declared.faults.init_fault.InitFault.{InitFault}

@@ -1,5 +1,0 @@
-use Rattle.comm_makings.proofs.Holders.{AreCountedTo}
-use Rattle.comm_makings.proofs.uses.uses_of_all.Given as goal
-
-abbrev pub invariant-loop-at : goal.invariant-loop-at
-invariant-loop-at l = AreCountedTo l.ranks l.views l.all.items l.at

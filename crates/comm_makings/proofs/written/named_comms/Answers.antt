@@ -1,4 +1,0 @@
-use Rattle.comm_makings.proofs.written.named_comms.Goals as goal
-
-pub returns : goal.returns
-returns c = record { same = rw c.in_ok-named.ensures at c.sort.ensures.permutation; sorted = c.in_ok-sort.ensures.sorted }
