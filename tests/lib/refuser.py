@@ -115,7 +115,7 @@ class Sweep:
             self.refused[kind, how] += 1
             if note:
                 note(ran)
-            if not {ended(ran), without_words(ended(ran))} & {*wanted(case, whole, ran)}:
+            if not any(end == it for it in wanted(case, whole, ran) for end in (ended(ran), without_words(ended(ran)))):
                 wrong.append(f"{kind} {at} {ran.file} {ran.moved}: came {ended(ran)}, wanted {wanted(case, whole, ran)}")
         if not ran.refused and ended(ran) != ended(whole):
             wrong.append(f"none of {kind}: came {ended(ran)}, wanted {ended(whole)}")
