@@ -47,7 +47,13 @@ fn add_call<R: Abort>(rt: &R, events: &mut Vec<Event>, second: u64, call: Call, 
 fn sent<R: Abort>(rt: &R, alloc: Global) -> Segment {
     let mut events = Vec::new(alloc);
     let to = SendEnvelope::new(envelope(Peer::Rank(0))).expect(rt, "a send");
-    add_call(rt, &mut events, 0, Call::Send(Mode::Standard, to), Outs::Nothing);
+    add_call(
+        rt,
+        &mut events,
+        0,
+        Call::Send(Mode::Standard, to),
+        Outs::Nothing,
+    );
     Segment::new(2, 0, events).expect(rt, "a segment")
 }
 

@@ -32,12 +32,18 @@ fn size(ops: &[RankOps], rank: usize) -> (usize, usize) {
 fn copies_of_what_ranks_did(rt: HostRuntime) {
     let know = known(&rt, rt.alloc(), Read::Told);
     let copies = copied(&rt, rt.alloc(), &know);
-    assert!(rt; size(&copies, 0) == (0, 1) && size(&copies, 2) == (1, 0), "copies");
+    assert!(rt;
+        size(&copies, 0) == (0, 1) && size(&copies, 2) == (1, 0),
+        "copies"
+    );
 }
 
 #[test]
 fn an_index_that_begins_with_nothing(rt: HostRuntime) {
     let index = PairIndex::new(rt.alloc(), 3).expect(&rt, "memory");
     let table = index.pairs().expect(&rt, "memory");
-    assert!(rt; index.ops().len() == 3 && table.pairs().is_empty(), "no pairs");
+    assert!(rt;
+        index.ops().len() == 3 && table.pairs().is_empty(),
+        "no pairs"
+    );
 }

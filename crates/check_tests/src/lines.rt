@@ -26,11 +26,7 @@ fn verdict<R: Abort>(rt: &R, alloc: Global, stuck: &[u32], release: &[u32]) -> V
 }
 
 /// Adds a rank that is in a call, and waits for nothing.
-fn add_waiting<R: Abort>(
-    rt: &R,
-    states: &mut Vec<State>,
-    conditions: &mut Vec<Option<Condition>>,
-) {
+fn add_waiting<R: Abort>(rt: &R, states: &mut Vec<State>, conditions: &mut Vec<Option<Condition>>) {
     states.push(State::Waiting).expect(rt, "memory");
     conditions.push(Some(Condition::yes())).expect(rt, "memory");
 }
@@ -110,6 +106,10 @@ fn checked<R: Abort>(rt: &R, alloc: Global, row: &Row) -> (String, bool) {
 fn lines_of_a_check(rt: HostRuntime) {
     for row in &ROWS {
         let (lines, held) = checked(&rt, rt.alloc(), row);
-        assert!(rt; lines.as_bytes() == row.lines && held == row.held, "{}", row.name);
+        assert!(rt;
+            lines.as_bytes() == row.lines && held == row.held,
+            "{}",
+            row.name
+        );
     }
 }

@@ -81,7 +81,8 @@ fn is_complete(function: CollectiveFunction, root: Option<u32>, standing: Standi
 {
     match standing {
         Standing::Mismatched => false,
-        Standing::Complete(other, at) => is_same_function(function, other) && is_same_root(root, at),
+        Standing::Complete(other, at) => is_same_function(function, other)
+            && is_same_root(root, at),
         Standing::Partial(_, _, _, _) => false,
     }
 }
@@ -100,7 +101,10 @@ fn is_open(
         Standing::Mismatched => false,
         Standing::Complete(_, _) => false,
         Standing::Partial(other, at, n, m) => {
-            is_same_function(function, other) && is_same_root(root, at) && entered == n && members == m
+            is_same_function(function, other)
+                && is_same_root(root, at)
+                && entered == n
+                && members == m
         }
     }
 }
