@@ -97,7 +97,7 @@ def without_sites(case, end):
 
 def second_looks(case, whole, ran):
     """How `explain` and `graph` may end where they can't look at a text once more: without what that would have told."""
-    if case.words[0] in ("explain", "graph") and without_sites(case, ended(ran)) == without_sites(case, ended(whole)):
+    if case.words[:1] in (["explain"], ["graph"]) and without_sites(case, ended(ran)) == without_sites(case, ended(whole)):
         yield ended(ran)
 
 
