@@ -15,8 +15,8 @@ _mpimatch() {
             case $verb in
                 "") words="$verbs -h --help -V --version" ;;
                 help) words="$verbs" ;;
-                explain) words="--rank -h --help" files=yes ;;
-                graph) words="-h --help" files=yes ;;
+                explain) words="--json --all --rank -h --help" files=yes ;;
+                graph) words="--all -h --help" files=yes ;;
                 report) words="--json -h --help" files=yes ;;
                 replay) words="-h --help" files=yes ;;
                 cluster) words="-h --help" files=yes ;;

@@ -1,7 +1,7 @@
 # completions of mpimatch for fish, made by tools/words of its help
 complete -c mpimatch -f
-complete -c mpimatch -n __fish_use_subcommand -a explain -d 'Says in words who is stuck, and which ranks hold up all others'
-complete -c mpimatch -n __fish_use_subcommand -a graph -d 'Draws for whom each stuck rank waits, as a graph for Graphviz'
+complete -c mpimatch -n __fish_use_subcommand -a explain -d 'Says in words what holds up the run, and where its ranks stand'
+complete -c mpimatch -n __fish_use_subcommand -a graph -d 'Draws what holds up the run, and who waits for it, as a graph for Graphviz'
 complete -c mpimatch -n __fish_use_subcommand -a report -d 'Prints who received what from whom, and which ranks are stuck'
 complete -c mpimatch -n __fish_use_subcommand -a replay -d 'Runs a schedule of nodes that exchange what they know, and prints the report of each'
 complete -c mpimatch -n __fish_use_subcommand -a cluster -d 'Reads the pieces of two nodes, which exchange what they know, and prints the report of each'
@@ -13,9 +13,12 @@ complete -c mpimatch -n __fish_use_subcommand -s h -l help -d 'Print help'
 complete -c mpimatch -n __fish_use_subcommand -s V -l version -d 'Print version'
 complete -c mpimatch -n '__fish_seen_subcommand_from help' -a 'explain graph report replay cluster check pack init help'
 complete -c mpimatch -n '__fish_seen_subcommand_from explain' -F
+complete -c mpimatch -n '__fish_seen_subcommand_from explain' -l json -d 'Prints the same facts as one JSON object'
+complete -c mpimatch -n '__fish_seen_subcommand_from explain' -l all -d 'Cuts no list'
 complete -c mpimatch -n '__fish_seen_subcommand_from explain' -l rank -x -d 'Says what is known of this rank alone'
 complete -c mpimatch -n '__fish_seen_subcommand_from explain' -s h -l help -d 'Print help'
 complete -c mpimatch -n '__fish_seen_subcommand_from graph' -F
+complete -c mpimatch -n '__fish_seen_subcommand_from graph' -l all -d 'Draws all nodes, also more than 200'
 complete -c mpimatch -n '__fish_seen_subcommand_from graph' -s h -l help -d 'Print help'
 complete -c mpimatch -n '__fish_seen_subcommand_from report' -F
 complete -c mpimatch -n '__fish_seen_subcommand_from report' -l json -d 'Prints the report as one JSON object'

@@ -19,6 +19,7 @@ BLOCK = re.compile(r"(?:pub )?(?:unsafe )?(?:impl|trait)(?:<.*?>)? (?:(?:\w+::)*
 GOAL = re.compile(r"note: (?:\./)?(src/\S+?\.rt):(\d+):\d+: (it is not proved that .*)")
 PROOF = re.compile(r"(?:\./)?proofs/(\S+)/(?:Answers|Invariants|Proof)\.antt:\d+:\d+: error: (.*)")
 CODE = re.compile(r"(?:\./)?(src/\S+?\.rt):(\d+):\d+: error(?:\[[\w-]+\])?: (.*)")
+ERROR = re.compile(r": error(?:\[[\w-]+\])?: ")
 VERDICT = re.compile(r"^logic=(proved|not-proved)", re.MULTILINE)
 LOST_NAME = re.compile(r"has no field|is not in scope|has no `|was not admitted|is no name")
 

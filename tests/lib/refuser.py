@@ -87,6 +87,20 @@ def without_words(end):
     return status, out, re.sub(r"(?m)^(mpimatch: .*\n)(?:  .*\n)+\Z", r"\1", err)
 
 
+def without_sites(case, end):
+    """How `explain` or `graph` ended, without what a second look at the texts finds: where calls stand, and names of functions that
+    aren't read. A person's words are left in outline, since ranks that differ in a line alone share one without it."""
+    status, out, err = end
+    plain = [re.sub(r",? ?[\w./-]+\.(txt|c)\b(:\d+)?( in \w+)?", "", it) for it in out.splitlines()]
+    return status, [it for it in plain if case.words[0] == "graph" or not it.startswith(" ")], err
+
+
+def second_looks(case, whole, ran):
+    """How `explain` and `graph` may end where they can't look at a text once more: without what that would have told."""
+    if case.words[:1] in (["explain"], ["graph"]) and without_sites(case, ended(ran)) == without_sites(case, ended(whole)):
+        yield ended(ran)
+
+
 def fault(line):
     """How a run ends that is refused, without words below the line."""
     return 1, "", f"mpimatch: {line}\n"

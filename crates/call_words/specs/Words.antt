@@ -8,10 +8,11 @@ use Rattle.mpi_model.specs.declared.envelope.Peer.TheVariants as peers
 use Rattle.mpi_model.specs.declared.envelope.Mode.{Mode}
 use Rattle.mpi_model.specs.declared.envelope.Mode.TheVariants as modes
 use Rattle.mpi_model.specs.declared.kind.Kind.{Kind}
-use Rattle.mpi_model.specs.declared.kind.CollectiveFunction.{CollectiveFunction}
+use Rattle.mpi_model.specs.declared.object.Object.{Object}
+use Rattle.mpi_model.specs.declared.object.Object.TheVariants as objects
 use Rattle.mpi_model.specs.declared.call.Call.{Call}
 use Rattle.mpi_model.specs.declared.call.Call.TheVariants as calls
-use Rattle.mpi_model.specs.Kinds.{function_name}
+use Rattle.mpi_model.specs.Kinds.{KindFunction, function_name, row}
 use Rattle.mpi_model.specs.Ranges.{BothEnvelopes, CollectiveCall, Probed}
 
 -- What a call names. Peers and roots are ranks of the communicator's group.
@@ -24,6 +25,21 @@ id_text number = codes "communicator " ++ decimal number
 abbrev pub comm_text : CommRef → List ℕ
 comm_text World = codes "MPI_COMM_WORLD"
 comm_text (Id number) = id_text number
+
+-- the sort of an object, before its number
+abbrev pub object_word : Object → List ℕ
+object_word objects.Communicator = codes "communicator "
+object_word objects.Window = codes "window "
+object_word objects.File = codes "file "
+
+-- an object by its sort and its number
+abbrev pub numbered_text : Object → ℕ → List ℕ
+numbered_text object number = object_word object ++ decimal number
+
+-- `MPI_COMM_WORLD`, or `window 5`
+abbrev pub object_text : Object → CommRef → List ℕ
+object_text object World = codes "MPI_COMM_WORLD"
+object_text object (Id number) = numbered_text object number
 
 -- a peer by its rank in the communicator that is named behind it
 abbrev pub rank_of_text : ℕ → List ℕ
@@ -127,12 +143,20 @@ root_text None = []
 root_text (Some root) = one_root_text root
 
 -- a collective call by its function and its root, as `MPI_Bcast, root 0`
-abbrev pub kind_text : CollectiveFunction → Option ℕ → List ℕ
+abbrev pub kind_text : KindFunction → Option ℕ → List ℕ
 kind_text function root = function_name function ++ root_text root
+
+-- `MPI_Win_fence on window 5`
+abbrev pub on_object_text : List ℕ → Object → CommRef → List ℕ
+on_object_text name object comm = name ++ codes " on " ++ object_text object comm
+
+-- a collective call by its function
+abbrev pub called_text : KindFunction → CollectiveCall → List ℕ
+called_text function c = on_object_text (function_name function) (row c.kind).object c.comm ++ root_text c.root
 
 -- `MPI_Bcast on communicator 5, root 0`, or `MPI_Ibcast` where it is nonblocking
 abbrev pub collective_text : Bool → CollectiveCall → List ℕ
-collective_text nonblocking c = on_text (collective_name nonblocking c.kind) c.comm ++ root_text c.root
+collective_text nonblocking c = called_text (record { kind = c.kind; nonblocking = nonblocking }) c
 
 -- `MPI_Waitall on 3 requests`
 abbrev pub of_requests_text : List ℕ → ℕ → List ℕ
@@ -166,5 +190,6 @@ call_text (calls.Start request) = codes "MPI_Start on a request"
 call_text (calls.Startall requests) = of_requests_text (codes "MPI_Startall") (length requests)
 call_text (calls.Mprobe e) = probe_text (codes "MPI_Mprobe") e
 call_text (calls.Improbe e) = probe_text (codes "MPI_Improbe") e
+call_text (calls.Iprobe e) = probe_text (codes "MPI_Iprobe") e
 call_text calls.Imrecv = codes "MPI_Imrecv of a message"
 call_text calls.Unread = codes "a call that is not read"

@@ -2,12 +2,12 @@
 
 ghost use Rattle.std.specs.Prelude.{◌≡◌, length};
 ghost use Rattle.call_words.specs.Texts.{Adds};
-ghost use Rattle.call_words.specs.Words.{call_text, collective_name, collective_text, exchange_text, kind_text, immediate_name, init_name, of_requests_text, on_text, one_root_text, probe_text, receive_text, root_text, send_name, send_text};
+ghost use Rattle.call_words.specs.Words.{call_text, called_text, exchange_text, kind_text, immediate_name, init_name, of_requests_text, on_object_text, on_text, one_root_text, probe_text, receive_text, root_text, send_name, send_text};
 
-use crate::envelopes::{put_comm, put_probed, put_received, put_sent};
+use crate::envelopes::{put_comm, put_object, put_probed, put_received, put_sent};
 use crate::text::Text;
 use mpi_model::{
-    Call, Collective, CollectiveFunction, CommRef, Envelope, Exchange, Kind, Mode, ProbeEnvelope,
+    Call, Collective, CollectiveFunction, CommRef, Envelope, Exchange, Mode, Object, ProbeEnvelope,
 };
 
 /// The function of a blocking send of a mode (MPI 4.0, 3.4).
@@ -44,13 +44,6 @@ pub(crate) fn init_name(mode: Mode) -> &'static [u8]
         Mode::Buffered => b"MPI_Bsend_init",
         Mode::Ready => b"MPI_Rsend_init",
     }
-}
-
-/// The function of a collective call, by whether it is nonblocking, and its kind.
-pub(crate) fn collective_name(nonblocking: bool, kind: Kind) -> &'static [u8]
-    ensures { result.now ≡ collective_name nonblocking kind }
-{
-    CollectiveFunction { kind, nonblocking }.name()
 }
 
 /// A call that sends, by its function and its envelope.
@@ -113,11 +106,20 @@ pub(crate) fn put_one_root(out: &mut Text, root: u32)
     out.put_number(root as u64);
 }
 
-/// `MPI_Bcast on communicator 5, root 0`, or `MPI_Ibcast` where it is nonblocking.
-fn put_collective(out: &mut Text, nonblocking: bool, call: Collective)
-    ensures { Adds out.old out.new (collective_text nonblocking call) }
+/// `MPI_Win_fence on window 5`, by the sort of the object.
+pub(crate) fn put_on_object(out: &mut Text, name: &[u8], object: Object, comm: CommRef)
+    ensures { Adds out.old out.new (on_object_text name.now object comm) }
 {
-    put_on(out, collective_name(nonblocking, call.kind()), call.comm());
+    out.put(name);
+    out.put(b" on ");
+    put_object(out, object, comm);
+}
+
+/// `MPI_Bcast on communicator 5, root 0`, or `MPI_Ibcast` where it is nonblocking.
+fn put_collective(out: &mut Text, function: CollectiveFunction, call: Collective)
+    ensures { Adds out.old out.new (called_text function call) }
+{
+    put_on_object(out, function.name(), call.object(), call.comm());
     put_root(out, call.root());
 }
 
@@ -165,8 +167,8 @@ pub fn put_call(out: &mut Text, call: &Call)
         Call::Testsome(list) => put_of_requests(out, b"MPI_Testsome", list.as_slice().len()),
         Call::Cancel(_) => out.put(b"MPI_Cancel on a request"),
         Call::Free(_) => out.put(b"MPI_Request_free on a request"),
-        Call::Collective(call) => put_collective(out, false, *call),
-        Call::Icollective(call) => put_collective(out, true, *call),
+        Call::Collective(call) => put_collective(out, call.function(), *call),
+        Call::Icollective(call) => put_collective(out, call.function(), call.call()),
         Call::Probe(envelope) => put_probe(out, b"MPI_Probe", *envelope),
         Call::SendInit(mode, envelope) => put_send(out, init_name(*mode), envelope.envelope()),
         Call::RecvInit(envelope) => put_receive(out, b"MPI_Recv_init", envelope.envelope()),
@@ -174,6 +176,7 @@ pub fn put_call(out: &mut Text, call: &Call)
         Call::Startall(list) => put_of_requests(out, b"MPI_Startall", list.as_slice().len()),
         Call::Mprobe(envelope) => put_probe(out, b"MPI_Mprobe", *envelope),
         Call::Improbe(envelope) => put_probe(out, b"MPI_Improbe", *envelope),
+        Call::Iprobe(envelope) => put_probe(out, b"MPI_Iprobe", *envelope),
         Call::Imrecv => out.put(b"MPI_Imrecv of a message"),
         Call::Unread => out.put(b"a call that is not read"),
     }

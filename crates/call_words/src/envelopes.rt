@@ -2,10 +2,10 @@
 
 ghost use Rattle.std.specs.Prelude.{◌≡◌};
 ghost use Rattle.call_words.specs.Texts.{Adds};
-ghost use Rattle.call_words.specs.Words.{comm_text, count_text, elements_word, id_text, one_tag_text, peer_front, peer_text, probed_text, rank_of_text, received_text, sent_text, tag_text};
+ghost use Rattle.call_words.specs.Words.{comm_text, count_text, elements_word, id_text, numbered_text, object_text, object_word, one_tag_text, peer_front, peer_text, probed_text, rank_of_text, received_text, sent_text, tag_text};
 
 use crate::text::Text;
-use mpi_model::{CommRef, Envelope, Peer, ProbeEnvelope};
+use mpi_model::{CommRef, Envelope, Object, Peer, ProbeEnvelope};
 
 /// `MPI_COMM_WORLD`, or `communicator 5`.
 pub(crate) fn put_comm(out: &mut Text, comm: CommRef)
@@ -15,6 +15,35 @@ pub(crate) fn put_comm(out: &mut Text, comm: CommRef)
         CommRef::World => out.put(b"MPI_COMM_WORLD"),
         CommRef::Id(number) => put_id(out, number),
     }
+}
+
+/// A communicator, or a window or a file by its number: `window 5`.
+pub(crate) fn put_object(out: &mut Text, object: Object, comm: CommRef)
+    ensures { Adds out.old out.new (object_text object comm) }
+{
+    match comm {
+        CommRef::World => out.put(b"MPI_COMM_WORLD"),
+        CommRef::Id(number) => put_numbered(out, object, number),
+    }
+}
+
+/// The sort of an object, before its number.
+fn object_word(object: Object) -> &'static [u8]
+    ensures { result.now ≡ object_word object }
+{
+    match object {
+        Object::Communicator => b"communicator ",
+        Object::Window => b"window ",
+        Object::File => b"file ",
+    }
+}
+
+/// An object by its sort and its number.
+fn put_numbered(out: &mut Text, object: Object, number: u32)
+    ensures { Adds out.old out.new (numbered_text object number) }
+{
+    out.put(object_word(object));
+    out.put_number(number as u64);
 }
 
 /// A communicator by its number.

@@ -1,16 +1,35 @@
 -- Calls that are read one after another.
 use Rattle.std.proofs.Common.{◌≡◌, ◌∙◌, ◌<◌, ◌+◌, ◌-◌, ◌^◌, ℕ, List, [], ◌∷◌, ◌++◌, Option, Some, None, Ok, ◌⊎◌, inl, inr, is_some, if◌then◌else◌, codes, length, length-append, append_assoc, append-nil, ap, sym, subst, refl, arith}
+use Rattle.mpi_model.specs.declared.call.Call.{Call}
+use Rattle.mpi_model.specs.declared.object.Object.{Object}
+use Rattle.mpi_model.specs.declared.object.Object.TheVariants as objects
 use Rattle.dumpi_text.specs.Call.{TextCall}
 use Rattle.comm_makings.specs.declared.calls.CommCall.{CommCall}
 use Rattle.dumpi_calls.specs.RawWalks.{Taken}
 use Rattle.dumpi_calls.specs.Rows.{typed}
 use Rattle.dumpi_calls.specs.declared.typing.TypedCall.{TypedCall}
-use Rattle.comm_calls.specs.Calls.{AddsCall, AreCalls, AreCallsBy, IsReadOf, ReadCalls, Reads, ReadsOneMore, beside_in, first_beside, first_size, going_at, nothing_read, or_number, reading, size_in, ReadsWhole}
+use Rattle.comm_calls.specs.Calls.{AddsCall, AreCalls, AreCallsBy, AreUsesOf, IsReadOf, ReadCalls, ReadUses, Reads, ReadsOneMore, ReadsUses, beside_in, first_beside, first_size, going_at, no_uses, nothing_read, or_number, reading, size_in, ReadsWhole, uses_by}
 use Rattle.comm_calls.specs.Functions.{function_of}
-use Rattle.comm_calls.specs.Uses.{changed_at, changed_by, changed_of, named_as, named_at, named_by, named_in, named_number, uses_after}
+use Rattle.comm_calls.specs.Uses.{changed_at, changed_by, changed_of, named_as, named_at, named_but, named_by, named_in, of_changed, uses_after}
 use Rattle.comm_calls.specs.declared.function.Function.{Function}
 use Rattle.comm_calls.proofs.Groups.{More}
 use Rattle.comm_calls.proofs.UsesMore.{Standing, more_at, standing_more}
+
+none_used : (object : Object) → AreUsesOf object [] no_uses
+none_used object = record {
+  uses = record {
+    each = λ i u is. absurd (cc);
+    whole = λ place number names. absurd (cc);
+    rising = λ i j u v h iu jv. absurd (cc);
+    apart = λ i j u v h iu jv same. absurd (cc);
+  };
+  going = λ number i u is same. absurd (cc);
+}
+
+none_of : (object : Object) → AreUsesOf object [] (uses_by object nothing_read)
+none_of objects.Communicator = none_used objects.Communicator
+none_of objects.Window = none_used objects.Window
+none_of objects.File = none_used objects.File
 
 pub none_read : IsReadOf [] nothing_read
 none_read = record {
@@ -19,13 +38,7 @@ none_read = record {
   own = refl;
   size = refl;
   calls = refl;
-  uses = record {
-    each = λ i u is. absurd (cc);
-    whole = λ place number names. absurd (cc);
-    rising = λ i j u v h iu jv. absurd (cc);
-    apart = λ i j u v h iu jv same. absurd (cc);
-  };
-  going = λ number i u is same. absurd (cc);
+  uses = none_of;
 }
 
 either_first : (a b c : Option ℕ) → or_number (or_number a b) c ≡ or_number a (or_number b c)
@@ -80,20 +93,25 @@ calls_more place (r ∷ rs) raw old new all adds =
     calls_behind (function_of r) place r rs raw old new (λ before after. calls_more (place + 1) rs raw before after) all
     (subst (λ (at : ℕ). AddsCall (function_of raw) at raw old new) there adds)
 
--- a call names a number, or gives or frees one, but not both
-one_word : (function : Option Function) (raw : TextCall) (number : Option ℕ) → ((if is_some function then None else number) ≡ None) ⊎ (changed_of raw function ≡ None)
-one_word None raw number = inr refl
-one_word (Some function) raw number = inl refl
+-- a call names a number, or gives or ends one, but not both
+one_word : (object : Object) (function : Option Function) (raw : TextCall) (call : Call) → (named_but object function call ≡ None) ⊎ (of_changed object (changed_of raw function) ≡ None)
+one_word objects.Communicator None raw call = inr refl
+one_word objects.Window None raw call = inr refl
+one_word objects.File None raw call = inr refl
+one_word object (Some function) raw call = inl refl
 
--- the groups with one call more
-standing : (raws : List TextCall) (raw : TextCall) (call : TypedCall) (old new : ReadCalls) → length raws < 2 ^ 64 - 1 → IsReadOf raws old → typed raw ≡ Ok call → Reads old raw call.call new → Standing (named_at (raws ++ raw ∷ [])) (changed_at (raws ++ raw ∷ [])) new.uses (going_at new.going)
-standing raws raw call old new few all is reads =
-    let names : named_in raw ≡ named_by raw call.call = ap (named_as raw) is in
-    let more : More (named_at raws) (named_at (raws ++ raw ∷ [])) (length raws) (named_by raw call.call)
-    = subst (λ (said : Option ℕ). More (named_at raws) (named_at (raws ++ raw ∷ [])) (length raws) said) names (more_at named_in raws raw) in
-    standing_more (named_at raws) (named_at (raws ++ raw ∷ [])) (changed_at raws) (changed_at (raws ++ raw ∷ [])) (length raws) (named_by raw call.call) (changed_by raw) old.uses new.uses (going_at old.going) (going_at new.going)
-    (one_word (function_of raw) raw (named_number call.call)) more (more_at changed_by raws raw) few all.uses all.going
-    (reads.uses ∙ ap (λ (place : ℕ). uses_after place (named_by raw call.call) (going_at old.going) old.uses) all.place) reads.going
+-- the groups of one sort with one call more
+standing : (object : Object) (raws : List TextCall) (raw : TextCall) (call : TypedCall) (place : ℕ) (old new : ReadUses) → length raws < 2 ^ 64 - 1 → place ≡ length raws → AreUsesOf object raws old → typed raw ≡ Ok call
+    → ReadsUses place (named_by object raw call.call) (changed_by object raw) old new → AreUsesOf object (raws ++ raw ∷ []) new
+standing object raws raw call place old new few at all is reads =
+    let names : named_in object raw ≡ named_by object raw call.call = ap (named_as object raw) is in
+    let more : More (named_at object raws) (named_at object (raws ++ raw ∷ [])) (length raws) (named_by object raw call.call)
+    = subst (λ (said : Option ℕ). More (named_at object raws) (named_at object (raws ++ raw ∷ [])) (length raws) said) names (more_at (named_in object) raws raw) in
+    let stands : Standing (named_at object (raws ++ raw ∷ [])) (changed_at object (raws ++ raw ∷ [])) new.groups (going_at new.going) =
+    standing_more (named_at object raws) (named_at object (raws ++ raw ∷ [])) (changed_at object raws) (changed_at object (raws ++ raw ∷ [])) (length raws) (named_by object raw call.call) (changed_by object raw) old.groups new.groups (going_at old.going) (going_at new.going)
+    (one_word object (function_of raw) raw call.call) more (more_at (changed_by object) raws raw) few all.uses all.going
+    (reads.groups ∙ ap (λ (p : ℕ). uses_after p (named_by object raw call.call) (going_at old.going) old.groups) at) reads.going in
+    record { uses = stands.are; going = stands.on }
 
 pub one_more_read : ReadsOneMore
 one_more_read raws raw call old new few all is reads = record {
@@ -102,8 +120,7 @@ one_more_read raws raw call old new few all is reads = record {
   own = reads.own ∙ ap (λ (n : Option ℕ). or_number n (beside_in (codes "MPI_COMM_SELF") raw.params)) all.own ∙ sym (beside_more (codes "MPI_COMM_SELF") raws raw);
   size = reads.size ∙ ap (λ (n : Option ℕ). or_number n (size_in raw)) all.size ∙ sym (size_more raws raw);
   calls = calls_more 0 raws raw old.calls new.calls all.calls (subst (λ (at : ℕ). AddsCall (function_of raw) at raw old.calls new.calls) (let here : old.place ≡ 0 + length raws = omega (arith, all.place) in here) reads.calls);
-  uses = (standing raws raw call old new few all is reads).are;
-  going = (standing raws raw call old new few all is reads).on;
+  uses = λ object. standing object raws raw call old.place (uses_by object old) (uses_by object new) few all.place (all.uses object) is (reads.uses object);
 }
 
 -- more calls behind those that were read

@@ -8,5 +8,6 @@ pub mod Begun
 pub mod Longer
 pub mod UsesMore
 pub mod Changed
+pub mod Sorts
 pub mod InTurn
 pub mod Firsts

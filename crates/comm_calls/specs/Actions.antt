@@ -1,7 +1,10 @@
--- What a call on communicators or groups says. A list is compared item by item.
-use Rattle.std.specs.Prelude.{◌≡◌, ℕ, Bool, List, Option, Vec, codes, option_map}
+-- What a call on communicators or groups, windows or files says. A list is compared item by item.
+use Rattle.std.specs.Prelude.{◌≡◌, ℕ, Bool, List, Option, None, Vec, codes, option_and_then, option_map}
 use Rattle.std.specs.declared.alloc.Global.{Global}
+use Rattle.mpi_model.specs.declared.object.Object.{Object}
+use Rattle.mpi_model.specs.declared.object.Object.TheVariants as objects
 use Rattle.dumpi_text.specs.Call.{TextCall}
+use Rattle.comm_makings.specs.Objects.{object_made}
 use Rattle.comm_makings.specs.declared.calls.Action.{Action}
 use Rattle.comm_makings.specs.declared.calls.Action.TheVariants as actions
 use Rattle.comm_makings.specs.declared.calls.GroupCall.{GroupCall}
@@ -11,7 +14,7 @@ use Rattle.comm_makings.specs.declared.calls.Making.{Making}
 use Rattle.comm_makings.specs.declared.calls.Making.TheVariants as makings
 use Rattle.comm_makings.specs.declared.calls.RankRange.{RankRange}
 use Rattle.comm_calls.specs.Lists.{flags_in, ranges_in, ranks_in, sizes_in}
-use Rattle.comm_calls.specs.Numbers.{color_in, comm_in, flag_in, given_in, group_in, int_in, natural_in}
+use Rattle.comm_calls.specs.Numbers.{color_in, comm_in, flag_in, given_in, group_in, int_in, natural_in, object_of}
 use Rattle.comm_calls.specs.Parameters.{or_text, text_of}
 use Rattle.comm_calls.specs.declared.function.Function.{Function}
 use Rattle.comm_calls.specs.declared.function.Function.TheVariants as functions
@@ -130,11 +133,39 @@ grouped_in _ raw = group_at (codes "newgroup") raw
 
 -- the communicator that another function gives
 abbrev pub other_of : Giver → TextCall → Option (List ℕ)
+other_of givers.SplitType raw = text_of (codes "newcomm") raw
 other_of givers.NewComm raw = text_of (codes "newcomm") raw
 other_of givers.NewIntercomm raw = text_of (codes "newintercomm") raw
 other_of givers.Merge raw = or_text (text_of (codes "newintracomm") raw) (or_text (text_of (codes "newintercomm") raw) (text_of (codes "newcomm") raw))
 other_of givers.Intercomm raw = text_of (codes "intercomm") raw
 other_of givers.Parent raw = text_of (codes "parent") raw
+
+-- the communicator that such a function is called on (MPI 4.0, 7.4.2, 7.6 and 11.8 to 11.10)
+abbrev pub called_on : Giver → TextCall → Option (List ℕ)
+called_on givers.SplitType raw = parent_text raw
+called_on givers.NewComm raw = text_of (codes "comm") raw
+called_on givers.NewIntercomm raw = text_of (codes "local_comm") raw
+called_on givers.Merge raw = None
+called_on givers.Intercomm raw = text_of (codes "comm") raw
+called_on givers.Parent raw = None
+
+-- ---- windows and files
+
+-- the window or the file that a call ends
+abbrev pub object_text : Object → TextCall → Option (List ℕ)
+object_text objects.Communicator raw = None
+object_text objects.Window raw = text_of (codes "win") raw
+object_text objects.File raw = or_text (text_of (codes "fh") raw) (text_of (codes "file") raw)
+
+-- the window or the file that a call gives
+abbrev pub new_object_text : Object → TextCall → Option (List ℕ)
+new_object_text objects.Communicator raw = None
+new_object_text objects.Window raw = or_text (text_of (codes "win") raw) (text_of (codes "newwin") raw)
+new_object_text objects.File raw = or_text (text_of (codes "fh") raw) (text_of (codes "file") raw)
+
+-- its number, where it isn't null and can be read
+abbrev pub object_in : Object → TextCall → Option ℕ
+object_in object raw = option_and_then (object_of object) (new_object_text object raw)
 
 -- the action makes a communicator as the call's parameters say
 abbrev pub IsMake : Maker → TextCall → Action → Type 0
@@ -152,4 +183,6 @@ IsAction (functions.Make maker) raw action = IsMake maker raw action
 IsAction functions.Rank raw action = action ≡ actions.CommRank (comm_in (text_of (codes "comm") raw)) (natural_in (text_of (codes "rank") raw))
 IsAction functions.Free raw action = action ≡ actions.Free (comm_in (text_of (codes "comm") raw))
 IsAction (functions.Group grouper) raw action = IsGroup grouper raw action
-IsAction (functions.Give giver) raw action = action ≡ actions.GivesComm (given_in (other_of giver raw))
+IsAction (functions.Give giver) raw action = action ≡ actions.GivesComm (comm_in (called_on giver raw)) (given_in (other_of giver raw))
+IsAction (functions.MakeObject maker) raw action = action ≡ actions.MakeObject maker (comm_in (text_of (codes "comm") raw)) (object_in (object_made maker) raw)
+IsAction (functions.EndObject object) raw action = action ≡ actions.EndObject object (natural_in (object_text object raw))

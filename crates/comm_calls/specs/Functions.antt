@@ -1,7 +1,11 @@
--- The functions that make, name or free communicators and groups. Names are compared byte for byte.
-use Rattle.std.specs.Prelude.{ℕ, List, Option, Some, None, codes, option_map, if◌then◌else◌}
+-- The functions that make, name or free communicators and groups, windows and files. Names are compared byte for byte.
+use Rattle.std.specs.Prelude.{◌||◌, ℕ, Bool, List, Option, Some, None, codes, option_map, if◌then◌else◌}
 use Rattle.std.specs.Str.{bytes_eq}
+use Rattle.mpi_model.specs.declared.object.Object.{Object}
+use Rattle.mpi_model.specs.declared.object.Object.TheVariants as objects
 use Rattle.dumpi_text.specs.Call.{TextCall}
+use Rattle.comm_makings.specs.declared.calls.ObjectMaker.{ObjectMaker}
+use Rattle.comm_makings.specs.declared.calls.ObjectMaker.TheVariants as object_makers
 use Rattle.comm_calls.specs.declared.function.Function.{Function}
 use Rattle.comm_calls.specs.declared.function.Function.TheVariants as functions
 use Rattle.comm_calls.specs.declared.function.Giver.{Giver}
@@ -58,7 +62,7 @@ group_named name =
 -- other functions that give a communicator (MPI 4.0, 7.4.2, 7.6 and 11.8 to 11.10)
 abbrev pub giver_named : List ℕ → Option Giver
 giver_named name =
-    if bytes_eq name (codes "MPI_Comm_split_type") then Some givers.NewComm
+    if bytes_eq name (codes "MPI_Comm_split_type") then Some givers.SplitType
     else if bytes_eq name (codes "MPI_Comm_accept") then Some givers.NewComm
     else if bytes_eq name (codes "MPI_Comm_connect") then Some givers.NewComm
     else if bytes_eq name (codes "MPI_Comm_create_from_group") then Some givers.NewComm
@@ -79,6 +83,27 @@ single_named name =
     else if bytes_eq name (codes "MPI_Comm_disconnect") then Some functions.Free
     else None
 
+-- the name is one of these two
+abbrev pub is_either : List ℕ → List ℕ → List ℕ → Bool
+is_either name word other = bytes_eq name word || bytes_eq name other
+
+-- constructors of windows (MPI 4.0, 12.2) and files (14.2.1), also by their names for great counts
+abbrev pub object_maker_named : List ℕ → Option ObjectMaker
+object_maker_named name =
+    if is_either name (codes "MPI_Win_create") (codes "MPI_Win_create_c") then Some object_makers.WinCreate
+    else if is_either name (codes "MPI_Win_allocate") (codes "MPI_Win_allocate_c") then Some object_makers.WinAllocate
+    else if is_either name (codes "MPI_Win_allocate_shared") (codes "MPI_Win_allocate_shared_c") then Some object_makers.WinAllocateShared
+    else if is_either name (codes "MPI_Win_create_dynamic") (codes "MPI_Win_create_dynamic_c") then Some object_makers.WinCreateDynamic
+    else if is_either name (codes "MPI_File_open") (codes "MPI_File_open_c") then Some object_makers.FileOpen
+    else None
+
+-- the sort of what a function ends (MPI 4.0, 12.2.5 and 14.2.2)
+abbrev pub ender_named : List ℕ → Option Object
+ender_named name =
+    if is_either name (codes "MPI_Win_free") (codes "MPI_Win_free_c") then Some objects.Window
+    else if is_either name (codes "MPI_File_close") (codes "MPI_File_close_c") then Some objects.File
+    else None
+
 -- the first of two that is there
 abbrev pub first_of : Option Function → Option Function → Option Function
 first_of (Some function) next = Some function
@@ -90,7 +115,9 @@ function_named name =
     first_of (option_map functions.Make (maker_named name))
     (first_of (option_map functions.Make (grid_named name))
     (first_of (option_map functions.Group (group_named name))
-    (first_of (option_map functions.Give (giver_named name)) (single_named name))))
+    (first_of (option_map functions.Give (giver_named name))
+    (first_of (option_map functions.MakeObject (object_maker_named name))
+    (first_of (option_map functions.EndObject (ender_named name)) (single_named name))))))
 
 -- The function of a call, where it is read. One that another thread ended isn't, whatever its name is.
 abbrev pub function_of : TextCall → Option Function

@@ -1,6 +1,8 @@
 -- What one parameter says. What is missing or can't be read is unknown.
 use Rattle.std.specs.Prelude.{ℕ, ℤ, pos, negsuc, ◌^◌, ◌==◌, Bool, true, false, not, List, [], ◌∷◌, Option, Some, None, codes, nat_lt, option_and_then, option_map, if◌then◌else◌}
 use Rattle.std.specs.Str.{bytes_eq}
+use Rattle.mpi_model.specs.declared.object.Object.{Object}
+use Rattle.mpi_model.specs.declared.object.Object.TheVariants as objects
 use Rattle.dumpi_text.specs.Value.{value_of}
 use Rattle.dumpi_text.specs.declared.number.Num.{Num}
 use Rattle.dumpi_text.specs.declared.value.Value.{Value}
@@ -119,3 +121,15 @@ color_in (Some text) = color_by (bytes_eq (note_of text) (codes "MPI_UNDEFINED")
 -- the number beside a name
 abbrev pub beside : List ℕ → List ℕ → Option ℕ
 beside name text = if bytes_eq (note_of text) name then option_and_then natural_of (number_of text) else None
+
+-- ---- windows and files
+
+-- the note of the null window, or of the null file (MPI 4.0, 12.2.5 and 14.2.2)
+abbrev pub is_no_object : Object → List ℕ → Bool
+is_no_object objects.Communicator text = is_null text
+is_no_object objects.Window text = bytes_eq (note_of text) (codes "MPI_WIN_NULL")
+is_no_object objects.File text = bytes_eq (note_of text) (codes "MPI_FILE_NULL")
+
+-- the window or the file of a text, where that is not the null one
+abbrev pub object_of : Object → List ℕ → Option ℕ
+object_of object text = if is_no_object object text then None else option_and_then natural_of (number_of text)

@@ -1,25 +1,30 @@
--- Which calls of the profile name which communicators by their numbers. A number comes back once its communicator is freed
--- (MPI 4.0, 7.4.3), so calls that name one number are told apart where a call between them gives or frees it.
+-- Which calls of the profile name which communicators, windows and files by their numbers. A number comes back once what it
+-- names is freed or closed (MPI 4.0, 7.4.3, 12.2.5 and 14.2.2), so calls that name one number are told apart where a call
+-- between them gives or ends it.
 use Rattle.std.specs.Prelude.{◌≡◌, ◌≢◌, ◌<◌, ◌≤◌, ℕ, ◌+◌, ◌-◌, ◌^◌, ◌==◌, List, [], ◌∷◌, ◌++◌, Option, Some, None, Result, Ok, Err, codes, cond, count_by, is_some, length, min, nat_eq, slice_get, slice_set, if◌then◌else◌, Bool, false}
 use Rattle.std.specs.List.{range_with_len}
 use Rattle.std.specs.Option.{option_and_then}
 use Rattle.indexmap.specs.IndexMap.{get}
-use Rattle.mpi_model.specs.Calls.{comm_of}
+use Rattle.mpi_model.specs.Calls.{comm_of, object_of}
+use Rattle.mpi_model.specs.Kinds.{object_number}
 use Rattle.mpi_model.specs.declared.call.Call.{Call}
 use Rattle.mpi_model.specs.declared.envelope.CommRef.{CommRef}
+use Rattle.mpi_model.specs.declared.object.Object.{Object}
+use Rattle.mpi_model.specs.declared.object.Object.TheVariants as objects
 use Rattle.mpi_model.specs.declared.envelope.CommRef.TheVariants as comms
 use Rattle.dumpi_text.specs.Call.{TextCall}
 use Rattle.dumpi_calls.specs.Rows.{typed}
 use Rattle.dumpi_calls.specs.declared.parameter.CallFault.{CallFault}
 use Rattle.dumpi_calls.specs.declared.typing.TypedCall.{TypedCall}
 use Rattle.comm_makings.specs.Names.{number_given}
+use Rattle.comm_makings.specs.Objects.{object_made}
 use Rattle.comm_makings.specs.declared.calls.Action.{Action}
 use Rattle.comm_makings.specs.declared.calls.Action.TheVariants as actions
 use Rattle.comm_makings.specs.declared.calls.CommCall.{CommCall}
 use Rattle.comm_makings.specs.declared.calls.Uses.{Uses}
-use Rattle.comm_calls.specs.Actions.{made_of, other_of}
+use Rattle.comm_calls.specs.Actions.{made_of, object_in, object_text, other_of}
 use Rattle.comm_calls.specs.Functions.{function_of}
-use Rattle.comm_calls.specs.Numbers.{comm_in, given_in}
+use Rattle.comm_calls.specs.Numbers.{comm_in, given_in, natural_in}
 use Rattle.comm_calls.specs.Parameters.{text_of}
 use Rattle.comm_calls.specs.declared.function.Function.{Function}
 use Rattle.comm_calls.specs.declared.function.Function.TheVariants as functions
@@ -32,61 +37,85 @@ abbrev pub number_of : CommRef → Option ℕ
 number_of comms.World = None
 number_of (comms.Id number) = Some number
 
--- the number by which a call of the profile names a communicator
+-- the number by which a call of the profile names its communicator, window or file
 abbrev pub named_number : Call → Option ℕ
 named_number call = option_and_then number_of (comm_of call)
 
--- the number that a call names; one on communicators is none of the profile
-abbrev pub named_by : TextCall → Call → Option ℕ
-named_by raw call = if is_some (function_of raw) then None else named_number call
+-- A number of an object of one sort, where that is the sort that is asked for: each sort has numbers of its own.
+abbrev pub of_sort : Object → Object → Option ℕ → Option ℕ
+of_sort object sort number = cond (object_number sort == object_number object) number None
+
+-- the number by which a call of the profile names an object of this sort
+abbrev pub named_of : Object → Call → Option ℕ
+named_of object call = of_sort object (object_of call) (named_number call)
+
+-- the same, where the call is none that makes, names or ends them itself
+abbrev pub named_but : Object → Option Function → Call → Option ℕ
+named_but object function call = if is_some function then None else named_of object call
+
+-- the number that a call names
+abbrev pub named_by : Object → TextCall → Call → Option ℕ
+named_by object raw call = named_but object (function_of raw) call
 
 -- that number, where the call can be read
-abbrev pub named_as : TextCall → Result TypedCall CallFault → Option ℕ
-named_as raw (Ok call) = named_by raw call.call
-named_as raw (Err fault) = None
+abbrev pub named_as : Object → TextCall → Result TypedCall CallFault → Option ℕ
+named_as object raw (Ok call) = named_by object raw call.call
+named_as object raw (Err fault) = None
 
 -- the same of a call by its text alone
-abbrev pub named_in : TextCall → Option ℕ
-named_in raw = named_as raw (typed raw)
+abbrev pub named_in : Object → TextCall → Option ℕ
+named_in object raw = named_as object raw (typed raw)
 
--- the number that an action gives or frees, once its call has returned
-abbrev pub changed_of_action : Bool → Action → Option ℕ
-changed_of_action returned (actions.Make parent making given) = number_given returned given
-changed_of_action returned (actions.CommRank comm rank) = None
-changed_of_action returned (actions.Free comm) = comm
-changed_of_action returned (actions.Group group given) = None
-changed_of_action returned (actions.GivesComm given) = number_given returned given
+-- a number that is given, once its call has returned
+abbrev pub number_returned : Bool → Option ℕ → Option ℕ
+number_returned returned given = if returned then given else None
 
--- the number that a call on communicators gives or frees
-abbrev pub changed_of_call : CommCall → Option ℕ
+-- the sort of what an action gives or ends by a number, and the number, once its call has returned
+abbrev pub changed_of_action : Bool → Action → Object × Option ℕ
+changed_of_action returned (actions.Make parent making given) = (objects.Communicator, number_given returned given)
+changed_of_action returned (actions.CommRank comm rank) = (objects.Communicator, None)
+changed_of_action returned (actions.Free comm) = (objects.Communicator, comm)
+changed_of_action returned (actions.Group group given) = (objects.Communicator, None)
+changed_of_action returned (actions.GivesComm comm given) = (objects.Communicator, number_given returned given)
+changed_of_action returned (actions.MakeObject maker parent given) = (object_made maker, number_returned returned given)
+changed_of_action returned (actions.EndObject object number) = (object, number)
+
+-- the same of a call
+abbrev pub changed_of_call : CommCall → Object × Option ℕ
 changed_of_call call = changed_of_action call.returned call.action
 
--- the number that a call of such a function gives or frees: behind it the number means another communicator, or none
-abbrev pub changed_in : Function → TextCall → Option ℕ
-changed_in (functions.Make maker) raw = number_given (is_some raw.exit) (given_in (made_of maker raw))
-changed_in functions.Rank raw = None
-changed_in functions.Free raw = comm_in (text_of (codes "comm") raw)
-changed_in (functions.Group grouper) raw = None
-changed_in (functions.Give giver) raw = number_given (is_some raw.exit) (given_in (other_of giver raw))
+-- what a call of such a function gives or ends: behind it the number means something else, or nothing
+abbrev pub changed_in : Function → TextCall → Object × Option ℕ
+changed_in (functions.Make maker) raw = (objects.Communicator, number_given (is_some raw.exit) (given_in (made_of maker raw)))
+changed_in functions.Rank raw = (objects.Communicator, None)
+changed_in functions.Free raw = (objects.Communicator, comm_in (text_of (codes "comm") raw))
+changed_in (functions.Group grouper) raw = (objects.Communicator, None)
+changed_in (functions.Give giver) raw = (objects.Communicator, number_given (is_some raw.exit) (given_in (other_of giver raw)))
+changed_in (functions.MakeObject maker) raw = (object_made maker, number_returned (is_some raw.exit) (object_in (object_made maker) raw))
+changed_in (functions.EndObject object) raw = (object, natural_in (object_text object raw))
 
--- the number that a call of the text gives or frees
-abbrev pub changed_of : TextCall → Option Function → Option ℕ
-changed_of raw None = None
+-- what a call of the text gives or ends
+abbrev pub changed_of : TextCall → Option Function → Object × Option ℕ
+changed_of raw None = (objects.Communicator, None)
 changed_of raw (Some function) = changed_in function raw
 
--- the number that a call gives or frees
-abbrev pub changed_by : TextCall → Option ℕ
-changed_by raw = changed_of raw (function_of raw)
+-- a number that is given or ended, where it is of this sort
+abbrev pub of_changed : Object → Object × Option ℕ → Option ℕ
+of_changed object changed = of_sort object changed.0 changed.1
+
+-- the number of this sort that a call gives or ends
+abbrev pub changed_by : Object → TextCall → Option ℕ
+changed_by object raw = of_changed object (changed_of raw (function_of raw))
 
 -- ---- what all calls say
 
--- the number that the call at a place names
-abbrev pub named_at : List TextCall → ℕ → Option ℕ
-named_at raws place = option_and_then named_in (slice_get raws place)
+-- the number of this sort that the call at a place names
+abbrev pub named_at : Object → List TextCall → ℕ → Option ℕ
+named_at object raws place = option_and_then (named_in object) (slice_get raws place)
 
--- the number that the call at a place gives or frees
-abbrev pub changed_at : List TextCall → ℕ → Option ℕ
-changed_at raws place = option_and_then changed_by (slice_get raws place)
+-- the number of this sort that the call at a place gives or ends
+abbrev pub changed_at : Object → List TextCall → ℕ → Option ℕ
+changed_at object raws place = option_and_then (changed_by object) (slice_get raws place)
 
 -- a call names just this number
 abbrev pub is_number : ℕ → Option ℕ → Bool

@@ -1,17 +1,18 @@
-//! What a call on communicators or groups does.
+//! What a call on communicators or groups, windows or files does.
 
 ghost use Rattle.std.specs.Prelude.{◌≡◌, IfOk};
 ghost use Rattle.std.specs.Option.{option_copied};
-ghost use Rattle.comm_calls.specs.Actions.{IsAction, IsGroup, IsMake, other_of};
+ghost use Rattle.comm_calls.specs.Actions.{IsAction, IsGroup, IsMake, called_on, new_object_text, object_in, object_text, other_of};
 
 use crate::function::{Function, Giver, Grouper, Maker};
 use crate::group::{group_call_in, grouped_in};
 use crate::making::{made_of, making_in, parent_of};
-use crate::number::{comm_in, given_in, natural_in};
-use crate::parameter::{any_of, text_of};
-use comm_makings::Action;
+use crate::number::{comm_in, given_in, natural_in, object_of};
+use crate::parameter::{any_of, either_of, text_of};
+use comm_makings::{Action, object_made};
 use dumpi_calls::Memory;
 use dumpi_text::RawCall;
+use mpi_model::Object;
 use std::alloc::Global;
 
 /// The communicator that another function gives.
@@ -19,11 +20,58 @@ fn other_of(giver: Giver, raw: &RawCall) -> Option<&[u8]>
     ensures { option_copied result ≡ other_of giver raw.now }
 {
     match giver {
+        Giver::SplitType => text_of(raw, "newcomm"),
         Giver::NewComm => text_of(raw, "newcomm"),
         Giver::NewIntercomm => text_of(raw, "newintercomm"),
         Giver::Merge => any_of(raw, "newintracomm", "newintercomm", "newcomm"),
         Giver::Intercomm => text_of(raw, "intercomm"),
         Giver::Parent => text_of(raw, "parent"),
+    }
+}
+
+/// The communicator that such a function is called on.
+fn called_on(giver: Giver, raw: &RawCall) -> Option<&[u8]>
+    ensures { option_copied result ≡ called_on giver raw.now }
+{
+    match giver {
+        Giver::SplitType => either_of(raw, "oldcomm", "comm"),
+        Giver::NewComm => text_of(raw, "comm"),
+        Giver::NewIntercomm => text_of(raw, "local_comm"),
+        Giver::Merge => None,
+        Giver::Intercomm => text_of(raw, "comm"),
+        Giver::Parent => None,
+    }
+}
+
+/// The window or the file that a call ends.
+fn object_text(object: Object, raw: &RawCall) -> Option<&[u8]>
+    ensures { option_copied result ≡ object_text object raw.now }
+{
+    match object {
+        Object::Communicator => None,
+        Object::Window => text_of(raw, "win"),
+        Object::File => either_of(raw, "fh", "file"),
+    }
+}
+
+/// The window or the file that a call gives.
+fn new_object_text(object: Object, raw: &RawCall) -> Option<&[u8]>
+    ensures { option_copied result ≡ new_object_text object raw.now }
+{
+    match object {
+        Object::Communicator => None,
+        Object::Window => either_of(raw, "win", "newwin"),
+        Object::File => either_of(raw, "fh", "file"),
+    }
+}
+
+/// The number of the window or the file that a call gives, where it isn't null and can be read.
+fn object_in(alloc: Global, object: Object, raw: &RawCall) -> Result<Option<u32>, Memory>
+    ensures { IfOk result (λ n. n ≡ object_in object raw.now) }
+{
+    match new_object_text(object, raw) {
+        Some(text) => object_of(alloc, object, text),
+        None => Ok(None),
     }
 }
 
@@ -70,7 +118,17 @@ pub(crate) fn action_in(alloc: Global, function: Function, raw: &RawCall) -> Res
         }),
         Function::Group(grouper) => group_in(alloc, grouper, raw),
         Function::Give(giver) => Ok(Action::GivesComm {
+            comm: comm_in(alloc, called_on(giver, raw))?,
             given: given_in(alloc, other_of(giver, raw))?,
+        }),
+        Function::MakeObject(maker) => Ok(Action::MakeObject {
+            maker,
+            parent: comm_in(alloc, text_of(raw, "comm"))?,
+            given: object_in(alloc, object_made(maker), raw)?,
+        }),
+        Function::EndObject(object) => Ok(Action::EndObject {
+            object,
+            number: natural_in(alloc, object_text(object, raw))?,
         }),
     }
 }

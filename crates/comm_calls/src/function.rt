@@ -1,8 +1,11 @@
-//! The functions that make, name or free communicators and groups, by their names.
+//! The functions that make, name or free communicators and groups, windows and files, by their names.
 
-ghost use Rattle.std.specs.Prelude.{◌≡◌};
+ghost use Rattle.std.specs.Prelude.{◌≡◌, ◌||◌};
 ghost use Rattle.std.specs.Str.{bytes_eq};
-ghost use Rattle.comm_calls.specs.Functions.{function_named, giver_named, grid_named, group_named, maker_named, other_group_named, single_named};
+ghost use Rattle.comm_calls.specs.Functions.{ender_named, function_named, giver_named, grid_named, group_named, maker_named, object_maker_named, other_group_named, single_named};
+
+use comm_makings::ObjectMaker;
+use mpi_model::Object;
 
 /// A function that makes communicators of the members of another (MPI 4.0, 7.4.2 and 8.5).
 #[derive(Clone, Copy)]
@@ -38,16 +41,19 @@ pub(crate) enum Grouper {
     UnreadNew,
 }
 
-/// By which parameter a function gives a communicator from which nothing is derived.
+/// By which parameter a function gives a communicator from which nothing is derived, and by which one it names the
+/// communicator that it is called on.
 #[derive(Clone, Copy)]
 pub(crate) enum Giver {
-    /// `newcomm`.
+    /// MPI_Comm_split_type: `newcomm`, on `oldcomm` or `comm`.
+    SplitType,
+    /// `newcomm`, on `comm`.
     NewComm,
-    /// `newintercomm`.
+    /// `newintercomm`, on `local_comm`.
     NewIntercomm,
     /// MPI_Intercomm_merge: `newintracomm`, `newintercomm` or `newcomm`.
     Merge,
-    /// `intercomm`.
+    /// `intercomm`, on `comm`.
     Intercomm,
     /// `parent`.
     Parent,
@@ -63,6 +69,10 @@ pub(crate) enum Function {
     Free,
     Group(Grouper),
     Give(Giver),
+    /// What makes a window or a file.
+    MakeObject(ObjectMaker),
+    /// MPI_Win_free and MPI_File_close.
+    EndObject(Object),
 }
 
 /// Whether two byte strings are the same. Inlined, so that a literal's bytes are compared one by one.
@@ -179,7 +189,7 @@ fn giver_named(name: &[u8]) -> Option<Giver>
     ensures { result ≡ giver_named name.now }
 {
     if is(name, "MPI_Comm_split_type") {
-        Some(Giver::NewComm)
+        Some(Giver::SplitType)
     } else if is(name, "MPI_Comm_accept") {
         Some(Giver::NewComm)
     } else if is(name, "MPI_Comm_connect") {
@@ -220,6 +230,46 @@ fn single_named(name: &[u8]) -> Option<Function>
     }
 }
 
+/// Whether a name is one of these two.
+#[inline(always)]
+fn is_either(name: &[u8], word: &str, other: &str) -> bool
+    ensures { result ≡ (bytes_eq name.now word.now || bytes_eq name.now other.now) }
+{
+    is(name, word) || is(name, other)
+}
+
+/// What makes windows or files (MPI 4.0, 12.2 and 14.2.1), also by a name for great counts.
+fn object_maker_named(name: &[u8]) -> Option<ObjectMaker>
+    ensures { result ≡ object_maker_named name.now }
+{
+    if is_either(name, "MPI_Win_create", "MPI_Win_create_c") {
+        Some(ObjectMaker::WinCreate)
+    } else if is_either(name, "MPI_Win_allocate", "MPI_Win_allocate_c") {
+        Some(ObjectMaker::WinAllocate)
+    } else if is_either(name, "MPI_Win_allocate_shared", "MPI_Win_allocate_shared_c") {
+        Some(ObjectMaker::WinAllocateShared)
+    } else if is_either(name, "MPI_Win_create_dynamic", "MPI_Win_create_dynamic_c") {
+        Some(ObjectMaker::WinCreateDynamic)
+    } else if is_either(name, "MPI_File_open", "MPI_File_open_c") {
+        Some(ObjectMaker::FileOpen)
+    } else {
+        None
+    }
+}
+
+/// The sort of what a function ends (MPI 4.0, 12.2.5 and 14.2.2).
+fn ender_named(name: &[u8]) -> Option<Object>
+    ensures { result ≡ ender_named name.now }
+{
+    if is_either(name, "MPI_Win_free", "MPI_Win_free_c") {
+        Some(Object::Window)
+    } else if is_either(name, "MPI_File_close", "MPI_File_close_c") {
+        Some(Object::File)
+    } else {
+        None
+    }
+}
+
 /// The function of a name, where its calls are read.
 #[tactic(auto, unfolding(crate::specs::Functions::function_named))]
 pub(crate) fn function_named(name: &[u8]) -> Option<Function>
@@ -236,6 +286,12 @@ pub(crate) fn function_named(name: &[u8]) -> Option<Function>
     }
     if let Some(giver) = giver_named(name) {
         return Some(Function::Give(giver));
+    }
+    if let Some(maker) = object_maker_named(name) {
+        return Some(Function::MakeObject(maker));
+    }
+    if let Some(object) = ender_named(name) {
+        return Some(Function::EndObject(object));
     }
     single_named(name)
 }

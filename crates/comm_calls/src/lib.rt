@@ -1,12 +1,13 @@
-//! What the calls of a text say of communicators and groups.
+//! What the calls of a text say of communicators and groups, windows and files.
 //!
 //! A [`CommCalls`] is given the calls of a text one after another, as `dumpi_text` reads them, and keeps of those that
-//! make, name or free communicators and groups what their parameters say, and of the others which numbers of communicators
-//! they name. A parameter that is missing or that can't be read is unknown, and never a fault. What is kept grows with the
-//! calls on communicators and groups alone, and with the numbers that are named between them.
+//! make, name or free communicators and groups, or make or end windows and files, what their parameters say, and of the
+//! others which numbers of communicators, windows and files they name. A parameter that is missing or that can't be read is
+//! unknown, and never a fault. What is kept grows with those calls alone, and with the numbers that are named between them.
 //!
 //! - [`function`]: the functions, by their names
-//! - [`parameter`]: the text of a parameter, and its note; [`number`]: a communicator, a group, a color, a number;
+//! - [`parameter`]: the text of a parameter, and its note; [`number`]: a communicator, a group, a window or a file, a color, a
+//!   number;
 //!   [`lists`]: ranks, dimensions, ranges
 //! - [`making`], [`group`], [`action`]: what a call does
 //! - [`beside`]: the number that stands beside a name; [`size`]: the size of the world

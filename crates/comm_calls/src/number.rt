@@ -1,13 +1,14 @@
-//! What one parameter says: a communicator, a group, a color, a number. What can't be read is unknown.
+//! What one parameter says: a communicator, a group, a window, a file, a color, a number. What can't be read is unknown.
 
 ghost use Rattle.std.specs.Prelude.{◌≡◌, IfOk, option_and_then, option_map};
 ghost use Rattle.std.specs.Option.{option_copied};
-ghost use Rattle.comm_calls.specs.Numbers.{beside, color_by, color_in, color_number, comm_in, comm_of, flag_in, given_by, given_in, given_number, group_by, group_in, group_number, int_in, int_of, is_null, is_set, natural_in, natural_of, number_of, one_number, only};
+ghost use Rattle.comm_calls.specs.Numbers.{beside, color_by, color_in, color_number, comm_in, comm_of, flag_in, given_by, given_in, given_number, group_by, group_in, group_number, int_in, int_of, is_no_object, is_null, is_set, natural_in, natural_of, number_of, object_of, one_number, only};
 
 use crate::parameter::has_note;
 use comm_makings::{Color, Given, GroupName};
 use dumpi_calls::Memory;
 use dumpi_text::{Num, Value, ValueFault, parse_value};
+use mpi_model::Object;
 use std::alloc::Global;
 
 /// The number, where there is exactly one.
@@ -178,6 +179,27 @@ pub(crate) fn given_in(alloc: Global, text: Option<&[u8]>) -> Result<Given, Memo
         Some(text) => Ok(given_by(is_null(text), number_of(alloc, text)?)),
         None => Ok(Given::Unknown),
     }
+}
+
+/// Whether a note says that no window, or no file, is meant.
+fn is_no_object(object: Object, text: &[u8]) -> bool
+    ensures { result ≡ is_no_object object text.now }
+{
+    match object {
+        Object::Communicator => is_null(text),
+        Object::Window => has_note(text, "MPI_WIN_NULL"),
+        Object::File => has_note(text, "MPI_FILE_NULL"),
+    }
+}
+
+/// The window or the file of a text, where that is not the null one.
+pub(crate) fn object_of(alloc: Global, object: Object, text: &[u8]) -> Result<Option<u32>, Memory>
+    ensures { IfOk result (λ n. n ≡ object_of object text.now) }
+{
+    if is_no_object(object, text) {
+        return Ok(None);
+    }
+    Ok(natural_by(number_of(alloc, text)?))
 }
 
 /// A group, by a number that can be read.

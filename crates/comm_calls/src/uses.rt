@@ -1,4 +1,4 @@
-//! Which calls of the profile name which communicators by their numbers.
+//! Which calls of the profile name which communicators, windows and files by their numbers.
 
 ghost use Rattle.std.specs.Prelude.{◌≡◌, ◌++◌, ◌∷◌, [], None, OnErr, OnOk, slice_get};
 ghost use Rattle.comm_calls.specs.Uses.{AreGoing, first_use, going_in, longer_at, named_number, next_in, number_of, open_after, open_with, uses_after};
@@ -9,7 +9,7 @@ use indexmap::IndexMap;
 use mpi_model::{Call, CommRef};
 use std::alloc::Global;
 
-/// The number of the communicator that a call names: MPI_COMM_WORLD is named by none.
+/// The number by which a call names its communicator, window or file: MPI_COMM_WORLD is named by none.
 pub(crate) fn named_number(call: &Call) -> Option<u32>
     ensures { result ≡ named_number call.now }
 {

@@ -1,19 +1,19 @@
 -- What derives from what: a lemma for each step of the derivation.
-use Rattle.std.proofs.Common.{◌≡◌, ℕ, ℤ, ◌++◌, false, true, is_some, List, [], ◌∷◌, Option, Some, None, All, Vec, length, ap, ◌∙◌, sym, inl, inr, refl, subst}
+use Rattle.std.proofs.Common.{◌≡◌, ◌+◌, ℕ, ℤ, ◌++◌, false, true, is_some, List, [], ◌∷◌, Option, Some, None, All, Vec, length, ap, ◌∙◌, sym, inl, inr, refl, subst}
 use Rattle.std.specs.List.{list_any, slice_get}
 use Rattle.std.specs.declared.alloc.Global.{Global}
-use Rattle.mpi_model.specs.Communicators.{Communicator}
+use Rattle.std.proofs.lemmas.Option.{same_Some}
 use Rattle.comm_groups.specs.Groups.{has}
 use Rattle.comm_makings.specs.ByGroups.{AreFound, AreRightOffers, IsAmong, IsFound, IsRightOffer}
-use Rattle.comm_makings.specs.Derived.{IsSound}
-use Rattle.comm_makings.specs.Derives.{ArePlaces, Derives, IsCreation, IsGroupCall, IsGroupMaking, IsMaking, IsOfOffered, by_group, communicator, created, kth_calls, made, member_with, members_at, own, ranks_in, ranks_of, world, world_members}
+use Rattle.comm_makings.specs.Derives.{ArePlaces, Derives, IsCreation, IsGroupCall, IsGroupMaking, IsMaking, IsOfOffered, by_group, communicator, created, kth_calls, made, member_with, members_at, own, ranks_in, ranks_of, read_creation, read_left, read_making, read_to, world, world_members}
 use Rattle.comm_makings.specs.Here.{HasFunction, first_of, gives_later, gives_unknown}
+use Rattle.comm_makings.specs.Made.{IsMakingOrder, own_order, world_order}
 use Rattle.comm_makings.specs.Makes.{AreGiven, IsMadeBy, IsOneMaking}
 use Rattle.comm_makings.specs.Offers.{AreKnown, AreOfWanted, IsOfWanted, IsWanted, group_of}
 use Rattle.comm_makings.specs.Selection.{Selection}
-use Rattle.comm_makings.specs.State.{AreAllDerivedGroups, AreDerived, AreMadeOf, IsDerivedComm, IsDerivedOutcome, IsFirstComm, IsOfPart, dims_of, parts_in}
+use Rattle.comm_makings.specs.State.{AreAllDerivedGroups, AreDerived, AreMadeOf, AreNext, IsDerivedComm, IsDerivedOutcome, IsFirstComm, IsOfDerived, IsOfPart, dims_of, is_read, parts_in}
+use Rattle.comm_makings.specs.Untold.{AreLeft}
 use Rattle.comm_makings.specs.Views.{AreViews}
-use Rattle.comm_makings.specs.Written.{AreWrittenOf, IsWorld, IsWritten, IsWrittenOf, IsWrittenOfOne}
 use Rattle.comm_makings.specs.declared.answer.MadeBy.{MadeBy}
 use Rattle.comm_makings.specs.declared.answer.MadeBy.TheVariants as functions
 use Rattle.comm_makings.specs.declared.by_groups.Offer.{Offer}
@@ -21,8 +21,12 @@ use Rattle.comm_makings.specs.declared.calls.RankCalls.{RankCalls}
 use Rattle.comm_makings.specs.declared.group_value.GroupValue.{GroupValue}
 use Rattle.comm_makings.specs.declared.here.Here.{Here}
 use Rattle.comm_makings.specs.declared.parts.Outcome.{Outcome}
+use Rattle.comm_makings.specs.declared.parts.Outcome.TheVariants as outcomes
+use Rattle.comm_makings.specs.declared.run.Gained.{Gained}
+use Rattle.comm_makings.specs.declared.run.Gained.TheVariants as gains
 use Rattle.comm_makings.specs.declared.state.Made.{Made}
 use Rattle.comm_makings.specs.declared.state.Member.{Member}
+use Rattle.comm_makings.specs.declared.state.Order.{Order}
 use Rattle.comm_makings.specs.declared.uses.HandleUses.{HandleUses}
 use Rattle.comm_makings.specs.declared.view.RankView.{RankView}
 use Rattle.comm_makings.proofs.Lists.{each_more, get_join}
@@ -91,54 +95,147 @@ module _ (ranks : List RankCalls) (views : List RankView) where
   derived_at comms at comm are e = are.each at comm e
 
   -- one of the communicators that the k-th calls make
-  pub made_derives : (members : List Member) (dims : Option (List ℕ)) (k : ℕ) (all : List (Option Here)) (function : MadeBy) (parts : List Selection) (at : ℕ) (part : Selection)
-      → all ≡ kth_calls ranks views k members → Derives ranks views (communicator members dims)
-      → IsOneMaking function all → IsMadeBy ranks views dims all function parts → AreGiven (gives_later function) all parts → slice_get parts at ≡ Some part
-      → Derives ranks views (communicator (members_at members all part.places) part.dims)
-  made_derives members dims k all function parts at part e derives one by given here =
-      let P : List (Option Here) → Type 0 = λ calls. IsMaking ranks views dims calls parts → Derives ranks views (communicator (members_at members calls part.places) part.dims) in
-      let step : P (kth_calls ranks views k members) = λ making. made members dims k parts at part derives making here in
-      subst P (sym e) step (record { function = function; one = one; made = by; given = given })
+  made_derives : (members : List Member) (dims : Option (List ℕ)) (k : ℕ) (all : List (Option Here)) (parts : List Selection) (at : ℕ) (part : Selection) (order : Order)
+      → AreNext ranks views members dims all k → IsMaking ranks views dims all parts → slice_get parts at ≡ Some part → IsMakingOrder part.places all order
+      → Derives ranks views (communicator (members_at members all part.places) part.dims order)
+  made_derives members dims k all parts at part order next making here ordered =
+      let P : List (Option Here) → Type 0 = λ calls. IsMaking ranks views dims calls parts → IsMakingOrder part.places calls order
+      → Derives ranks views (communicator (members_at members calls part.places) part.dims order) in
+      let step : P (kth_calls ranks views k members) = λ is ord. made members dims k parts at part order next.reads is here ord in
+      subst P (sym next.calls) step making ordered
 
-  -- Nothing is made.
-  pub nothing_derives : (members : List Member) (all : List (Option Here)) (outcome : Outcome) → parts_in outcome ≡ None → IsDerivedOutcome ranks views members all outcome
-  nothing_derives members all outcome none = record { each = λ parts at part e here. absurd (cc) }
+  made_read : (members : List Member) (dims : Option (List ℕ)) (k : ℕ) (all : List (Option Here)) (parts : List Selection) → AreNext ranks views members dims all k
+      → IsMaking ranks views dims all parts → Derives ranks views (read_to members dims (k + 1))
+  made_read members dims k all parts next making =
+      read_making members dims k parts next.reads (subst (λ (calls : List (Option Here)). IsMaking ranks views dims calls parts) next.calls making)
+
+  left_read : (members : List Member) (dims : Option (List ℕ)) (k : ℕ) (all : List (Option Here)) → AreNext ranks views members dims all k
+      → AreLeft all → Derives ranks views (read_to members dims (k + 1))
+  left_read members dims k all next left =
+      read_left members dims k next.reads (subst AreLeft next.calls left)
+
+  none_in : (outcome : Outcome) → is_read outcome ≡ false → parts_in outcome ≡ None
+  none_in (outcomes.Parts list) e = absurd (let bad : true ≡ false = e in cc)
+  none_in outcomes.Untold e = absurd (let bad : true ≡ false = e in cc)
+  none_in outcomes.Unsound e = refl
+  none_in outcomes.Waits e = refl
+
+  -- Nothing is made, and nothing more is read.
+  pub unsound_derives : (members : List Member) (dims : Option (List ℕ)) (all : List (Option Here)) (outcome : Outcome) → is_read outcome ≡ false
+      → IsDerivedOutcome ranks views members dims all outcome
+  unsound_derives members dims all outcome none = record {
+    each = λ k parts at part order next e here ordered. absurd (let nothing : None ≡ Some parts = sym (none_in outcome none) ∙ e in cc);
+    read = λ k next e. absurd (let bad : false ≡ true = sym none ∙ e in cc);
+  }
+
+  -- No member has such a call.
+  pub none_here : (members : List Member) (dims : Option (List ℕ)) (all : List (Option Here)) → first_of all ≡ None → IsDerivedOutcome ranks views members dims all outcomes.Untold
+  none_here members dims all none = record {
+    each = λ k parts at part order next e here ordered. absurd (cc);
+    read = λ k next e. left_read members dims k all next (inl none);
+  }
+
+  -- what the calls of one making make
+  pub making_derives : (members : List Member) (dims : Option (List ℕ)) (all : List (Option Here)) (function : MadeBy) (outcome : Outcome) → IsOneMaking function all
+      → ((parts : List Selection) → parts_in outcome ≡ Some parts → IsMadeBy ranks views dims all function parts)
+      → ((parts : List Selection) → parts_in outcome ≡ Some parts → AreGiven (gives_later function) all parts)
+      → IsDerivedOutcome ranks views members dims all outcome
+  making_derives members dims all function outcome one by given =
+      let making : (parts : List Selection) → parts_in outcome ≡ Some parts → IsMaking ranks views dims all parts =
+      λ parts e. record { function = function; one = one; made = by parts e; given = given parts e } in
+      record {
+        each = λ k parts at part order next e here ordered. made_derives members dims k all parts at part order next (making parts e) here ordered;
+        read = λ k next e. read_by k next outcome refl e making;
+      }
+    where
+      read_by : (k : ℕ) → AreNext ranks views members dims all k → (o : Outcome) → outcome ≡ o → is_read outcome ≡ true
+          → ((parts : List Selection) → parts_in outcome ≡ Some parts → IsMaking ranks views dims all parts) → Derives ranks views (read_to members dims (k + 1))
+      read_by k next (outcomes.Parts list) is e making = made_read members dims k all list.items next (making list.items (ap parts_in is))
+      read_by k next outcomes.Untold is e making = left_read members dims k all next (inr (function, one))
+      read_by k next outcomes.Unsound is e making = absurd (let bad : false ≡ true = ap is_read (sym is) ∙ e in cc)
+      read_by k next outcomes.Waits is e making = absurd (let bad : false ≡ true = ap is_read (sym is) ∙ e in cc)
 
   -- a communicator of these members
-  comm_is : (members : List Member) (dims : Option (List ℕ)) (comm : Made) → Derives ranks views (communicator members dims) → comm.members.items ≡ members → dims_of comm ≡ dims
-      → comm.ranks.items ≡ ranks_in comm.members.items → IsDerivedComm ranks views comm
-  comm_is members dims comm derives same dims_same same_ranks = record {
-    derives = subst (λ (d : Option (List ℕ)). Derives ranks views (communicator comm.members.items d)) (sym dims_same)
-        (subst (λ (l : List Member). Derives ranks views (communicator l dims)) (sym same) derives);
+  comm_is : (members : List Member) (dims : Option (List ℕ)) (order : Order) (comm : Made) → Derives ranks views (communicator members dims order) → comm.members.items ≡ members → dims_of comm ≡ dims
+      → comm.order ≡ order → comm.ranks.items ≡ ranks_in comm.members.items → IsDerivedComm ranks views comm
+  comm_is members dims order comm derives same dims_same order_same same_ranks = record {
+    derives = subst (λ (o : Order). Derives ranks views (communicator comm.members.items (dims_of comm) o)) (sym order_same)
+        (subst (λ (d : Option (List ℕ)). Derives ranks views (communicator comm.members.items d order)) (sym dims_same)
+        (subst (λ (l : List Member). Derives ranks views (communicator l dims order)) (sym same) derives));
     same_ranks = same_ranks;
   }
 
   -- All that is made of the parts derives.
-  pub outcome_derives : (members : List Member) (all : List (Option Here)) (outcome : Outcome) (parts : List Selection) (comms : List Made)
-      → IsDerivedOutcome ranks views members all outcome → parts_in outcome ≡ Some parts → AreMadeOf members all parts comms → AreDerived ranks views comms
-  outcome_derives members all outcome parts comms derives is of = record {
+  pub outcome_derives : (members : List Member) (dims : Option (List ℕ)) (all : List (Option Here)) (outcome : Outcome) (parts : List Selection) (comms : List Made) (k : ℕ)
+      → IsDerivedOutcome ranks views members dims all outcome → AreNext ranks views members dims all k → parts_in outcome ≡ Some parts → AreMadeOf members all parts comms
+      → AreDerived ranks views comms
+  outcome_derives members dims all outcome parts comms k derives next is of = record {
     each = λ at comm e. let m = of.each at comm e in
-        comm_is (members_at members all m.1.places) m.1.dims comm (derives.each parts m.0 m.1 is m.2) m.3.chosen m.3.dims m.3.same_ranks;
+        comm_is (members_at members all m.1.places) m.1.dims comm.order comm (derives.each k parts m.0 m.1 comm.order next is m.2 m.3.order) m.3.chosen m.3.dims refl m.3.same_ranks;
   }
 
-  -- one of the communicators that the k-th calls of MPI_Comm_create make
-  pub created_derives : (members : List Member) (dims : Option (List ℕ)) (k : ℕ) (all : List (Option Here)) (comms : List Made) (rows : List (Vec GroupValue Global)) (parts : List Selection) (at : ℕ) (part : Selection)
-      → all ≡ kth_calls ranks views k members → Derives ranks views (communicator members dims)
-      → AreAllDerivedGroups ranks views comms rows → AreKnown rows comms all
-      → IsOneMaking functions.Create all → AreOfWanted rows comms all (ranks_in members) parts → AreGiven false all parts → slice_get parts at ≡ Some part
-      → Derives ranks views (communicator (members_at members all part.places) part.dims)
+  -- what a making gives
+  pub gained_comms : (members : List Member) (dims : Option (List ℕ)) (all : List (Option Here)) (outcome : Outcome) (parts : List Selection) (comms : Vec Made Global)
+      → IsDerivedOutcome ranks views members dims all outcome → parts_in outcome ≡ Some parts → is_read outcome ≡ true → AreMadeOf members all parts comms.items
+      → IsOfDerived ranks views members dims all (gains.Comms comms)
+  gained_comms members dims all outcome parts comms derives is read of = record {
+    comms = λ k next. outcome_derives members dims all outcome parts comms.items k derives next is of;
+    read = λ k next e. derives.read k next read;
+  }
+
+  pub gained_untold : (members : List Member) (dims : Option (List ℕ)) (all : List (Option Here)) → IsDerivedOutcome ranks views members dims all outcomes.Untold
+      → IsOfDerived ranks views members dims all gains.Untold
+  gained_untold members dims all derives = record { comms = λ k next. tt; read = λ k next e. derives.read k next refl }
+
+  pub gained_unsound : (members : List Member) (dims : Option (List ℕ)) (all : List (Option Here)) → IsOfDerived ranks views members dims all gains.Unsound
+  gained_unsound members dims all = record { comms = λ k next. tt; read = λ k next e. absurd (let bad : false ≡ true = e in cc) }
+
+  pub gained_waits : (members : List Member) (dims : Option (List ℕ)) (all : List (Option Here)) → IsOfDerived ranks views members dims all gains.Waits
+  gained_waits members dims all = record { comms = λ k next. tt; read = λ k next e. absurd (let bad : false ≡ true = e in cc) }
+
+  -- the calls of one MPI_Comm_create, with the groups that they name
+  creation_is : (members : List Member) (all : List (Option Here)) (comms : List Made) (rows : List (Vec GroupValue Global)) (parts : List Selection)
+      → IsOneMaking functions.Create all → AreOfWanted rows comms all (ranks_in members) parts → AreGiven false all parts → IsCreation members all (offered_at rows comms all) parts
+  creation_is members all comms rows parts one wanted given = record { one = one; made = λ i p f. of_offered rows comms all members p (wanted.each i p f); given = given }
+
+  offered_derive : (all : List (Option Here)) (comms : List Made) (rows : List (Vec GroupValue Global)) → AreAllDerivedGroups ranks views comms rows → AreKnown rows comms all
+      → (place : ℕ) (here : Here) → slice_get all place ≡ Some (Some here) → Derives ranks views (ranks_of here.rank here.group (offered_at rows comms all place))
   unfolding offered_of
-  created_derives members dims k all comms rows parts at part e derives groups known one wanted given here =
-      let offered : ℕ → List ℕ = offered_at rows comms all in
-      let P : List (Option Here) → Type 0 = λ calls.
-      ((place : ℕ) (here : Here) → slice_get calls place ≡ Some (Some here) → Derives ranks views (ranks_of here.rank here.group (offered place)))
-      → IsCreation members calls offered parts
-      → Derives ranks views (communicator (members_at members calls part.places) part.dims) in
-      let step : P (kth_calls ranks views k members) = λ all_derive is. created members dims k offered parts at part derives all_derive is here in
-      let each : (place : ℕ) (here : Here) → slice_get all place ≡ Some (Some here) → Derives ranks views (ranks_of here.rank here.group (offered place)) =
-      λ place here found. subst (λ (l : List ℕ). Derives ranks views (ranks_of here.rank here.group l)) (sym (offered_is rows comms all place here found))
-      (group_derives ranks views comms rows groups here (offered_of (group_of rows comms here)) (offered_known (group_of rows comms here) (known.each place (Some here) found))) in
-      subst P (sym e) step each (record { one = one; made = λ i p f. of_offered rows comms all members p (wanted.each i p f); given = given })
+  offered_derive all comms rows groups known place here found =
+      subst (λ (l : List ℕ). Derives ranks views (ranks_of here.rank here.group l)) (sym (offered_is rows comms all place here found))
+      (group_derives ranks views comms rows groups here (offered_of (group_of rows comms here)) (offered_known (group_of rows comms here) (known.each place (Some here) found)))
+
+  -- what the calls of one MPI_Comm_create make
+  pub creation_derives : (members : List Member) (dims : Option (List ℕ)) (all : List (Option Here)) (comms : List Made) (rows : List (Vec GroupValue Global)) (outcome : Outcome)
+      → AreAllDerivedGroups ranks views comms rows → IsOneMaking functions.Create all
+      → ((parts : List Selection) → parts_in outcome ≡ Some parts → AreKnown rows comms all)
+      → ((parts : List Selection) → parts_in outcome ≡ Some parts → AreOfWanted rows comms all (ranks_in members) parts)
+      → ((parts : List Selection) → parts_in outcome ≡ Some parts → AreGiven false all parts)
+      → IsDerivedOutcome ranks views members dims all outcome
+  creation_derives members dims all comms rows outcome groups one known wanted given = record {
+    each = λ k parts at part order next e here ordered.
+        let P : List (Option Here) → Type 0 = λ calls.
+        ((place : ℕ) (here : Here) → slice_get calls place ≡ Some (Some here) → Derives ranks views (ranks_of here.rank here.group (offered_at rows comms all place)))
+        → IsCreation members calls (offered_at rows comms all) parts → IsMakingOrder part.places calls order
+        → Derives ranks views (communicator (members_at members calls part.places) part.dims order) in
+        let step : P (kth_calls ranks views k members) =
+        λ derive is ord. created members dims k (offered_at rows comms all) parts at part order next.reads derive is here ord in
+        subst P (sym next.calls) step (offered_derive all comms rows groups (known parts e)) (creation_is members all comms rows parts one (wanted parts e) (given parts e)) ordered;
+    read = λ k next e. read_by k next outcome refl e;
+  }
+    where
+      read_by : (k : ℕ) → AreNext ranks views members dims all k → (o : Outcome) → outcome ≡ o → is_read outcome ≡ true → Derives ranks views (read_to members dims (k + 1))
+      read_by k next (outcomes.Parts list) is e =
+          let parts : List Selection = list.items in
+          let here : parts_in outcome ≡ Some parts = ap parts_in is in
+          let P : List (Option Here) → Type 0 = λ calls.
+          ((place : ℕ) (here : Here) → slice_get calls place ≡ Some (Some here) → Derives ranks views (ranks_of here.rank here.group (offered_at rows comms all place)))
+          → IsCreation members calls (offered_at rows comms all) parts → Derives ranks views (read_to members dims (k + 1)) in
+          let step : P (kth_calls ranks views k members) = λ derive is. read_creation members dims k (offered_at rows comms all) parts next.reads derive is in
+          subst P (sym next.calls) step (offered_derive all comms rows groups (known parts here)) (creation_is members all comms rows parts one (wanted parts here) (given parts here))
+      read_by k next outcomes.Untold is e = left_read members dims k all next (inr (functions.Create, one))
+      read_by k next outcomes.Unsound is e = absurd (let bad : false ≡ true = ap is_read (sym is) ∙ e in cc)
+      read_by k next outcomes.Waits is e = absurd (let bad : false ≡ true = ap is_read (sym is) ∙ e in cc)
 
   -- a communicator of calls of MPI_Comm_create_group
   found_derives : (comms : List Made) (rows : List (Vec GroupValue Global)) (parent : Made) (offers : List Offer) → IsDerivedComm ranks views parent
@@ -163,8 +260,8 @@ module _ (ranks : List RankCalls) (views : List RankView) where
         readable = found.sound.readable;
         given = found.sound.given;
       } in
-      comm_is (members_at members found.all found.places) None comm (by_group members (dims_of parent) found.group found.tag found.places found.all derived.derives each making)
-      found.made.chosen found.made.dims found.made.same_ranks
+      comm_is (members_at members found.all found.places) None comm.order comm (by_group members (dims_of parent) parent.order comm.order found.group found.tag found.places found.all derived.derives each making found.made.order)
+      found.made.chosen found.made.dims refl found.made.same_ranks
 
   pub all_found : (comms : List Made) (rows : List (Vec GroupValue Global)) (parent : Made) (offers : List Offer) (found : List Made) → IsDerivedComm ranks views parent
       → AreAllDerivedGroups ranks views comms rows → AreRightOffers ranks views rows comms parent.members.items offers
@@ -174,49 +271,24 @@ module _ (ranks : List RankCalls) (views : List RankView) where
   }
 
   -- what is there from the first call on
-  first_is : (members : List Member) (comm : Made) → Derives ranks views (communicator members None) → IsFirstComm members comm → IsDerivedComm ranks views comm
-  first_is members comm derives first = comm_is members None comm derives first.same first.dims (first.same_ranks ∙ ap ranks_in (sym first.same))
+  first_is : (members : List Member) (order : Order) (comm : Made) → Derives ranks views (communicator members None order) → IsFirstComm members order comm → IsDerivedComm ranks views comm
+  first_is members order comm derives first = comm_is members None order comm derives first.same first.dims first.order (first.same_ranks ∙ ap ranks_in (sym first.same))
 
-  pub world_derives : (comm : Made) → IsFirstComm (world_members (length ranks)) comm → IsDerivedComm ranks views comm
-  world_derives comm first = first_is (world_members (length ranks)) comm world first
+  pub world_derives : (comm : Made) → IsFirstComm (world_members (length ranks)) world_order comm → IsDerivedComm ranks views comm
+  world_derives comm first = first_is (world_members (length ranks)) world_order comm world first
 
   pub own_derives : (rank : ℕ) (calls : RankCalls) (number : ℕ) (comm : Made) → slice_get ranks rank ≡ Some calls → calls.own ≡ Some number
-      → IsFirstComm (member_with 1 rank ∷ []) comm → IsDerivedComm ranks views comm
-  own_derives rank calls number comm here is first = first_is (member_with 1 rank ∷ []) comm (own rank calls number here is) first
+      → IsFirstComm (member_with 1 rank ∷ []) (own_order rank) comm → IsDerivedComm ranks views comm
+  own_derives rank calls number comm here is first = first_is (member_with 1 rank ∷ []) (own_order rank) comm (own rank calls number here is) first
 
   own_by : (rank : ℕ) (calls : RankCalls) (comm : Made) (o : Option ℕ) → calls.own ≡ o → is_some o ≡ true → slice_get ranks rank ≡ Some calls
-      → IsFirstComm (member_with 1 rank ∷ []) comm → IsDerivedComm ranks views comm
+      → IsFirstComm (member_with 1 rank ∷ []) (own_order rank) comm → IsDerivedComm ranks views comm
   own_by rank calls comm None e some here first = absurd (cc)
   own_by rank calls comm (Some number) e some here first = own_derives rank calls number comm here e first
 
   pub own_some : (rank : ℕ) (calls : RankCalls) (comm : Made) → slice_get ranks rank ≡ Some calls → is_some calls.own ≡ true
-      → IsFirstComm (member_with 1 rank ∷ []) comm → IsDerivedComm ranks views comm
+      → IsFirstComm (member_with 1 rank ∷ []) (own_order rank) comm → IsDerivedComm ranks views comm
   own_some rank calls comm here some first = own_by rank calls comm calls.own refl some here first
-
-  -- What is written of derived communicators derives.
-  pub written_derives : (number : ℕ) (uses : List HandleUses) (comms : List Made) (all : List Communicator) → AreDerived ranks views comms
-      → AreViews number ranks views → IsWritten number (length ranks) views uses comms all → IsSound number ranks all
-  written_derives number uses comms all derived read is = record {
-    views = views;
-    uses = uses;
-    read = read;
-    derived = record {
-      first = is.first;
-      others = is.others;
-      starts = is.starts;
-      is_world = is.is_world;
-      all_derive = λ at comm e.
-          let of = is.all_made.each at comm e in
-          let one : IsDerivedComm ranks views of.1 = derived.each of.0 of.1 of.2 in
-          record {
-            members = of.1.members.items;
-            dims = dims_of of.1;
-            derives = one.derives;
-            same = of.3.members ∙ one.same_ranks;
-            named = of.3.named;
-          };
-    };
-  }
 
 -- one more communicator of the parts
 pub made_none : (members : List Member) (all : List (Option Here)) (parts : List Selection) → AreMadeOf members all parts []
@@ -224,19 +296,7 @@ made_none members all parts = record { each = λ at comm e. absurd (cc) }
 
 pub made_more : (members : List Member) (all : List (Option Here)) (parts : List Selection) (done : List Made) (i : ℕ) (part : Selection) (comm : Made)
     → slice_get parts i ≡ Some part → comm.members.items ≡ members_at members all part.places → comm.ranks.items ≡ ranks_in comm.members.items → dims_of comm ≡ part.dims
-    → AreMadeOf members all parts done → AreMadeOf members all parts (done ++ comm ∷ [])
-made_more members all parts done i part comm here chosen same_ranks dims are = record {
-  each = each_more (IsOfPart members all parts) done comm are.each (i, part, here, record { chosen = chosen; same_ranks = same_ranks; dims = dims });
+    → IsMakingOrder part.places all comm.order → AreMadeOf members all parts done → AreMadeOf members all parts (done ++ comm ∷ [])
+made_more members all parts done i part comm here chosen same_ranks dims order are = record {
+  each = each_more (IsOfPart members all parts) done comm are.each (i, part, here, record { chosen = chosen; same_ranks = same_ranks; dims = dims; order = order });
 }
-
--- one more communicator that is written
-pub written_none : (views : List RankView) (uses : List HandleUses) (done : List Made) → AreWrittenOf views uses done []
-written_none views uses done = record { each = λ at comm e. absurd (cc) }
-
-pub written_more : (views : List RankView) (uses : List HandleUses) (done : List Made) (comms : List Communicator) (comm : Communicator) (place : ℕ) (one : Made)
-    → AreWrittenOf views uses done comms → slice_get done place ≡ Some one → IsWrittenOf views uses one comm → AreWrittenOf views uses done (comms ++ comm ∷ [])
-written_more views uses done comms comm place one are here is = record { each = each_more (IsWrittenOfOne views uses done) comms comm are.each (place, one, here, is) }
-
-pub is_written : (number count : ℕ) (views : List RankView) (uses : List HandleUses) (done : List Made) (first : Communicator) (others all : List Communicator)
-    → IsWorld number count first → AreWrittenOf views uses done others → all ≡ first ∷ others → IsWritten number count views uses done all
-is_written number count views uses done first others all is are starts = record { first = first; others = others; starts = starts; is_world = is; all_made = are }

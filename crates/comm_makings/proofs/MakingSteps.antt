@@ -23,13 +23,13 @@ first_call : (g : Bool) (h at : ℕ) (call : CommCall) (calls : List CommCall) (
 first_call g h at call calls [] = sym (without_meant g h at (making_of call.action) (makings_on g h (at + 1) calls []) (none_left g h (at + 1) calls))
 first_call g h at call calls (m ∷ meant) = refl
 
-drop_first : {X : Type 0} (at : ℕ) (xs : List X) → slice_get (drop at xs) 0 ≡ slice_get xs at
+pub drop_first : {X : Type 0} (at : ℕ) (xs : List X) → slice_get (drop at xs) 0 ≡ slice_get xs at
 drop_first zero [] = refl
 drop_first zero (x ∷ xs) = refl
 drop_first (suc at) [] = refl
 drop_first (suc at) (x ∷ xs) = drop_first at xs
 
-drop_next : {X : Type 0} (at : ℕ) (xs : List X) → drop 1 (drop at xs) ≡ drop (suc at) xs
+pub drop_next : {X : Type 0} (at : ℕ) (xs : List X) → drop 1 (drop at xs) ≡ drop (suc at) xs
 drop_next zero xs = refl
 drop_next (suc at) [] = refl
 drop_next (suc at) (x ∷ xs) = drop_next at xs

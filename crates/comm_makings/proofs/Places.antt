@@ -1,7 +1,7 @@
 -- What stands at places, one place after the other.
-use Rattle.std.proofs.Common.{◌≡◌, ℕ, ◌+◌, ◌<◌, ◌++◌, List, [], ◌∷◌, Option, Some, None, length, take, get_or, ap, ◌∙◌, sym, append-nil, arith}
-use Rattle.std.specs.List.{cons_option, filter_map, range_with_len}
-use Rattle.std.proofs.lemmas.List.{take_more, map-id}
+use Rattle.std.proofs.Common.{◌≡◌, ℕ, suc, add-one, ◌+◌, ◌<◌, ◌++◌, List, [], ◌∷◌, Option, Some, None, length, take, get_or, ap, ◌∙◌, sym, append_assoc, append-nil, arith}
+use Rattle.std.specs.List.{cons_option, filter_map, flat_map, range_with_len}
+use Rattle.std.proofs.lemmas.List.{flat_map_more, take_more, map-id}
 use Rattle.std.proofs.lemmas.List.Elements.{filter_map-append}
 use Rattle.std.proofs.lemmas.List.FromFn.{map-range_with_len_more}
 
@@ -22,3 +22,24 @@ pub numbers_more : (n : ℕ) → range_with_len 0 (n + 1) ≡ range_with_len 0 n
 numbers_more n =
     sym (map-id (range_with_len 0 (n + 1))) ∙ map-range_with_len_more (λ (x : ℕ). x) 0 n n (omega arith)
     ∙ ap (λ (l : List ℕ). l ++ n ∷ []) (map-id (range_with_len 0 n))
+
+pub numbers_next : (n : ℕ) → range_with_len 0 (suc n) ≡ range_with_len 0 n ++ n ∷ []
+numbers_next n = ap (range_with_len 0) (sym (add-one n)) ∙ numbers_more n
+
+-- what one more of those numbers gives, or nothing
+pub numbers_some : {X : Type 0} (f : ℕ → Option X) (n : ℕ) (x : X) (before : List X) → f n ≡ Some x
+    → (before ++ filter_map f (range_with_len 0 n)) ++ x ∷ [] ≡ before ++ filter_map f (range_with_len 0 (n + 1))
+numbers_some {X} f n x before e =
+    append_assoc before (filter_map f (range_with_len 0 n)) (x ∷ [])
+    ∙ ap (λ (l : List X). before ++ l)
+    (sym (ap (filter_map f) (numbers_more n) ∙ filter_map-append f (range_with_len 0 n) (n ∷ []) ∙ ap (λ (o : Option X). filter_map f (range_with_len 0 n) ++ cons_option o []) e))
+
+pub numbers_none : {X : Type 0} (f : ℕ → Option X) (n : ℕ) (before : List X) → f n ≡ None
+    → before ++ filter_map f (range_with_len 0 n) ≡ before ++ filter_map f (range_with_len 0 (n + 1))
+numbers_none {X} f n before e =
+    ap (λ (l : List X). before ++ l)
+    (sym (ap (filter_map f) (numbers_more n) ∙ filter_map-append f (range_with_len 0 n) (n ∷ []) ∙ ap (λ (o : Option X). filter_map f (range_with_len 0 n) ++ cons_option o []) e
+    ∙ append-nil (filter_map f (range_with_len 0 n))))
+
+pub numbers_joined : {X : Type 0} (f : ℕ → List X) (n : ℕ) → flat_map f (range_with_len 0 n) ++ f n ≡ flat_map f (range_with_len 0 (n + 1))
+numbers_joined {X} f n = flat_map_more f [] (range_with_len 0 n) n ∙ ap (flat_map f) (sym (numbers_more n))

@@ -1,18 +1,25 @@
 -- That what is derived so far is right, step by step.
-use Rattle.std.proofs.Common.{◌≡◌, ◌⊎◌, ℕ, zero, suc, ◌++◌, List, [], ◌∷◌, Option, Some, None, Vec, length, option_and_then, replicate, set, ap, ◌∙◌, sym, subst, inl, inr, refl}
+use Rattle.std.proofs.Common.{◌≡◌, ◌⊎◌, ◌<◌, ◌+◌, ℕ, true, false, zero, suc, ◌++◌, List, [], ◌∷◌, Option, Some, None, Vec, length, option_and_then, replicate, set, ap, ◌∙◌, sym, subst, inl, inr, refl, arith, length-append, length-set}
 use Rattle.std.specs.List.{slice_get}
 use Rattle.std.specs.declared.alloc.Global.{Global}
-use Rattle.comm_makings.specs.State.{AreAllDerivedGroups, AreDerived, AreDerivedGroups, AreMembers, IsDerivedComm, IsDerivedGroup, IsMemberOf, IsNotListed, IsRight, KeepsDerived, NamesMembers, NoneListed, NoneListedAt, NoneStands, NoneStandsAt, StandsFor}
+use Rattle.std.proofs.lemmas.Option.{same_Some, slice_get_within}
+use Rattle.comm_makings.specs.Derives.{Derives, kth_calls, read_to, unread}
+use Rattle.comm_makings.specs.State.{AreAllDerivedGroups, AreDerived, AreDerivedGroups, AreMembers, AreNext, AreRead, IfComms, IsDerivedComm, IsDerivedGroup, IsEnded, IsMemberOf, IsNotListed, IsOfDerived, IsReadTo, IsRight, KeepsComms, KeepsDerived, NamesMembers, NoneListed, NoneListedAt, NoneStands, NoneStandsAt, StandsFor, dims_of, is_gained}
 use Rattle.comm_makings.specs.declared.answer.Why.{Why}
 use Rattle.comm_makings.specs.declared.calls.RankCalls.{RankCalls}
 use Rattle.comm_makings.specs.declared.group_value.GroupValue.{GroupValue}
 use Rattle.comm_makings.specs.declared.group_value.GroupValue.TheVariants as values
+use Rattle.comm_makings.specs.declared.here.Here.{Here}
+use Rattle.comm_makings.specs.declared.run.Gained.{Gained}
+use Rattle.comm_makings.specs.declared.run.Gained.TheVariants as gains
 use Rattle.comm_makings.specs.declared.state.Made.{Made}
 use Rattle.comm_makings.specs.declared.state.HandleState.{HandleState}
+use Rattle.comm_makings.specs.declared.state.Progress.{Progress}
+use Rattle.comm_makings.specs.declared.state.Progress.TheVariants as progress
 use Rattle.comm_makings.specs.declared.state.HandleState.TheVariants as standings
 use Rattle.comm_makings.specs.declared.view.RankView.{RankView}
 use Rattle.comm_makings.proofs.Derivations.{derived_more, derived_none}
-use Rattle.comm_makings.proofs.Lists.{each_more, get_keep, get_last, get_set}
+use Rattle.comm_makings.proofs.Lists.{each_more, get_keep, get_last, get_more, get_set}
 
 -- No handle stands for a communicator.
 pub stands_set : (row : List HandleState) (handle : ℕ) (why : Why) → NoneStands row → NoneStands (set row handle (standings.Left why))
@@ -54,6 +61,15 @@ none_at : (rows : List (Vec HandleState Global)) → NoneStandsAt rows → (rank
 none_at rows none rank handle place None here e = absurd (cc)
 none_at rows none rank handle place (Some row) here e = (none.each rank row here).each handle place e
 
+pub keeps_same : (comms : List Made) → KeepsComms comms comms
+keeps_same comms = record { each = λ at comm e. e }
+
+pub keeps_one : (comms : List Made) (comm : Made) → KeepsComms comms (comms ++ comm ∷ [])
+keeps_one comms comm = record { each = λ at one e. get_keep comms (comm ∷ []) at one e }
+
+pub keeps_on : (old mid new : List Made) → KeepsComms old mid → KeepsComms mid new → KeepsComms old new
+keeps_on old mid new first then = record { each = λ at comm e. then.each at comm (first.each at comm e) }
+
 module _ (ranks : List RankCalls) (views : List RankView) where
   not_listed : (comms : List Made) (rank at : ℕ) (value : GroupValue) → IsNotListed value → IsDerivedGroup ranks views comms rank at value
   not_listed comms rank at values.Waits h = tt
@@ -62,14 +78,110 @@ module _ (ranks : List RankCalls) (views : List RankView) where
   not_listed comms rank at (values.Listed list) h = absurd h
 
   -- before anything is derived
-  pub right_first : (stand : List (Vec HandleState Global)) (rows : List (Vec GroupValue Global)) → NoneStandsAt stand → NoneListedAt rows → IsRight ranks views stand rows []
+  pub right_first : (stand : List (Vec HandleState Global)) (rows : List (Vec GroupValue Global)) → NoneStandsAt stand → NoneListedAt rows → IsRight ranks views stand rows [] []
   right_first stand rows bare unlisted = record {
     comms_derive = derived_none ranks views;
     handles_named = record { each = λ rank handle place e. absurd (none_at stand bare rank handle place (slice_get stand rank) refl e) };
     groups_derive = record {
       each = λ rank row e. record { each = λ at value f. not_listed [] rank at value ((unlisted.each rank row e).each at value f) };
     };
+    read = record { each = λ at k e. absurd (cc) };
+    read_each = refl;
   }
+
+  -- one more communicator, of which nothing is read yet
+  first_unread : (comm : Made) (k : ℕ) → IsDerivedComm ranks views comm → progress.At k ≡ progress.At 0 → Derives ranks views (read_to comm.members.items (dims_of comm) k)
+  first_unread comm k derived e =
+      let zero_is : k ≡ 0 = cc in
+      subst (λ (n : ℕ). Derives ranks views (read_to comm.members.items (dims_of comm) n)) (sym zero_is) (unread comm.members.items (dims_of comm) comm.order derived.derives)
+
+  pub reads_kept : (old new : List Made) (at k : ℕ) → KeepsComms old new → IsReadTo ranks views old at k → IsReadTo ranks views new at k
+  reads_kept old new at k keeps read = record { comm = read.comm; here = keeps.each at read.comm read.here; reads = read.reads }
+
+  read_last : (comms : List Made) (comm : Made) (at k : ℕ) → IsDerivedComm ranks views comm → at ≡ length comms → progress.At k ≡ progress.At 0 → IsReadTo ranks views (comms ++ comm ∷ []) at k
+  read_last comms comm at k derived there e = record {
+    comm = comm;
+    here = ap (slice_get (comms ++ comm ∷ [])) there ∙ get_last comms comm;
+    reads = first_unread comm k derived e;
+  }
+
+  read_more : (comms : List Made) (next : List Progress) (comm : Made) → AreRead ranks views comms next → length next ≡ length comms → IsDerivedComm ranks views comm
+      → AreRead ranks views (comms ++ comm ∷ []) (next ++ progress.At 0 ∷ [])
+  read_more comms next comm read same derived = record {
+    each = λ at k e. elim (get_more next (progress.At 0) at (progress.At k) e) [
+      | inl before ↦ reads_kept comms (comms ++ comm ∷ []) at k (keeps_one comms comm) (read.each at k before)
+      | inr is ↦ read_last comms comm at k derived (is.0 ∙ same) is.1
+    ];
+  }
+
+  -- the makings of a communicator are noted
+  right_noted : (stand : List (Vec HandleState Global)) (rows : List (Vec GroupValue Global)) (comms : List Made) (next : List Progress) (at : ℕ) (now : Progress)
+      → IsRight ranks views stand rows comms next → ((k : ℕ) → now ≡ progress.At k → IsReadTo ranks views comms at k) → IsRight ranks views stand rows comms (set next at now)
+  right_noted stand rows comms next at now right reads = record {
+    comms_derive = right.comms_derive;
+    handles_named = right.handles_named;
+    groups_derive = right.groups_derive;
+    read = record {
+      each = λ i k e. elim (get_set next at now i (progress.At k) e) [
+        | inl before ↦ right.read.each i k before
+        | inr is ↦ subst (λ (j : ℕ). IsReadTo ranks views comms j k) (sym is.0) (reads k (sym is.1))
+      ];
+    };
+    read_each = length-set next at now ∙ right.read_each;
+  }
+
+  read_as : (comms : List Made) (at k j : ℕ) → IsReadTo ranks views comms at k → progress.At k ≡ progress.At j → IsReadTo ranks views comms at j
+  read_as comms at k j read e = let same : k ≡ j = cc in subst (IsReadTo ranks views comms at) same read
+
+  pub right_read : (stand : List (Vec HandleState Global)) (rows : List (Vec GroupValue Global)) (comms : List Made) (next : List Progress) (at k : ℕ)
+      → IsRight ranks views stand rows comms next → IsReadTo ranks views comms at k → IsRight ranks views stand rows comms (set next at (progress.At k))
+  right_read stand rows comms next at k right read = right_noted stand rows comms next at (progress.At k) right (λ j e. read_as comms at k j read e)
+
+  pub right_over : (stand : List (Vec HandleState Global)) (rows : List (Vec GroupValue Global)) (comms : List Made) (next : List Progress) (at : ℕ)
+      → IsRight ranks views stand rows comms next → IsRight ranks views stand rows comms (set next at progress.Over)
+  right_over stand rows comms next at right = right_noted stand rows comms next at progress.Over right (λ j e. absurd (cc))
+
+  pub reads_at : (comms : List Made) (next : List Progress) (at k : ℕ) → AreRead ranks views comms next → slice_get next at ≡ Some (progress.At k) → IsReadTo ranks views comms at k
+  reads_at comms next at k read e = read.each at k e
+
+  -- the calls of a parent that come next
+  pub next_is : (comms : List Made) (at k : ℕ) (parent : Made) (all : List (Option Here)) → IsReadTo ranks views comms at k → slice_get comms at ≡ Some parent
+      → all ≡ kth_calls ranks views k parent.members.items → AreNext ranks views parent.members.items (dims_of parent) all k
+  next_is comms at k parent all read here calls =
+      let same : read.comm ≡ parent = same_Some read.comm parent (sym read.here ∙ here) in
+      record { calls = calls; reads = subst (λ (c : Made). Derives ranks views (read_to c.members.items (dims_of c) k)) same read.reads }
+
+  pub gained_now : (comms : List Made) (at k : ℕ) (gained : Gained) → (is_gained gained ≡ true → IsReadTo ranks views comms at k) → gained ≡ gains.Untold → IsReadTo ranks views comms at k
+  gained_now comms at k gained read is = read (ap is_gained is)
+
+  pub gained_added : (old new : List Made) (at k : ℕ) (gained : Gained) (made : Vec Made Global) → (is_gained gained ≡ true → IsReadTo ranks views old at k) → gained ≡ gains.Comms made
+      → KeepsComms old new → IsReadTo ranks views new at k
+  gained_added old new at k gained made read is keeps = reads_kept old new at k keeps (read (ap is_gained is))
+
+  -- what the making that comes next gives
+  pub ended_derive : (parent : Made) (all : List (Option Here)) (k : ℕ) (gained ended : Gained) → IsOfDerived ranks views parent.members.items (dims_of parent) all gained
+      → AreNext ranks views parent.members.items (dims_of parent) all k → IsEnded gained ended → IfComms (AreDerived ranks views) ended
+  ended_derive parent all k gained ended of next is = by_case gained ended (of.comms k next) is
+    where
+      by_case : (g e : Gained) → IfComms (AreDerived ranks views) g → IsEnded g e → IfComms (AreDerived ranks views) e
+      by_case (gains.Comms made) e derive same = subst (IfComms (AreDerived ranks views)) (sym same) derive
+      by_case gains.Untold e derive same = subst (IfComms (AreDerived ranks views)) (sym same) tt
+      by_case gains.Unsound e derive same = subst (IfComms (AreDerived ranks views)) (sym same) tt
+      by_case gains.Waits (gains.Comms made) derive same = absurd (let bad : true ≡ false = same in cc)
+      by_case gains.Waits gains.Untold derive same = tt
+      by_case gains.Waits gains.Unsound derive same = tt
+      by_case gains.Waits gains.Waits derive same = tt
+
+  pub ended_read : (comms : List Made) (at k : ℕ) (parent : Made) (all : List (Option Here)) (gained ended : Gained) → IsOfDerived ranks views parent.members.items (dims_of parent) all gained
+      → AreNext ranks views parent.members.items (dims_of parent) all k → slice_get comms at ≡ Some parent → IsEnded gained ended → is_gained ended ≡ true
+      → IsReadTo ranks views comms at (k + 1)
+  ended_read comms at k parent all gained ended of next here is e = record { comm = parent; here = here; reads = of.read k next (by_case gained ended is e) }
+    where
+      by_case : (g e : Gained) → IsEnded g e → is_gained e ≡ true → is_gained g ≡ true
+      by_case (gains.Comms made) e same f = refl
+      by_case gains.Untold e same f = refl
+      by_case gains.Unsound e same f = ap is_gained (sym same) ∙ f
+      by_case gains.Waits e same f = absurd (let bad : false ≡ true = sym same ∙ f in cc)
 
   group_kept : (comms more : List Made) (rank at : ℕ) (value : GroupValue) → IsDerivedGroup ranks views comms rank at value
       → IsDerivedGroup ranks views (comms ++ more) rank at value
@@ -79,10 +191,10 @@ module _ (ranks : List RankCalls) (views : List RankView) where
   group_kept comms more rank at (values.Listed list) d = d
 
   -- one more communicator, which its members' handles may name
-  pub right_added : (stand stands : List (Vec HandleState Global)) (rows : List (Vec GroupValue Global)) (comms : List Made) (comm : Made)
-      → IsRight ranks views stand rows comms → NamesMembers comm.members.items (length comms) stand stands → IsDerivedComm ranks views comm
-      → IsRight ranks views stands rows (comms ++ comm ∷ [])
-  right_added stand stands rows comms comm right names derived = record {
+  pub right_added : (stand stands : List (Vec HandleState Global)) (rows : List (Vec GroupValue Global)) (comms : List Made) (next : List Progress) (comm : Made)
+      → IsRight ranks views stand rows comms next → NamesMembers comm.members.items (length comms) stand stands → IsDerivedComm ranks views comm
+      → IsRight ranks views stands rows (comms ++ comm ∷ []) (next ++ progress.At 0 ∷ [])
+  right_added stand stands rows comms next comm right names derived = record {
     comms_derive = derived_more ranks views comms comm right.comms_derive derived;
     handles_named = record {
       each = λ rank handle place e. elim (names.each rank handle place e) [
@@ -99,22 +211,32 @@ module _ (ranks : List RankCalls) (views : List RankView) where
     groups_derive = record {
       each = λ rank row e. record { each = λ at value f. group_kept comms (comm ∷ []) rank at value ((right.groups_derive.each rank row e).each at value f) };
     };
+    read = read_more comms next comm right.read right.read_each derived;
+    read_each = (let same : length next ≡ length comms = right.read_each in omega (arith, length-append next (progress.At 0 ∷ []), length-append comms (comm ∷ [])));
   }
 
   -- one of the communicators
-  pub right_comm : (stand : List (Vec HandleState Global)) (rows : List (Vec GroupValue Global)) (comms : List Made) (at : ℕ) (comm : Made)
-      → IsRight ranks views stand rows comms → slice_get comms at ≡ Some comm → IsDerivedComm ranks views comm
-  right_comm stand rows comms at comm right here = right.comms_derive.each at comm here
+  pub right_comm : (stand : List (Vec HandleState Global)) (rows : List (Vec GroupValue Global)) (comms : List Made) (next : List Progress) (at : ℕ) (comm : Made)
+      → IsRight ranks views stand rows comms next → slice_get comms at ≡ Some comm → IsDerivedComm ranks views comm
+  right_comm stand rows comms next at comm right here = right.comms_derive.each at comm here
 
   -- Handles that are left out name nothing.
-  pub right_left : (stand stands : List (Vec HandleState Global)) (rows : List (Vec GroupValue Global)) (comms : List Made)
-      → IsRight ranks views stand rows comms → KeepsDerived stand stands → IsRight ranks views stands rows comms
-  right_left stand stands rows comms right keeps = record {
+  pub right_left : (stand stands : List (Vec HandleState Global)) (rows : List (Vec GroupValue Global)) (comms : List Made) (next : List Progress)
+      → IsRight ranks views stand rows comms next → KeepsDerived stand stands → IsRight ranks views stands rows comms next
+  right_left stand stands rows comms next right keeps = record {
     comms_derive = right.comms_derive;
     handles_named = record { each = λ rank handle place e. right.handles_named.each rank handle place (keeps.each rank handle place e) };
     groups_derive = right.groups_derive;
+    read = right.read;
+    read_each = right.read_each;
   }
 
-  pub right_refreshed : (stand : List (Vec HandleState Global)) (rows new : List (Vec GroupValue Global)) (comms : List Made)
-      → IsRight ranks views stand rows comms → AreAllDerivedGroups ranks views comms new → IsRight ranks views stand new comms
-  right_refreshed stand rows new comms right groups = record { comms_derive = right.comms_derive; handles_named = right.handles_named; groups_derive = groups }
+  pub right_refreshed : (stand : List (Vec HandleState Global)) (rows new : List (Vec GroupValue Global)) (comms : List Made) (next : List Progress)
+      → IsRight ranks views stand rows comms next → AreAllDerivedGroups ranks views comms new → IsRight ranks views stand new comms next
+  right_refreshed stand rows new comms next right groups = record {
+    comms_derive = right.comms_derive;
+    handles_named = right.handles_named;
+    groups_derive = groups;
+    read = right.read;
+    read_each = right.read_each;
+  }

@@ -110,7 +110,7 @@ module _ (ranks : List RankCalls) (views : List RankView) where
       let comm : Made = member.comm in
       let derived : IsDerivedComm ranks views comm = all.each place comm member.here in
       let derives : Derives ranks views (ranks_of rank (groups.Given at) (ranks_in comm.members.items)) =
-      of_comm comm.members.items (dims_of comm) rank at handle call derived.derives member.member.0 member.member.1 called is means in
+      of_comm comm.members.items (dims_of comm) comm.order rank at handle call derived.derives member.member.0 member.member.1 called is means in
       let same = subst (λ (l : List ℕ). Derives ranks views (ranks_of rank (groups.Given at) l)) (sym derived.same_ranks) derives in
       subst (IsDerivedGroup ranks views comms rank at) (sym f) (comm, member.here, same)
 

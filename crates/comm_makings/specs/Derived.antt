@@ -1,42 +1,82 @@
--- What is written of the communicators that derive.
-use Rattle.std.specs.Prelude.{◌≡◌, ℕ, List, ◌∷◌, Option, Some, length}
-use Rattle.std.specs.List.{slice_get}
+-- What derives from what the ranks called: the communicators, windows and files of a layout, and which communicators are left
+-- out of it.
+use Rattle.std.specs.Prelude.{◌≡◌, ◌⊎◌, ◌++◌, ℕ, List, Some, Vec, length}
+use Rattle.std.specs.List.{Contains}
+use Rattle.std.specs.declared.alloc.Global.{Global}
 use Rattle.mpi_model.specs.Communicators.{Communicator}
-use Rattle.comm_makings.specs.Derives.{Derives, communicator, ranks_in}
+use Rattle.comm_makings.specs.Here.{call_at, meant_at}
+use Rattle.comm_makings.specs.Left.{giving, left_out_of}
+use Rattle.comm_makings.specs.ObjectMakings.{AreObjects}
+use Rattle.comm_makings.specs.State.{AreDerived, AreMembers, IsMemberOf}
+use Rattle.comm_makings.specs.Uses.{AreAllCounted, count_at}
 use Rattle.comm_makings.specs.Views.{AreViews}
-use Rattle.comm_makings.specs.Written.{IsNamedIn, IsWorld}
+use Rattle.comm_makings.specs.World.{world_of}
+use Rattle.comm_makings.specs.Written.{IsWritten}
+use Rattle.comm_makings.specs.declared.answer.Derived.{Derived}
+use Rattle.comm_makings.specs.declared.answer.LeftOut.{LeftOut}
+use Rattle.comm_makings.specs.declared.calls.CommCall.{CommCall}
 use Rattle.comm_makings.specs.declared.calls.RankCalls.{RankCalls}
-use Rattle.comm_makings.specs.declared.state.Member.{Member}
+use Rattle.comm_makings.specs.declared.handle.Gives.TheVariants as gives
+use Rattle.comm_makings.specs.declared.handle.Meant.{Meant}
+use Rattle.comm_makings.specs.declared.left.Giver.{Giver}
+use Rattle.comm_makings.specs.declared.state.HandleState.{HandleState}
+use Rattle.comm_makings.specs.declared.state.Made.{Made}
+use Rattle.comm_makings.specs.declared.uses.AllUses.{AllUses}
 use Rattle.comm_makings.specs.declared.uses.HandleUses.{HandleUses}
 use Rattle.comm_makings.specs.declared.view.RankView.{RankView}
 
--- A communicator of the layout is one that derives: its members are those, in their order, and each names it by its handle.
-pub record IsDerivedIn (ranks : List RankCalls) (views : List RankView) (uses : List HandleUses) (comm : Communicator) : Type 0 where
-  pub members : List Member
-  pub dims : Option (List ℕ)
-  pub derives : Derives ranks views (communicator members dims)
-  pub same : comm.members ≡ ranks_in members
-  pub named : IsNamedIn views uses members comm
+-- a communicator that is made has the rank as a member, by this handle
+abbrev pub IsOfMade : List Made → ℕ → ℕ → Type 0
+IsOfMade made rank handle = (place : ℕ) × IsMemberOf made place rank handle
 
--- The world comes first, with all ranks; all others derive.
-pub record AreDerivedIn (world : ℕ) (ranks : List RankCalls) (views : List RankView) (uses : List HandleUses) (comms : List Communicator) : Type 0 where
-  pub first : Communicator
-  pub others : List Communicator
-  pub starts : comms ≡ first ∷ others
-  pub is_world : IsWorld world (length ranks) first
-  pub all_derive : (at : ℕ) (comm : Communicator) → slice_get others at ≡ Some comm → IsDerivedIn ranks views uses comm
+-- what the call of a rank gives is left out, with its calls counted
+pub record IsLeftOut (left_out : List LeftOut) (rank call count : ℕ) : Type 0 where
+  pub left : LeftOut
+  pub listed : Contains left_out left
+  pub of_rank : left.rank ≡ rank
+  pub of_call : left.call ≡ call
+  pub counted : left.uses ≡ count
 
--- Nothing is written that isn't derived from what the ranks called.
+-- Nothing is lost: each handle that a returned call gives is a member's of a communicator that is made, which is written
+-- where a call of the profile names it, or it is left out, and the calls that name it are counted.
+pub record AreAccounted (ranks : List RankCalls) (views : List RankView) (uses : List HandleUses) (made : List Made) (left_out : List LeftOut) : Type 0 where
+  pub each : (rank at handle : ℕ) (call : CommCall) (giver : Giver) (meant : Meant) → call_at ranks rank at ≡ Some call → giving call.action ≡ Some giver
+      → meant_at views rank at ≡ Some meant → meant.gives ≡ gives.Handle handle → IsOfMade made rank handle ⊎ IsLeftOut left_out rank call.call (count_at uses rank (Some handle))
+
+-- What derives from what the ranks called: each communicator that is made derives (MPI 4.0, chapters 7 and 8), and so do the
+-- windows and files of these (12.2 and 14.2); those that calls of the profile name are written, behind the world, and all other
+-- communicators that calls give are left out.
 --
 -- `Derives` asks for less than a communicator needs, in these points:
--- * A making counts where its own calls agree, whether or not the parent's makings before it do.
+-- * A making of which nothing is made counts as read where its calls have one function and what they give can be read,
+--   whether or not their parameters agree.
 -- * The groups that the calls of one MPI_Comm_create name need not be equal or disjoint.
 -- * One MPI_Comm_create_group may be made of any calls of the members with its group and tag, not of the k-th of each.
 -- * A communicator that may be ordered anew can come without dimensions or nodes though all calls, or some, tell them.
--- * `uses` is not pinned: which numbers name only one handle, and whether a call of the profile names it.
--- Nor does this say that each communicator that derives, and that a call names, is written.
+pub record IsDerivedFrom (ranks : List RankCalls) (derived : Derived) : Type 0 where
+  pub views : List RankView
+  pub uses : AllUses
+  pub made : List Made
+  pub objects : List Made
+  pub standings : List (Vec HandleState Global)
+  pub world : derived.world ≡ world_of ranks
+  pub read : AreViews (world_of ranks) ranks views
+  pub counted : AreAllCounted ranks views uses
+  pub derive : AreDerived ranks views made
+  pub derive_objects : AreObjects ranks views made objects
+  pub stand : AreMembers made standings
+  pub written : IsWritten (world_of ranks) (length ranks) views uses (made ++ objects) derived.comms.items
+  pub left_out : derived.left_out.items ≡ left_out_of ranks views uses.comms.items standings
+  pub accounted : AreAccounted ranks views uses.comms.items made derived.left_out.items
+
+-- The part of it that says of communicators, windows and files that they are written as they derive.
 pub record IsSound (world : ℕ) (ranks : List RankCalls) (comms : List Communicator) : Type 0 where
   pub views : List RankView
-  pub uses : List HandleUses
+  pub uses : AllUses
+  pub made : List Made
+  pub objects : List Made
   pub read : AreViews world ranks views
-  pub derived : AreDerivedIn world ranks views uses comms
+  pub counted : AreAllCounted ranks views uses
+  pub derive : AreDerived ranks views made
+  pub derive_objects : AreObjects ranks views made objects
+  pub written : IsWritten world (length ranks) views uses (made ++ objects) comms

@@ -1,13 +1,14 @@
 -- The communicators and groups that the calls of all ranks make, from the world on (MPI 4.0, chapters 7 and 8).
-use Rattle.std.specs.Prelude.{◌≡◌, ℕ, ℤ, List, [], ◌∷◌, Option, Some, None, length, map, true, false}
+use Rattle.std.specs.Prelude.{◌≡◌, ◌+◌, ℕ, ℤ, List, [], ◌∷◌, Option, Some, None, length, map, true, false}
 use Rattle.std.specs.List.{filter_map, list_any, range_with_len, slice_get}
 use Rattle.std.specs.Option.{option_and_then, option_map}
 use Rattle.comm_groups.specs.Groups.{has}
 use Rattle.comm_makings.specs.Groups.{made_of_one, made_of_two}
 use Rattle.comm_makings.specs.Here.{call_at, gives_later, gives_unknown, here_at, kth_at, making_at, meant_at}
-use Rattle.comm_makings.specs.Made.{member_at}
+use Rattle.comm_makings.specs.Made.{IsMakingOrder, member_at, own_order, world_order}
 use Rattle.comm_makings.specs.Makes.{AreGiven, IsMadeBy, IsOneMaking, said_by}
 use Rattle.comm_makings.specs.Selection.{Selection}
+use Rattle.comm_makings.specs.Untold.{AreLeft}
 use Rattle.comm_makings.specs.declared.answer.MadeBy.{MadeBy}
 use Rattle.comm_makings.specs.declared.answer.MadeBy.TheVariants as functions
 use Rattle.comm_makings.specs.declared.calls.Action.{Action}
@@ -23,11 +24,14 @@ use Rattle.comm_makings.specs.declared.handle.GroupAt.TheVariants as groups
 use Rattle.comm_makings.specs.declared.handle.Meant.{Meant}
 use Rattle.comm_makings.specs.declared.here.Here.{Here}
 use Rattle.comm_makings.specs.declared.state.Member.{Member}
+use Rattle.comm_makings.specs.declared.state.Order.{Order}
 use Rattle.comm_makings.specs.declared.view.RankView.{RankView}
 
--- a communicator, by its members in order and its dimensions, or a group that a call of a rank names, by its ranks
+-- What may derive: a communicator, by its members in order, its dimensions and its order in a layout; that so many makings of a
+-- parent are read, each of which agrees or is merely left out; and a group that a call of a rank names, by its ranks.
 pub data Thing : Type 0 where
-  communicator : List Member → Option (List ℕ) → Thing
+  communicator : List Member → Option (List ℕ) → Order → Thing
+  read_to : List Member → Option (List ℕ) → ℕ → Thing
   ranks_of : ℕ → GroupAt → List ℕ → Thing
 
 -- a member of this rank, which names the communicator by this handle
@@ -131,32 +135,45 @@ pub record IsGroupMaking (ranks : List RankCalls) (views : List RankView) (membe
   pub given : AreGiven false all (record { places = places; dims = None } ∷ [])
 
 -- A communicator or a group derives: it is the world, MPI_COMM_SELF or the empty group, or calls make it of ones that
--- derive.
+-- derive. All members of a communicator call what makes others of it in one order (MPI 4.0, 7.4), so a making counts only
+-- behind ones that agree or are merely left out.
 pub data Derives (ranks : List RankCalls) (views : List RankView) : Thing → Type 0 where
   -- the world, and MPI_COMM_SELF of a rank that tells its number
-  world : Derives ranks views (communicator (world_members (length ranks)) None)
+  world : Derives ranks views (communicator (world_members (length ranks)) None world_order)
   own : (rank : ℕ) (calls : RankCalls) (number : ℕ) → slice_get ranks rank ≡ Some calls → calls.own ≡ Some number
-      → Derives ranks views (communicator (member_with 1 rank ∷ []) None)
+      → Derives ranks views (communicator (member_with 1 rank ∷ []) None (own_order rank))
+  -- Of a communicator no making is read at first.
+  unread : (members : List Member) (dims : Option (List ℕ)) (order : Order) → Derives ranks views (communicator members dims order)
+      → Derives ranks views (read_to members dims 0)
   -- the k-th calls of all members of a parent
-  made : (members : List Member) (dims : Option (List ℕ)) (k : ℕ) (parts : List Selection) (at : ℕ) (part : Selection)
-      → Derives ranks views (communicator members dims)
+  made : (members : List Member) (dims : Option (List ℕ)) (k : ℕ) (parts : List Selection) (at : ℕ) (part : Selection) (order : Order)
+      → Derives ranks views (read_to members dims k)
       → IsMaking ranks views dims (kth_calls ranks views k members) parts → slice_get parts at ≡ Some part
-      → Derives ranks views (communicator (members_at members (kth_calls ranks views k members) part.places) part.dims)
+      → IsMakingOrder part.places (kth_calls ranks views k members) order
+      → Derives ranks views (communicator (members_at members (kth_calls ranks views k members) part.places) part.dims order)
+  read_making : (members : List Member) (dims : Option (List ℕ)) (k : ℕ) (parts : List Selection) → Derives ranks views (read_to members dims k)
+      → IsMaking ranks views dims (kth_calls ranks views k members) parts → Derives ranks views (read_to members dims (k + 1))
+  read_left : (members : List Member) (dims : Option (List ℕ)) (k : ℕ) → Derives ranks views (read_to members dims k)
+      → AreLeft (kth_calls ranks views k members) → Derives ranks views (read_to members dims (k + 1))
   -- the same of MPI_Comm_create, with the group that each call names
-  created : (members : List Member) (dims : Option (List ℕ)) (k : ℕ) (offered : ℕ → List ℕ) (parts : List Selection) (at : ℕ) (part : Selection)
-      → Derives ranks views (communicator members dims)
+  created : (members : List Member) (dims : Option (List ℕ)) (k : ℕ) (offered : ℕ → List ℕ) (parts : List Selection) (at : ℕ) (part : Selection) (order : Order)
+      → Derives ranks views (read_to members dims k)
       → ((place : ℕ) (here : Here) → slice_get (kth_calls ranks views k members) place ≡ Some (Some here) → Derives ranks views (ranks_of here.rank here.group (offered place)))
       → IsCreation members (kth_calls ranks views k members) offered parts → slice_get parts at ≡ Some part
-      → Derives ranks views (communicator (members_at members (kth_calls ranks views k members) part.places) part.dims)
+      → IsMakingOrder part.places (kth_calls ranks views k members) order
+      → Derives ranks views (communicator (members_at members (kth_calls ranks views k members) part.places) part.dims order)
+  read_creation : (members : List Member) (dims : Option (List ℕ)) (k : ℕ) (offered : ℕ → List ℕ) (parts : List Selection) → Derives ranks views (read_to members dims k)
+      → ((place : ℕ) (here : Here) → slice_get (kth_calls ranks views k members) place ≡ Some (Some here) → Derives ranks views (ranks_of here.rank here.group (offered place)))
+      → IsCreation members (kth_calls ranks views k members) offered parts → Derives ranks views (read_to members dims (k + 1))
   -- the calls of MPI_Comm_create_group that name one group
-  by_group : (members : List Member) (dims : Option (List ℕ)) (group : List ℕ) (tag : ℤ) (places : List ℕ) (all : List (Option Here))
-      → Derives ranks views (communicator members dims)
+  by_group : (members : List Member) (dims : Option (List ℕ)) (was order : Order) (group : List ℕ) (tag : ℤ) (places : List ℕ) (all : List (Option Here))
+      → Derives ranks views (communicator members dims was)
       → ((place : ℕ) (here : Here) → slice_get all place ≡ Some (Some here) → Derives ranks views (ranks_of here.rank here.group group))
-      → IsGroupMaking ranks views members group tag places all
-      → Derives ranks views (communicator (members_at members all places) None)
+      → IsGroupMaking ranks views members group tag places all → IsMakingOrder places all order
+      → Derives ranks views (communicator (members_at members all places) None order)
   -- the group of a communicator
-  of_comm : (members : List Member) (dims : Option (List ℕ)) (rank at handle : ℕ) (call : GroupCall)
-      → Derives ranks views (communicator members dims) → (place : ℕ) → slice_get members place ≡ Some (member_with handle rank)
+  of_comm : (members : List Member) (dims : Option (List ℕ)) (order : Order) (rank at handle : ℕ) (call : GroupCall)
+      → Derives ranks views (communicator members dims order) → (place : ℕ) → slice_get members place ≡ Some (member_with handle rank)
       → group_call_at ranks rank at ≡ Some call → is_of_comm call → comm_meant views rank at ≡ Some handle
       → Derives ranks views (ranks_of rank (groups.Given at) (ranks_in members))
   empty : (rank : ℕ) → Derives ranks views (ranks_of rank groups.Empty [])

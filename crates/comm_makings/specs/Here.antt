@@ -101,6 +101,11 @@ abbrev pub gives_unknown : Option Here → Bool
 gives_unknown None = false
 gives_unknown (Some here) = is_unreadable here.gives
 
+-- The call returned.
+abbrev pub gives_some : Gives → Bool
+gives_some gives.Nothing = false
+gives_some _ = true
+
 -- the handle that is given, where calls can be known to mean it
 abbrev pub handle_given : Gives → Option ℕ
 handle_given (gives.Handle handle) = Some handle

@@ -1,9 +1,12 @@
 pub mod Each
 pub mod Selection
 pub mod Here
+pub mod Objects
+pub mod ObjectMakings
 pub mod Parts
 pub mod Splits
 pub mod World
+pub mod Uses
 pub mod Names
 pub mod Made
 pub mod Groups
@@ -12,8 +15,10 @@ pub mod Written
 pub mod Naming
 pub mod Views
 pub mod Makes
+pub mod Untold
 pub mod Derives
 pub mod Offers
 pub mod State
 pub mod ByGroups
+pub mod Left
 pub mod Derived

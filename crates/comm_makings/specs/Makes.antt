@@ -1,5 +1,5 @@
 -- What the calls of a communicator's members make together (MPI 4.0, chapters 7 and 8).
-use Rattle.std.specs.Prelude.{◌≡◌, ◌≤◌, ◌⊎◌, ◌||◌, ℕ, ℤ, pos, Bool, true, false, not, List, [], ◌∷◌, Option, Some, None, All, length, map}
+use Rattle.std.specs.Prelude.{◌≡◌, ◌<◌, ◌≤◌, ◌⊎◌, ◌||◌, ℕ, ℤ, pos, Bool, true, false, not, List, [], ◌∷◌, Option, Some, None, All, is_some, length, map}
 use Rattle.std.specs.List.{filter_map, list_any, range_with_len, slice_get}
 use Rattle.comm_groups.specs.Grids.{AreParts, kept, size_within}
 use Rattle.comm_groups.specs.Groups.{has}
@@ -58,6 +58,39 @@ Says ranks said x (Some here) = said_by said (making_at ranks here.rank here.at)
 abbrev pub AllSay : {X : Type 0} → List RankCalls → (Making → Option X) → X → List (Option Here) → Type 0
 AllSay ranks said x all = All (Says ranks said x) all
 
+-- nothing is said, or this
+abbrev pub IsOrNone : {X : Type 0} → X → Option X → Type 0
+IsOrNone x None = Unit {0}
+IsOrNone x (Some said) = said ≡ x
+
+-- A call that is there says this or nothing.
+abbrev pub MaySay : {X : Type 0} → List RankCalls → (Making → Option X) → X → Option Here → Type 0
+MaySay ranks said x None = Unit {0}
+MaySay ranks said x (Some here) = IsOrNone x (said_by said (making_at ranks here.rank here.at))
+
+-- A call that is there says nothing.
+abbrev pub IsSilent : {X : Type 0} → List RankCalls → (Making → Option X) → Option Here → Type 0
+IsSilent ranks said None = Unit {0}
+IsSilent ranks said (Some here) = said_by said (making_at ranks here.rank here.at) ≡ None
+
+-- the first calls say nothing
+pub record AreSilentTo {X : Type 0} (ranks : List RankCalls) (said : Making → Option X) (all : List (Option Here)) (count : ℕ) : Type 0 where
+  pub each : (place : ℕ) (here : Option Here) → slice_get all place ≡ Some here → place < count → IsSilent ranks said here
+
+-- No call says anything.
+pub record AreSilent {X : Type 0} (ranks : List RankCalls) (said : Making → Option X) (all : List (Option Here)) : Type 0 where
+  pub each : (place : ℕ) (here : Option Here) → slice_get all place ≡ Some here → IsSilent ranks said here
+
+-- Those of the calls that say something say the same, which fits.
+pub record AreAlike {X : Type 0} (ranks : List RankCalls) (said : Making → Option X) (fits : X → Bool) (all : List (Option Here)) : Type 0 where
+  pub x : X
+  pub same : All (MaySay ranks said x) all
+  pub fit : fits x ≡ true
+
+-- No call says anything, or those that do say the same, which fits.
+abbrev pub AreSaidAlike : {X : Type 0} → List RankCalls → (Making → Option X) → (X → Bool) → List (Option Here) → Type 0
+AreSaidAlike ranks said fits all = AreSilent ranks said all ⊎ AreAlike ranks said fits all
+
 -- A split needs the call of each member.
 pub record IsSplitMade (ranks : List RankCalls) (all : List (Option Here)) (parts : List Selection) : Type 0 where
   pub readable : some_unknown ranks all ≡ false
@@ -96,8 +129,19 @@ pub record IsKnownGrid (ranks : List RankCalls) (views : List RankView) (all : L
   pub same_reorder : AllSay ranks reorder_in reorder all
   pub made : IsOfMany views all reorder size (Some dims) parts
 
--- A grid or a graph, whatever dimensions or nodes its calls say: all of them say that its members may be ordered anew.
+-- these dimensions are those of a grid of some of so many members
+abbrev pub dims_fit : ℕ → List ℕ → Bool
+dims_fit members dims = is_some (size_within members dims)
+
+-- A grid whose members may be ordered anew, as all calls say. Those that say dimensions say the same, but not all do, or the
+-- communicator would have them.
 pub record IsUnknownGrid (ranks : List RankCalls) (views : List RankView) (all : List (Option Here)) (parts : List Selection) : Type 0 where
+  pub alike : AreSaidAlike ranks dims_in (dims_fit (length all)) all
+  pub reorders : AllSay ranks reorder_in true all
+  pub made : IsReordered views all None parts
+
+-- A graph, whatever number of nodes its calls say: all of them say that its members may be ordered anew.
+pub record IsUnknownGraph (ranks : List RankCalls) (views : List RankView) (all : List (Option Here)) (parts : List Selection) : Type 0 where
   pub reorders : AllSay ranks reorder_in true all
   pub made : IsReordered views all None parts
 
@@ -116,7 +160,7 @@ IsGrid ranks views all parts = IsKnownGrid ranks views all parts ⊎ IsUnknownGr
 
 -- A graph, of which the number of nodes is known or not.
 abbrev pub IsGraph : List RankCalls → List RankView → List (Option Here) → List Selection → Type 0
-IsGraph ranks views all parts = IsKnownGraph ranks views all parts ⊎ IsUnknownGrid ranks views all parts
+IsGraph ranks views all parts = IsKnownGraph ranks views all parts ⊎ IsUnknownGraph ranks views all parts
 
 -- A distributed graph: all members of the parent, or where they may be ordered anew those that get it.
 abbrev pub IsDistGraph : List RankView → List (Option Here) → Bool → List Selection → Type 0

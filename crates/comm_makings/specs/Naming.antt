@@ -3,7 +3,7 @@ use Rattle.std.specs.Prelude.{◌≡◌, ℕ, ◌+◌, ◌==◌, Bool, true, fal
 use Rattle.std.specs.Option.{option_and_then}
 use Rattle.indexmap.specs.IndexMap.{IndexMap, get}
 use Rattle.mpi_model.specs.declared.layout.comm.Stretch.{Stretch}
-use Rattle.comm_makings.specs.Names.{always, gives_of, group_at, handles_after, handles_ended, is_taken, name_after, name_ended, number_given}
+use Rattle.comm_makings.specs.Names.{always, gives_of, group_at, handles_after, handles_ended, is_taken, name_after, name_ended, next_call, number_given}
 use Rattle.comm_makings.specs.declared.calls.Action.{Action}
 use Rattle.comm_makings.specs.declared.calls.Action.TheVariants as actions
 use Rattle.comm_makings.specs.declared.calls.CommCall.{CommCall}
@@ -62,7 +62,9 @@ comm_named (actions.Make parent making given) = parent
 comm_named (actions.CommRank comm rank) = comm
 comm_named (actions.Free comm) = comm
 comm_named (actions.Group group given) = comm_of_group group
-comm_named (actions.GivesComm given) = None
+comm_named (actions.GivesComm comm given) = comm
+comm_named (actions.MakeObject maker parent given) = parent
+comm_named (actions.EndObject object number) = None
 
 -- the group that a making names
 abbrev pub group_of_making : Making → GroupName
@@ -103,7 +105,7 @@ second_named _ = named.Unknown
 -- what a call gives
 abbrev pub gives_by : (ℕ → Bool) → ℕ → Bool → Action → Gives
 gives_by taken place returned (actions.Make parent making given) = gives_of taken returned given place
-gives_by taken place returned (actions.GivesComm given) = gives_of taken returned given place
+gives_by taken place returned (actions.GivesComm comm given) = gives_of taken returned given place
 gives_by taken place returned _ = gives.Nothing
 
 -- what a call gives, as these names say
@@ -147,7 +149,7 @@ with_number names call number = after_number (taken_by names) (naming_of names) 
 abbrev pub with_given : Names → CommCall → Given → Naming
 with_given names call given = after_given (taken_by names) (naming_of names) call given
 
--- what the numbers mean behind a call that frees a communicator
+-- what the numbers mean from a call on, before which one freed a communicator: the call that frees it still names it
 abbrev pub after_free : (ℕ → Bool) → Naming → ℕ → Option ℕ → Naming
 after_free taken naming call None = naming
 after_free taken naming call (Some number) = record {
@@ -180,9 +182,11 @@ after_group at naming call given = record { handles = naming.handles; comms = na
 abbrev pub after_action : (ℕ → Bool) → ℕ → Naming → CommCall → Action → Naming
 after_action taken at naming call (actions.Make parent making given) = after_given taken naming call given
 after_action taken at naming call (actions.CommRank comm rank) = naming
-after_action taken at naming call (actions.Free comm) = after_free taken naming call.call comm
+after_action taken at naming call (actions.Free comm) = after_free taken naming (next_call call.call) comm
 after_action taken at naming call (actions.Group group given) = after_group at naming call given
-after_action taken at naming call (actions.GivesComm given) = after_given taken naming call given
+after_action taken at naming call (actions.GivesComm comm given) = after_given taken naming call given
+after_action taken at naming call (actions.MakeObject maker parent given) = naming
+after_action taken at naming call (actions.EndObject object number) = naming
 
 -- what the numbers mean behind a call, which stands at this place of the rank's list
 abbrev pub naming_after : (ℕ → Bool) → ℕ → Naming → CommCall → Naming

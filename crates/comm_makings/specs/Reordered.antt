@@ -5,19 +5,12 @@ use Rattle.std.specs.Option.{option_and_then, option_map}
 use Rattle.std.specs.declared.alloc.Global.{Global}
 use Rattle.comm_groups.specs.Orders.{IsOrderOf, are_each_once}
 use Rattle.comm_makings.specs.Each.{list_in}
-use Rattle.comm_makings.specs.Here.{handle_of}
+use Rattle.comm_makings.specs.Here.{gives_some, handle_of}
 use Rattle.comm_makings.specs.Parts.{IsOne}
-use Rattle.comm_makings.specs.declared.handle.Gives.{Gives}
-use Rattle.comm_makings.specs.declared.handle.Gives.TheVariants as gives
 use Rattle.comm_makings.specs.declared.here.Here.{Here}
 use Rattle.comm_makings.specs.declared.parts.Outcome.{Outcome}
 use Rattle.comm_makings.specs.declared.parts.Outcome.TheVariants as outcomes
 use Rattle.comm_makings.specs.declared.view.RankView.{RankView}
-
--- The call returned.
-abbrev pub gives_some : Gives → Bool
-gives_some gives.Nothing = false
-gives_some _ = true
 
 -- The member has a call that returned.
 abbrev pub is_returned : Option Here → Bool

@@ -1,11 +1,12 @@
 -- What is derived so far is right: each communicator and each group is one that derives, and a handle that stands for a
 -- derived communicator is that of one of its members.
-use Rattle.std.specs.Prelude.{◌≡◌, ◌⊎◌, ℕ, List, Option, Some, None, Vec}
+use Rattle.std.specs.Prelude.{◌≡◌, ◌⊎◌, ◌+◌, ℕ, Bool, true, false, List, Option, Some, None, Vec, length}
 use Rattle.std.specs.List.{slice_get}
 use Rattle.std.specs.Option.{option_and_then}
 use Rattle.std.specs.declared.alloc.Global.{Global}
-use Rattle.comm_makings.specs.Derives.{Derives, communicator, ranks_of, member_with, members_at, ranks_in}
+use Rattle.comm_makings.specs.Derives.{Derives, communicator, kth_calls, member_with, members_at, ranks_in, ranks_of, read_to}
 use Rattle.comm_makings.specs.Each.{list_in}
+use Rattle.comm_makings.specs.Made.{IsMakingOrder}
 use Rattle.comm_makings.specs.Selection.{Selection}
 use Rattle.comm_makings.specs.declared.calls.RankCalls.{RankCalls}
 use Rattle.comm_makings.specs.declared.group_value.GroupValue.{GroupValue}
@@ -16,8 +17,12 @@ use Rattle.comm_makings.specs.declared.parts.Outcome.{Outcome}
 use Rattle.comm_makings.specs.declared.parts.Outcome.TheVariants as outcomes
 use Rattle.comm_makings.specs.declared.run.Gained.{Gained}
 use Rattle.comm_makings.specs.declared.run.Gained.TheVariants as gains
+use Rattle.comm_makings.specs.declared.run.Run.{Run}
 use Rattle.comm_makings.specs.declared.state.Made.{Made}
 use Rattle.comm_makings.specs.declared.state.Member.{Member}
+use Rattle.comm_makings.specs.declared.state.Order.{Order}
+use Rattle.comm_makings.specs.declared.state.Progress.{Progress}
+use Rattle.comm_makings.specs.declared.state.Progress.TheVariants as progress
 use Rattle.comm_makings.specs.declared.state.HandleState.{HandleState}
 use Rattle.comm_makings.specs.declared.state.HandleState.TheVariants as standings
 use Rattle.comm_makings.specs.declared.view.RankView.{RankView}
@@ -28,7 +33,7 @@ dims_of comm = list_in comm.dims
 
 -- a communicator that derives, with its ranks beside its members
 pub record IsDerivedComm (ranks : List RankCalls) (views : List RankView) (comm : Made) : Type 0 where
-  pub derives : Derives ranks views (communicator comm.members.items (dims_of comm))
+  pub derives : Derives ranks views (communicator comm.members.items (dims_of comm) comm.order)
   pub same_ranks : comm.ranks.items ≡ ranks_in comm.members.items
 
 -- Each of these communicators derives.
@@ -76,12 +81,32 @@ pub record AreDerivedGroups (ranks : List RankCalls) (views : List RankView) (co
 pub record AreAllDerivedGroups (ranks : List RankCalls) (views : List RankView) (comms : List Made) (rows : List (Vec GroupValue Global)) : Type 0 where
   pub each : (rank : ℕ) (row : Vec GroupValue Global) → slice_get rows rank ≡ Some row → AreDerivedGroups ranks views comms rank row.items
 
+-- So many makings of the communicator at a place are read.
+pub record IsReadTo (ranks : List RankCalls) (views : List RankView) (comms : List Made) (at k : ℕ) : Type 0 where
+  pub comm : Made
+  pub here : slice_get comms at ≡ Some comm
+  pub reads : Derives ranks views (read_to comm.members.items (dims_of comm) k)
+
+-- As many makings of each communicator are read as is noted, where it isn't over.
+pub record AreRead (ranks : List RankCalls) (views : List RankView) (comms : List Made) (next : List Progress) : Type 0 where
+  pub each : (at k : ℕ) → slice_get next at ≡ Some (progress.At k) → IsReadTo ranks views comms at k
+
+-- a communicator stays at its place
+pub record KeepsComms (old new : List Made) : Type 0 where
+  pub each : (at : ℕ) (comm : Made) → slice_get old at ≡ Some comm → slice_get new at ≡ Some comm
+
 -- What is derived so far is right: the communicators and groups derive, and handles stand for communicators only as
 -- those of members.
-pub record IsRight (ranks : List RankCalls) (views : List RankView) (stand : List (Vec HandleState Global)) (groups : List (Vec GroupValue Global)) (comms : List Made) : Type 0 where
+pub record IsRight (ranks : List RankCalls) (views : List RankView) (stand : List (Vec HandleState Global)) (groups : List (Vec GroupValue Global)) (comms : List Made) (next : List Progress) : Type 0 where
   pub comms_derive : AreDerived ranks views comms
   pub handles_named : AreMembers comms stand
   pub groups_derive : AreAllDerivedGroups ranks views comms groups
+  pub read : AreRead ranks views comms next
+  pub read_each : length next ≡ length comms
+
+-- The same of a run.
+abbrev pub IsRun : List RankCalls → List RankView → Run → Type 0
+IsRun ranks views run = IsRight ranks views run.standings.items run.values.items run.comms.items run.next.items
 
 -- A handle stands for a derived communicator only where it did before.
 pub record KeepsDerived (old new : List (Vec HandleState Global)) : Type 0 where
@@ -131,16 +156,31 @@ parts_in _ = None
 abbrev pub IfParts : (List Selection → Type 0) → Outcome → Type 0
 IfParts P outcome = (parts : List Selection) → parts_in outcome ≡ Some parts → P parts
 
--- Each communicator of the outcome derives.
-pub record IsDerivedOutcome (ranks : List RankCalls) (views : List RankView) (members : List Member) (all : List (Option Here)) (outcome : Outcome) : Type 0 where
-  pub each : (parts : List Selection) (at : ℕ) (part : Selection) → parts_in outcome ≡ Some parts → slice_get parts at ≡ Some part
-      → Derives ranks views (communicator (members_at members all part.places) part.dims)
+-- the making is read: what it makes is told, or it is merely left out
+abbrev pub is_read : Outcome → Bool
+is_read (outcomes.Parts made) = true
+is_read outcomes.Untold = true
+is_read outcomes.Unsound = false
+is_read outcomes.Waits = false
+
+-- These are the k-th calls of the members of a parent, before which all makings are read.
+pub record AreNext (ranks : List RankCalls) (views : List RankView) (members : List Member) (dims : Option (List ℕ)) (all : List (Option Here)) (k : ℕ) : Type 0 where
+  pub calls : all ≡ kth_calls ranks views k members
+  pub reads : Derives ranks views (read_to members dims k)
+
+-- Where all makings before are read, each communicator of the outcome derives, and the making is read unless it is unsound.
+pub record IsDerivedOutcome (ranks : List RankCalls) (views : List RankView) (members : List Member) (dims : Option (List ℕ)) (all : List (Option Here)) (outcome : Outcome) : Type 0 where
+  pub each : (k : ℕ) (parts : List Selection) (at : ℕ) (part : Selection) (order : Order) → AreNext ranks views members dims all k
+      → parts_in outcome ≡ Some parts → slice_get parts at ≡ Some part → IsMakingOrder part.places all order
+      → Derives ranks views (communicator (members_at members all part.places) part.dims order)
+  pub read : (k : ℕ) → AreNext ranks views members dims all k → is_read outcome ≡ true → Derives ranks views (read_to members dims (k + 1))
 
 -- the communicator of a part, as its members' calls give it
 pub record IsMadeOf (members : List Member) (all : List (Option Here)) (part : Selection) (comm : Made) : Type 0 where
   pub chosen : comm.members.items ≡ members_at members all part.places
   pub same_ranks : comm.ranks.items ≡ ranks_in comm.members.items
   pub dims : dims_of comm ≡ part.dims
+  pub order : IsMakingOrder part.places all comm.order
 
 -- the communicator of one of these parts
 abbrev pub IsOfPart : List Member → List (Option Here) → List Selection → Made → Type 0
@@ -150,15 +190,33 @@ IsOfPart members all parts comm = (i : ℕ) × (part : Selection) × (slice_get 
 pub record AreMadeOf (members : List Member) (all : List (Option Here)) (parts : List Selection) (made : List Made) : Type 0 where
   pub each : (at : ℕ) (comm : Made) → slice_get made at ≡ Some comm → IsOfPart members all parts comm
 
--- the communicators that a making gives
-abbrev pub IsOfDerived : List RankCalls → List RankView → Gained → Type 0
-IsOfDerived ranks views (gains.Comms made) = AreDerived ranks views made.items
-IsOfDerived ranks views gains.Untold = Unit {0}
-IsOfDerived ranks views gains.Unsound = Unit {0}
-IsOfDerived ranks views gains.Waits = Unit {0}
+-- the communicators that a making gives are such
+abbrev pub IfComms : (List Made → Type 0) → Gained → Type 0
+IfComms P (gains.Comms made) = P made.items
+IfComms P gains.Untold = Unit {0}
+IfComms P gains.Unsound = Unit {0}
+IfComms P gains.Waits = Unit {0}
+
+-- the making is read
+abbrev pub is_gained : Gained → Bool
+is_gained (gains.Comms made) = true
+is_gained gains.Untold = true
+is_gained gains.Unsound = false
+is_gained gains.Waits = false
+
+-- the same, or unsound in place of one that waits
+abbrev pub IsEnded : Gained → Gained → Type 0
+IsEnded gains.Waits ended = is_gained ended ≡ false
+IsEnded gained ended = ended ≡ gained
+
+-- Where all makings before are read, the communicators that one gives derive, and it is read unless it is unsound.
+pub record IsOfDerived (ranks : List RankCalls) (views : List RankView) (members : List Member) (dims : Option (List ℕ)) (all : List (Option Here)) (gained : Gained) : Type 0 where
+  pub comms : (k : ℕ) → AreNext ranks views members dims all k → IfComms (AreDerived ranks views) gained
+  pub read : (k : ℕ) → AreNext ranks views members dims all k → is_gained gained ≡ true → Derives ranks views (read_to members dims (k + 1))
 
 -- a communicator that is there from the first call on
-pub record IsFirstComm (members : List Member) (comm : Made) : Type 0 where
+pub record IsFirstComm (members : List Member) (placed : Order) (comm : Made) : Type 0 where
   pub same : comm.members.items ≡ members
   pub same_ranks : comm.ranks.items ≡ ranks_in members
   pub dims : dims_of comm ≡ None
+  pub order : comm.order ≡ placed

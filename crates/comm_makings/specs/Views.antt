@@ -1,9 +1,12 @@
 -- What a rank called on each of its communicators.
-use Rattle.std.specs.Prelude.{◌≡◌, ℕ, ◌+◌, ◌==◌, ◌&&◌, Bool, true, false, not, List, [], ◌∷◌, Option, Some, None, cond, length}
+use Rattle.std.specs.Prelude.{◌≡◌, ◌⊎◌, ◌<◌, ℕ, ◌+◌, ◌==◌, ◌&&◌, Bool, true, false, not, List, [], ◌∷◌, Option, Some, None, cond, is_some, length, unwrap_or}
 use Rattle.std.specs.List.{slice_get}
+use Rattle.std.specs.Option.{option_and_then, option_map}
+use Rattle.mpi_model.specs.declared.object.Object.TheVariants as objects
 use Rattle.comm_makings.specs.Each.{EachIs, ListsAre}
 use Rattle.comm_makings.specs.Here.{making_of}
 use Rattle.comm_makings.specs.Naming.{handles_of, meant_of}
+use Rattle.comm_makings.specs.Objects.{IsObjectView}
 use Rattle.comm_makings.specs.declared.calls.Action.{Action}
 use Rattle.comm_makings.specs.declared.calls.Action.TheVariants as actions
 use Rattle.comm_makings.specs.declared.calls.CommCall.{CommCall}
@@ -66,13 +69,36 @@ first_told_on handle [] meant = None
 first_told_on handle (call ∷ calls) [] = None
 first_told_on handle (call ∷ calls) (here ∷ meant) = told_before handle here.comm (rank_told call.returned call.action) (first_told_on handle calls meant)
 
+-- the handle that a call names, by its place
+abbrev pub comm_at : List Meant → ℕ → Option ℕ
+comm_at meant at = option_and_then (λ m. m.comm) (slice_get meant at)
+
+-- the call makes communicators, of a parent that is unknown
+abbrev pub is_orphan : CommCall → Option ℕ → Bool
+is_orphan call parent = is_some (making_of call.action) && not (is_some parent)
+
+-- the same of the call at a place, where there is one
+abbrev pub is_orphan_at : List CommCall → List Meant → ℕ → Bool
+is_orphan_at calls meant at = unwrap_or (option_map (λ call. is_orphan call (comm_at meant at)) (slice_get calls at)) false
+
+-- The first call that makes communicators of an unknown parent stands at this place; where none does, it is behind the last.
+pub record IsEnd (calls : List CommCall) (meant : List Meant) (end : ℕ) : Type 0 where
+  pub none : (at : ℕ) → at < end → is_orphan_at calls meant at ≡ false
+  pub one : (end ≡ length calls) ⊎ (is_orphan_at calls meant end ≡ true)
+
 -- What a rank's numbers mean, and what it called on each handle.
 pub record IsView (world : ℕ) (calls : RankCalls) (view : RankView) : Type 0 where
   pub handles : view.handles.items ≡ handles_of world calls.own calls.calls.items
   pub meant : view.meant.items ≡ meant_of world calls.own calls.calls.items
   pub makings : ListsAre view.makings.items (λ handle. makings_on false handle 0 calls.calls.items view.meant.items)
+  pub makings_each : length view.makings.items ≡ length view.handles.items
   pub by_group : ListsAre view.by_group.items (λ handle. makings_on true handle 0 calls.calls.items view.meant.items)
+  pub by_group_each : length view.by_group.items ≡ length view.handles.items
   pub told : EachIs view.told.items (λ handle. first_told_on handle calls.calls.items view.meant.items)
+  pub told_each : length view.told.items ≡ length view.handles.items
+  pub end : IsEnd calls.calls.items view.meant.items view.end
+  pub windows : IsObjectView objects.Window calls.calls.items view.meant.items (length view.handles.items) view.windows
+  pub files : IsObjectView objects.File calls.calls.items view.meant.items (length view.handles.items) view.files
 
 -- those of all ranks
 pub record AreViews (world : ℕ) (ranks : List RankCalls) (views : List RankView) : Type 0 where

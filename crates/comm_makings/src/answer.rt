@@ -7,7 +7,7 @@ use mpi_model::Comm;
 pub struct Derived {
     /// The number of MPI_COMM_WORLD, 2 where no rank tells it.
     pub world: u32,
-    /// The world, and the communicators that some call of the profile names, in the order of a layout.
+    /// The world, and the communicators, windows and files that some call of the profile names, in the order of a layout.
     pub comms: Vec<Comm>,
     /// What is left out, by rank and then by call.
     pub left_out: Vec<LeftOut>,

@@ -8,7 +8,7 @@ ghost use Rattle.comm_makings.specs.ByGroups.{AreFound, AreFoundSame, AreOfCalls
 ghost use Rattle.comm_makings.specs.Derives.{tag_in};
 ghost use Rattle.comm_makings.specs.Makes.{said_by};
 ghost use Rattle.comm_makings.specs.Offers.{AreRanked};
-ghost use Rattle.comm_makings.specs.State.{AreDerived, IsMadeOf, IsRight};
+ghost use Rattle.comm_makings.specs.State.{AreDerived, IsMadeOf, IsRun};
 
 use crate::calls::{Making, RankCalls};
 use crate::creates::{group_of, places_by_rank, places_of};
@@ -589,7 +589,7 @@ pub(crate) fn found_at(
     at: usize,
     last: bool,
 ) -> Result<Found, AllocError>
-    requires { IsRight ranks.now views.now run.now.standings.items run.now.values.items run.now.comms.items }
+    requires { IsRun ranks.now views.now run.now }
     ensures { IfOk result (λ found. AreDerived ranks.now views.now found.made.items) }
 {
     let Some(parent) = comm_at(&run.comms, at) else {

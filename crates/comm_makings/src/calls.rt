@@ -1,6 +1,11 @@
-//! What the calls of a rank say of communicators and groups.
+//! What the calls of a rank say of communicators and groups, windows and files.
 
-/// What the calls of a rank say of its communicators and groups.
+ghost use Rattle.std.specs.Prelude.{◌≡◌};
+ghost use Rattle.comm_makings.specs.Objects.{object_made};
+
+use mpi_model::Object;
+
+/// What the calls of a rank say of its communicators and groups, windows and files.
 #[derive(Drop)]
 pub struct RankCalls {
     /// The number of MPI_COMM_WORLD, where some call of the rank says it.
@@ -9,10 +14,14 @@ pub struct RankCalls {
     pub own: Option<u32>,
     /// The size of MPI_COMM_WORLD, where some call of the rank tells it.
     pub size: Option<u32>,
-    /// The calls that make, name or free communicators and groups, in the rank's order.
+    /// The calls that make, name or free communicators and groups, windows and files, in the rank's order.
     pub calls: Vec<CommCall>,
-    /// Where the calls of the profile name which numbers.
+    /// Where the other calls of the profile name which numbers of communicators.
     pub uses: Vec<Uses>,
+    /// The same of windows.
+    pub windows: Vec<Uses>,
+    /// The same of files.
+    pub files: Vec<Uses>,
 }
 
 /// Calls of the profile that name a number, between two calls of the rank that give or free that number.
@@ -60,10 +69,46 @@ pub enum Action {
         group: GroupCall,
         given: GroupName,
     },
-    /// Another call that gives a communicator: nothing is derived from it.
+    /// Another call that gives a communicator: nothing is derived from it. It may be one on a communicator.
     GivesComm {
+        comm: Option<u32>,
         given: Given,
     },
+    /// A call that makes a window or a file of the members of a communicator, and the number that it gives, where it gives
+    /// one that can be read.
+    MakeObject {
+        maker: ObjectMaker,
+        parent: Option<u32>,
+        given: Option<u32>,
+    },
+    /// MPI_Win_free or MPI_File_close.
+    EndObject {
+        object: Object,
+        number: Option<u32>,
+    },
+}
+
+/// The calls that make windows (MPI 4.0, 12.2) and files (14.2.1).
+#[derive(Clone, Copy, Debug, PartialEq, Eq)]
+pub enum ObjectMaker {
+    WinCreate,
+    WinAllocate,
+    WinAllocateShared,
+    WinCreateDynamic,
+    FileOpen,
+}
+
+/// The sort of what a call makes.
+pub fn object_made(maker: ObjectMaker) -> Object
+    ensures { result ≡ object_made maker }
+{
+    match maker {
+        ObjectMaker::WinCreate
+        | ObjectMaker::WinAllocate
+        | ObjectMaker::WinAllocateShared
+        | ObjectMaker::WinCreateDynamic => Object::Window,
+        ObjectMaker::FileOpen => Object::File,
+    }
 }
 
 /// The calls that make communicators of a parent, with their parameters.

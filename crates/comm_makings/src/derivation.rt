@@ -1,17 +1,18 @@
 //! From what the ranks called to their communicators.
 
 ghost use Rattle.std.specs.Prelude.{◌≡◌, ◌≢◌, ◌<◌, ◌^◌, IfErr, IfOk, None, OnOk, Some, length};
-ghost use Rattle.comm_makings.specs.Derived.{IsSound};
+ghost use Rattle.comm_makings.specs.Derived.{IsDerivedFrom, IsSound};
+ghost use Rattle.comm_makings.specs.State.{IsRun};
 ghost use Rattle.comm_makings.specs.Views.{AreViews};
 ghost use Rattle.comm_makings.specs.World.{first_told, other_told, world_fault, world_of};
-ghost use Rattle.comm_makings.specs.Written.{IsWritten};
 ghost use Rattle.comm_makings.specs.declared.answer.DeriveFault.TheVariants.{Memory};
 
 use crate::answer::{DeriveFault, Derived};
 use crate::calls::RankCalls;
 use crate::left::left_out;
+use crate::objects::objects_of;
 use crate::run::{Run, run_of};
-use crate::uses::{HandleUses, uses_of_all};
+use crate::uses::all_uses;
 use crate::view::{RankView, views_of};
 use crate::written::written;
 use std::alloc::{AllocError, Global};
@@ -76,20 +77,26 @@ fn world_of(ranks: &[RankCalls]) -> Result<u32, DeriveFault>
 }
 
 /// What derives as a layout has it, and what is left out.
+#[tactic(auto, using(crate::proofs::Accounts::derives, crate::proofs::Accounts::sounds))]
 fn answer_of(
     alloc: Global,
     world: u32,
     ranks: &[RankCalls],
     views: &[RankView],
-    run: &Run,
-    uses: &[HandleUses],
+    mut run: Run,
 ) -> Result<Derived, AllocError>
-    requires { length ranks.now < 2 ^ 32 }
-    ensures world { IfOk result (λ d. d.world ≡ world) }
-    ensures written { IfOk result (λ d. IsWritten world (length ranks.now) views.now uses.now run.now.comms.items d.comms.items) }
+    requires few { length ranks.now < 2 ^ 32 }
+    requires world { world ≡ world_of ranks.now }
+    requires views { AreViews world ranks.now views.now }
+    requires right { IsRun ranks.now views.now run }
+    ensures derived { IfOk result (IsDerivedFrom ranks.now) }
+    ensures sound { IfOk result (λ d. IsSound (world_of ranks.now) ranks.now d.comms.items) }
 {
-    let left_out = left_out(alloc, ranks, views, &run.standings, uses)?;
-    let comms = written(alloc, world, ranks.len() as u32, views, uses, &run.comms)?;
+    let uses = all_uses(alloc, ranks, views)?;
+    let left_out = left_out(alloc, ranks, views, &uses.comms, &run.standings)?;
+    let mut objects = objects_of(alloc, ranks, views, &run.comms)?;
+    run.comms.append(&mut objects)?;
+    let comms = written(alloc, world, ranks.len() as u32, views, &uses, &run.comms)?;
     Ok(Derived {
         world,
         comms,
@@ -97,35 +104,19 @@ fn answer_of(
     })
 }
 
-/// What derives from what the ranks called on each of their handles.
-#[tactic(auto, using(crate::proofs::Derivations::written_derives))]
-fn derived_from(
-    alloc: Global,
-    world: u32,
-    ranks: &[RankCalls],
-    views: &[RankView],
-) -> Result<Derived, AllocError>
-    requires few { length ranks.now < 2 ^ 32 }
-    requires views { AreViews world ranks.now views.now }
-    ensures world { IfOk result (λ d. d.world ≡ world) }
-    ensures sound { IfOk result (λ d. IsSound world ranks.now d.comms.items) }
-{
-    let run = run_of(alloc, ranks, views)?;
-    let uses = uses_of_all(alloc, ranks, views)?;
-    answer_of(alloc, world, ranks, views, &run, &uses)
-}
-
-/// The communicators that the calls of the ranks make: the world, and those that calls of the profile name, as a layout
-/// has them. Time and memory grow with the calls on communicators and groups and the members of what they make, not with
-/// all calls.
+/// The communicators, windows and files that the calls of the ranks make: the world, and those that calls name, as a layout
+/// has them. Time and memory grow with the calls on communicators and groups, windows and files and the members of what they
+/// make, not with all calls.
 pub fn derive(alloc: Global, ranks: &[RankCalls]) -> Result<Derived, DeriveFault>
     requires { length ranks.now < 2 ^ 32 }
     ensures world { IfOk result (λ d. d.world ≡ world_of ranks.now) }
     ensures none { OnOk result (world_fault ranks.now ≡ None) }
     ensures fault { IfErr result (λ e. e ≢ Memory → world_fault ranks.now ≡ Some e) }
+    ensures derived { IfOk result (IsDerivedFrom ranks.now) }
     ensures sound { IfOk result (λ d. IsSound (world_of ranks.now) ranks.now d.comms.items) }
 {
     let world = world_of(ranks)?;
     let views = views_of(alloc, world, ranks)?;
-    Ok(derived_from(alloc, world, ranks, &views)?)
+    let run = run_of(alloc, ranks, &views)?;
+    Ok(answer_of(alloc, world, ranks, &views, run)?)
 }

@@ -1,17 +1,16 @@
 //! Makings that give a communicator a topology (MPI 4.0, chapter 8).
 
-ghost use Rattle.std.specs.Prelude.{◌≡◌, ◌≤◌, ◌<◌, ◌^◌, ◌↔◌, IfOk, IfSome, IsTrue, false, length, pos, true};
+ghost use Rattle.std.specs.Prelude.{◌≡◌, ◌≤◌, ◌<◌, ◌^◌, ◌↔◌, IfOk, IfSome, IsTrue, None, false, length, pos, true};
 ghost use Rattle.std.specs.List.{filter_map, list_all, slice_get};
 ghost use Rattle.std.specs.Option.{option_copied};
 ghost use Rattle.comm_makings.specs.Each.{list_in};
-ghost use Rattle.comm_makings.specs.Makes.{AllSay, IsDistGraphMade, IsGraph, IsGrid, IsPartOfGrid, IsTopology, Says, dims_in, nodes_in, remain_in, reorder_in, said_by};
+ghost use Rattle.comm_makings.specs.Makes.{AllSay, AreSaidAlike, AreSilent, IsDistGraphMade, IsGraph, IsGrid, IsPartOfGrid, IsSilent, IsTopology, MaySay, Says, dims_fit, dims_in, nodes_in, remain_in, reorder_in, said_by};
 ghost use Rattle.comm_makings.specs.Parts.{IsUnsound, IsUntold};
-ghost use Rattle.comm_makings.specs.Reordered.{AreReturned, IsInToldOrder, IsOfTold, differs, given_places, gives_some, is_returned, others_given, told_at, told_here, told_ranks};
+ghost use Rattle.comm_makings.specs.Reordered.{AreReturned, IsInToldOrder, IsOfTold, differs, given_places, is_returned, others_given, told_at, told_here, told_ranks};
 ghost use Rattle.comm_makings.specs.State.{IfParts, dims_of};
 
 use crate::calls::{Making, RankCalls};
-use crate::handle::Gives;
-use crate::here::{Here, first_of, handle_of, making_at};
+use crate::here::{Here, first_of, gives_some, handle_of, making_at};
 use crate::parts::{Outcome, first_part, grid_outcome, one_part};
 use crate::state::{Made, copy_of};
 use crate::view::RankView;
@@ -209,25 +208,52 @@ fn agreed_remain<'a>(ranks: &'a [RankCalls], all: &[Option<Here>]) -> Option<&'a
     }
 }
 
-/// Whether the calls that say dimensions differ in them, or say what no grid of this many ranks has.
-fn wrong_dims(ranks: &[RankCalls], all: &[Option<Here>], members: u32) -> bool {
-    let mut said: Option<&[u32]> = None;
+/// The dimensions that the call says, where it is there.
+fn dims_at(ranks: &[RankCalls], here: Option<Here>) -> Option<&[u32]>
+    ensures { option_copied result ≡ None → IsSilent ranks.now dims_in here }
+{
+    let here = here?;
+    dims_of(making_at(ranks, here.rank, here.at))
+}
+
+/// The dimensions that the first of the calls says which says some.
+#[tactic(auto, using(crate::proofs::GridParts::silent_none, crate::proofs::GridParts::silent_more, crate::proofs::GridParts::silent_all))]
+fn first_dims<'a>(ranks: &'a [RankCalls], all: &[Option<Here>]) -> Option<&'a [u32]>
+    ensures { option_copied result ≡ None → AreSilent ranks.now dims_in all.now }
+{
     for here in all {
-        if let Some(here) = here {
-            if let Some(dims) = dims_of(making_at(ranks, here.rank, here.at)) {
-                if grid_size(dims, members).is_none() {
-                    return true;
-                }
-                if let Some(before) = said {
-                    if before != dims {
-                        return true;
-                    }
-                }
-                said = Some(dims);
-            }
+        if let Some(dims) = dims_at(ranks, *here) {
+            return Some(dims);
         }
     }
-    false
+    None
+}
+
+/// The call says these dimensions or none, where it is there.
+fn may_say_dims(ranks: &[RankCalls], dims: &[u32], here: Option<Here>) -> bool
+    ensures { IsTrue result ↔ MaySay ranks.now dims_in dims.now here }
+{
+    match here {
+        Some(here) => match dims_of(making_at(ranks, here.rank, here.at)) {
+            Some(said) => said == dims,
+            None => true,
+        },
+        None => true,
+    }
+}
+
+/// Whether the calls that say dimensions say the same, of a grid of this many ranks.
+#[tactic(auto, using(crate::proofs::GridParts::none_said, crate::proofs::GridParts::dims_said))]
+fn dims_alike(ranks: &[RankCalls], all: &[Option<Here>], members: u32) -> bool
+    ensures { result ≡ true → AreSaidAlike ranks.now dims_in (dims_fit members) all.now }
+{
+    let Some(dims) = first_dims(ranks, all) else {
+        return true;
+    };
+    if grid_size(dims, members).is_none() {
+        return false;
+    }
+    all.iter().all(|here| may_say_dims(ranks, dims, *here))
 }
 
 /// So many nodes, where there are none below 0 and none above the members of the parent.
@@ -259,16 +285,6 @@ fn wrong_nodes(ranks: &[RankCalls], all: &[Option<Here>], members: u32) -> bool 
         }
     }
     false
-}
-
-/// Whether the call returned.
-fn gives_some(gives: Gives) -> bool
-    ensures { result ≡ gives_some gives }
-{
-    match gives {
-        Gives::Nothing => false,
-        Gives::Null | Gives::Handle(_) | Gives::Taken(_) | Gives::Unknown => true,
-    }
 }
 
 /// Whether the member has a returned call.
@@ -426,6 +442,7 @@ fn topology(
 }
 
 /// The communicator of a MPI_Cart_create.
+#[tactic(auto, using(crate::proofs::GridParts::unknown_grid))]
 pub(crate) fn cart_outcome(
     alloc: Global,
     ranks: &[RankCalls],
@@ -437,7 +454,7 @@ pub(crate) fn cart_outcome(
     requires members { members ≡ length all.now }
     ensures { IfOk result (IfParts (IsGrid ranks.now views.now all.now)) }
 {
-    if wrong_dims(ranks, all, members) {
+    if !dims_alike(ranks, all, members) {
         return Ok(Outcome::Unsound);
     }
     match agreed_dims(ranks, all) {

@@ -3,7 +3,7 @@
 ghost use Rattle.std.specs.Prelude.{◌≡◌, ◌↔◌, All, IfOk, IsTrue, map};
 ghost use Rattle.std.specs.List.{list_any};
 ghost use Rattle.std.specs.Option.{option_copied};
-ghost use Rattle.comm_makings.specs.Here.{call_at, first_of, function_of, gives_later, gives_unknown, HasFunction, handle_given, handle_of, here_at, is_unreadable, kth_at, kth_call, making_at, making_of, meant_at};
+ghost use Rattle.comm_makings.specs.Here.{call_at, first_of, function_of, gives_later, gives_some, gives_unknown, HasFunction, handle_given, handle_of, here_at, is_unreadable, kth_at, kth_call, making_at, making_of, meant_at};
 
 use crate::answer::MadeBy;
 use crate::calls::{Action, CommCall, Making, RankCalls};
@@ -68,7 +68,9 @@ pub(crate) fn making_of(action: &Action) -> Option<&Making>
         Action::CommRank { .. }
         | Action::Free { .. }
         | Action::Group { .. }
-        | Action::GivesComm { .. } => None,
+        | Action::GivesComm { .. }
+        | Action::MakeObject { .. }
+        | Action::EndObject { .. } => None,
     }
 }
 
@@ -207,6 +209,16 @@ pub(crate) fn some_unknown(all: &[Option<Here>]) -> bool
     ensures { result ≡ list_any gives_unknown all.now }
 {
     all.iter().any(|here| gives_unknown(*here))
+}
+
+/// Whether the call returned.
+pub(crate) fn gives_some(gives: Gives) -> bool
+    ensures { result ≡ gives_some gives }
+{
+    match gives {
+        Gives::Nothing => false,
+        Gives::Null | Gives::Handle(_) | Gives::Taken(_) | Gives::Unknown => true,
+    }
 }
 
 /// The handle that is given, where calls can be known to mean it.

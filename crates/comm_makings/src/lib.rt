@@ -1,7 +1,7 @@
-//! The communicators that the calls of all ranks make: their members in order, and by which number each member names
-//! them over which stretch of its calls (MPI 4.0, chapters 7 and 8).
+//! The communicators, windows and files that the calls of all ranks make: their members in order, and by which number each
+//! member names them over which stretch of its calls (MPI 4.0, chapters 7, 8, 12 and 14).
 //!
-//! It reads no text. Each rank is a plain list of its calls on communicators and groups.
+//! It reads no text. Each rank is a plain list of its calls on communicators and groups, windows and files.
 //!
 //! - [`calls`]: what a rank's calls say; [`answer`]: what is derived from them
 //! - [`handle`], [`names`]: what the numbers in a rank's calls mean; [`view`]: what a rank called on each communicator
@@ -9,6 +9,7 @@
 //! - [`here`]: one making, as each member calls it; [`part`], [`parts`], [`splits`], [`creates`], [`grids`], [`outcomes`]: the members
 //!   of what it makes
 //! - [`by_groups`]: MPI_Comm_create_group; [`run`]: from the world to all that is made of it
+//! - [`object_view`], [`objects`]: windows and files
 //! - [`uses`]: which calls of the profile name which communicators; [`left`]: what is left out; [`written`]: the layout's
 //!   communicators
 //! - [`derivation`]: the way from the calls to all of that
@@ -25,6 +26,8 @@ mod handle;
 mod here;
 mod left;
 mod names;
+mod object_view;
+mod objects;
 mod outcomes;
 mod part;
 mod parts;
@@ -37,6 +40,7 @@ mod written;
 
 pub use answer::{DeriveFault, Derived, LeftOut, MadeBy, Why};
 pub use calls::{
-    Action, Color, CommCall, Given, GroupCall, GroupName, Making, RankCalls, RankRange, Uses,
+    Action, Color, CommCall, Given, GroupCall, GroupName, Making, ObjectMaker, RankCalls,
+    RankRange, Uses, object_made,
 };
 pub use derivation::derive;

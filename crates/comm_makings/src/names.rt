@@ -313,15 +313,18 @@ impl Names {
             Action::Free { comm } => {
                 let meant = naming(self.comm(*comm), Gives::Nothing);
                 if let Some(number) = *comm {
-                    self.end(number, call.call);
+                    self.end(number, call.call.saturating_add(1));
                 }
                 Ok(meant)
             },
             Action::Group { group, given } => self.grouped(call, at, group, *given),
-            Action::GivesComm { given } => {
+            Action::GivesComm { comm, given } => {
+                let comm = self.comm(*comm);
                 let gives = self.give(call, *given)?;
-                Ok(naming(None, gives))
+                Ok(naming(comm, gives))
             },
+            Action::MakeObject { parent, .. } => { Ok(naming(self.comm(*parent), Gives::Nothing)) },
+            Action::EndObject { .. } => Ok(naming(None, Gives::Nothing)),
         }
     }
 }

@@ -1,9 +1,8 @@
 //! What one making makes.
 
-ghost use Rattle.std.specs.Prelude.{◌≡◌, ◌||◌, ℕ, IfOk, IsTrue, Some, false, slice_set, true};
+ghost use Rattle.std.specs.Prelude.{◌≡◌, ◌||◌, IfOk, IsTrue, Some, false, slice_set, true};
 ghost use Rattle.std.specs.List.{list_any};
 ghost use Rattle.comm_groups.specs.Groups.{has};
-ghost use Rattle.comm_makings.specs.Derives.{kth_calls};
 ghost use Rattle.comm_makings.specs.Each.{EachBecomes, EachIs};
 ghost use Rattle.comm_makings.specs.Here.{gives_unknown};
 ghost use Rattle.comm_makings.specs.Makes.{AreGiven, AreGivenBy, IsMadeBy, IsOneMaking, gives_so, is_covered, is_given_so};
@@ -178,10 +177,8 @@ fn making_outcome(
     all: &[Option<Here>],
     function: MadeBy,
 ) -> Result<Outcome, AllocError>
-    requires parent { IsDerivedComm ranks.now views.now parent.now }
-    requires kth { (k : ℕ) × (all.now ≡ kth_calls ranks.now views.now k parent.now.members.items) }
-    requires one { IsOneMaking function all.now }
-    ensures { IfOk result (IsDerivedOutcome ranks.now views.now parent.now.members.items all.now) }
+    requires { IsOneMaking function all.now }
+    ensures { IfOk result (IsDerivedOutcome ranks.now views.now parent.now.members.items (dims_of parent.now) all.now) }
 {
     let made = outcome_of(alloc, ranks, views, parent, all, function)?;
     let outcome = checked(alloc, made, all, gives_later(function))?;
@@ -200,9 +197,8 @@ fn creation_outcome(
 ) -> Result<Outcome, AllocError>
     requires parent { IsDerivedComm ranks.now views.now parent.now }
     requires groups { AreAllDerivedGroups ranks.now views.now comms.now values.now }
-    requires kth { (k : ℕ) × (all.now ≡ kth_calls ranks.now views.now k parent.now.members.items) }
     requires one { IsOneMaking functions.Create all.now }
-    ensures { IfOk result (IsDerivedOutcome ranks.now views.now parent.now.members.items all.now) }
+    ensures { IfOk result (IsDerivedOutcome ranks.now views.now parent.now.members.items (dims_of parent.now) all.now) }
 {
     let made = create_outcome(alloc, values, comms, parent, all)?;
     let outcome = checked(alloc, made, all, false)?;
@@ -217,7 +213,7 @@ fn are_readable(all: &[Option<Here>], later: bool) -> bool
 }
 
 /// What the calls of the members make together.
-#[tactic(auto, using(crate::proofs::Derivations::nothing_derives, crate::proofs::Derivations::one_making))]
+#[tactic(auto, using(crate::proofs::Derivations::unsound_derives, crate::proofs::Derivations::none_here, crate::proofs::Derivations::one_making))]
 pub(crate) fn outcome_in(
     alloc: Global,
     ranks: &[RankCalls],
@@ -229,8 +225,7 @@ pub(crate) fn outcome_in(
 ) -> Result<Outcome, AllocError>
     requires parent { IsDerivedComm ranks.now views.now parent.now }
     requires groups { AreAllDerivedGroups ranks.now views.now comms.now values.now }
-    requires kth { (k : ℕ) × (all.now ≡ kth_calls ranks.now views.now k parent.now.members.items) }
-    ensures { IfOk result (IsDerivedOutcome ranks.now views.now parent.now.members.items all.now) }
+    ensures { IfOk result (IsDerivedOutcome ranks.now views.now parent.now.members.items (dims_of parent.now) all.now) }
 {
     let Some(first) = first_of(all) else {
         return Ok(Outcome::Untold);

@@ -1,24 +1,27 @@
 //! From the world to all communicators that are made of it.
 
-ghost use Rattle.std.specs.Prelude.{◌≡◌, ◌∷◌, ◌<◌, ◌^◌, [], ℕ, IfOk, OnOk, length, map, slice_set};
-ghost use Rattle.std.specs.List.{filter_map};
+ghost use Rattle.std.specs.Prelude.{◌≡◌, ◌∷◌, ◌+◌, ◌<◌, ◌^◌, [], ℕ, IfOk, IfSome, OnOk, Some, length, map, slice_set, true};
+ghost use Rattle.std.specs.List.{filter_map, slice_get};
 ghost use Rattle.std.specs.Option.{option_copied};
-ghost use Rattle.comm_makings.specs.Derives.{group_call_at, kth_calls, member_with, world_members};
+ghost use Rattle.comm_makings.specs.Derives.{group_call_at, member_with, world_members};
 ghost use Rattle.comm_makings.specs.Each.{list_in};
-ghost use Rattle.comm_makings.specs.Made.{member_at};
-ghost use Rattle.comm_makings.specs.State.{AreAllDerivedGroups, AreDerived, AreDerivedGroups, AreMadeOf, AreMembers, AreMembersIn, BindsMember, IsDerivedComm, IsDerivedGroup, IsFirstComm, IsOfDerived, IsRight, KeepsDerived, NamesMembers, NoneListed, NoneListedAt, NoneStands, NoneStandsAt, SetsStanding};
+ghost use Rattle.comm_makings.specs.Made.{IsFirstOf, IsMakingOrder, member_at, order_by, own_order, returned_at, smaller, world_order};
+ghost use Rattle.comm_makings.specs.State.{AreAllDerivedGroups, AreDerived, AreDerivedGroups, AreMadeOf, AreMembers, AreMembersIn, BindsMember, IsDerivedComm, IsDerivedGroup, IfComms, IsEnded, IsFirstComm, IsOfDerived, IsReadTo, IsRun, KeepsComms, KeepsDerived, NamesMembers, NoneListed, NoneListedAt, NoneStands, NoneStandsAt, SetsStanding, dims_of, is_gained};
+ghost use Rattle.comm_makings.specs.declared.run.Step.TheVariants as steps;
+ghost use Rattle.comm_makings.specs.declared.state.Progress.TheVariants as progress;
 
 use crate::answer::Why;
 use crate::by_groups::{Found, Over, found_at};
 use crate::calls::{Action, CommCall, GroupCall, RankCalls};
 use crate::group_value::{GroupValue, value_of};
 use crate::handle::{Gives, Meant};
-use crate::here::{Here, all_kth, call_at, handle_of, meant_at};
+use crate::here::{Here, all_kth, call_at, gives_some, handle_of, meant_at};
 use crate::outcomes::outcome_in;
 use crate::part::Part;
 use crate::parts::Outcome;
-use crate::state::{HandleState, Made, Member, Order, comm_at, dims_of};
+use crate::state::{HandleState, Made, Member, Order, Progress, comm_at, dims_of};
 use crate::view::RankView;
+use mpi_model::Object;
 use std::alloc::{AllocError, Global};
 
 /// What is derived so far.
@@ -29,8 +32,8 @@ pub(crate) struct Run {
     /// Of each rank what its calls give, where they give groups.
     pub values: Vec<Vec<GroupValue>>,
     pub comms: Vec<Made>,
-    /// Of each communicator the first of its makings that is not read yet.
-    pub next: Vec<usize>,
+    /// Of each communicator how far its makings are read.
+    pub next: Vec<Progress>,
     /// Of each rank which calls of MPI_Comm_create_group are read.
     pub taken: Vec<Vec<bool>>,
     /// Of each communicator what no MPI_Comm_create_group makes any more.
@@ -106,22 +109,68 @@ fn leave_behind(
     Ok(())
 }
 
+/// The call of the member at a place, where the text has one that returned.
+fn returned_at(all: &[Option<Here>], place: u32) -> Option<Here>
+    ensures { result ≡ returned_at all.now place }
+{
+    let here = all.get(place as usize).copied()?;
+    let here = here?;
+    if gives_some(here.gives) {
+        Some(here)
+    } else {
+        None
+    }
+}
+
+/// Of two calls the one of the smaller rank, where both are there.
+fn smaller(first: Option<Here>, here: Option<Here>) -> Option<Here>
+    ensures { result ≡ smaller first here }
+{
+    match first {
+        None => here,
+        Some(one) => match here {
+            None => first,
+            Some(other) => { if other.rank < one.rank { here } else { first } },
+        },
+    }
+}
+
 /// The making call of the smallest of these members whose text has it.
-fn order_of(places: &[u32], all: &[Option<Here>]) -> Order {
-    let mut first = Order {
-        class: 2,
-        call: u64::MAX,
-        rank: u32::MAX,
-    };
+#[tactic(auto, using(crate::proofs::Firsts::first_none, crate::proofs::Firsts::first_more))]
+fn first_returned(places: &[u32], all: &[Option<Here>]) -> Option<Here>
+    ensures { IsFirstOf places.now all.now result }
+{
+    let mut first: Option<Here> = None;
     for place in places {
-        if let Some(Some(here)) = all.get(*place as usize) {
-            if here.gives != Gives::Nothing && here.rank < first.rank {
-                first.rank = here.rank;
-                first.call = here.call;
-            }
-        }
+        first = smaller(first, returned_at(all, *place));
     }
     first
+}
+
+/// The order of a communicator by its making call, and then by the member that called it.
+fn order_by(first: Option<Here>) -> Order
+    ensures { result ≡ order_by first }
+{
+    match first {
+        None => Order {
+            class: 2,
+            call: u64::MAX,
+            rank: u32::MAX,
+        },
+        Some(here) => Order {
+            class: 2,
+            call: here.call,
+            rank: here.rank,
+        },
+    }
+}
+
+/// The order of the communicator of these members.
+fn order_of(places: &[u32], all: &[Option<Here>]) -> Order
+    ensures { IsMakingOrder places.now all.now result }
+{
+    let first = first_returned(places, all);
+    order_by(first)
 }
 
 /// The member at a place of the parent, by what its call gives.
@@ -171,9 +220,11 @@ pub(crate) fn made_of(
     ensures members { IfOk result (λ c. c.members.items ≡ filter_map (member_at members.now all.now) part.now.places) }
     ensures ranks { IfOk result (λ c. c.ranks.items ≡ map (λ m. m.rank) c.members.items) }
     ensures dims { IfOk result (λ c. list_in c.dims ≡ part.now.dims) }
+    ensures order { IfOk result (λ c. IsMakingOrder part.now.places all.now c.order) }
 {
     let chosen = members_at(alloc, members, all, &part.places)?;
     Ok(Made {
+        object: Object::Communicator,
         ranks: ranks_of(alloc, &chosen)?,
         members: chosen,
         dims: dims_of(alloc, &part.dims)?,
@@ -230,7 +281,9 @@ fn group_call_at(ranks: &[RankCalls], rank: usize, at: usize) -> Option<&GroupCa
         Action::Make { .. }
         | Action::CommRank { .. }
         | Action::Free { .. }
-        | Action::GivesComm { .. } => None,
+        | Action::GivesComm { .. }
+        | Action::MakeObject { .. }
+        | Action::EndObject { .. } => None,
     }
 }
 
@@ -328,8 +381,8 @@ impl Run {
         ranks: &[RankCalls],
         views: &[RankView],
     ) -> Result<(), AllocError>
-        requires { IsRight ranks.now views.now self.old.standings.items self.old.values.items self.old.comms.items }
-        ensures { OnOk result (IsRight ranks.now views.now self.new.standings.items self.new.values.items self.new.comms.items) }
+        requires { IsRun ranks.now views.now self.old }
+        ensures { OnOk result (IsRun ranks.now views.now self.new) }
     {
         refresh_all(
             alloc,
@@ -342,7 +395,7 @@ impl Run {
     }
 
     /// Adds a communicator. Its members' handles name it.
-    #[tactic(auto, using(crate::proofs::Right::right_added))]
+    #[tactic(auto, using(crate::proofs::Right::right_added, crate::proofs::Right::keeps_one))]
     fn add_one(
         &mut self,
         alloc: Global,
@@ -350,18 +403,20 @@ impl Run {
         views: &[RankView],
         comm: Made,
     ) -> Result<(), AllocError>
-        requires right { IsRight ranks.now views.now self.old.standings.items self.old.values.items self.old.comms.items }
+        requires right { IsRun ranks.now views.now self.old }
         requires comm { IsDerivedComm ranks.now views.now comm }
-        ensures { OnOk result (IsRight ranks.now views.now self.new.standings.items self.new.values.items self.new.comms.items) }
+        ensures right { OnOk result (IsRun ranks.now views.now self.new) }
+        ensures keeps { OnOk result (KeepsComms self.old.comms.items self.new.comms.items) }
     {
         bind(&mut self.standings, &comm.members, self.comms.len());
         self.comms.push(comm)?;
-        self.next.push(0)?;
+        self.next.push(Progress::At(0))?;
         self.over.push(Vec::new(alloc))?;
         Ok(())
     }
 
     /// Adds communicators. Their members' handles name them.
+    #[tactic(auto, using(crate::proofs::Right::keeps_same, crate::proofs::Right::keeps_on))]
     pub(crate) fn add(
         &mut self,
         alloc: Global,
@@ -369,9 +424,10 @@ impl Run {
         views: &[RankView],
         made: Vec<Made>,
     ) -> Result<(), AllocError>
-        requires right { IsRight ranks.now views.now self.old.standings.items self.old.values.items self.old.comms.items }
+        requires right { IsRun ranks.now views.now self.old }
         requires made { AreDerived ranks.now views.now made.items }
-        ensures { OnOk result (IsRight ranks.now views.now self.new.standings.items self.new.values.items self.new.comms.items) }
+        ensures right { OnOk result (IsRun ranks.now views.now self.new) }
+        ensures keeps { OnOk result (KeepsComms self.old.comms.items self.new.comms.items) }
     {
         for comm in made {
             self.add_one(alloc, ranks, views, comm)?;
@@ -379,8 +435,43 @@ impl Run {
         Ok(())
     }
 
-    /// Reads the k-th making of a communicator.
-    #[tactic(auto, using(crate::proofs::Right::right_comm, crate::proofs::Right::right_left))]
+    /// Takes what the k-th making of a communicator gives: these are its calls.
+    #[tactic(auto, using(crate::proofs::Right::right_left, crate::proofs::Right::gained_now, crate::proofs::Right::gained_added))]
+    fn take_gained(
+        &mut self,
+        alloc: Global,
+        ranks: &[RankCalls],
+        views: &[RankView],
+        at: usize,
+        k: usize,
+        all: &[Option<Here>],
+        gained: Gained,
+    ) -> Result<Step, AllocError>
+        requires right { IsRun ranks.now views.now self.old }
+        requires comms { IfComms (AreDerived ranks.now views.now) gained }
+        requires read { is_gained gained ≡ true → IsReadTo ranks.now views.now self.old.comms.items at (k + 1) }
+        ensures right { OnOk result (IsRun ranks.now views.now self.new) }
+        ensures read { IfOk result (λ step. step ≡ steps.Read → IsReadTo ranks.now views.now self.new.comms.items at (k + 1)) }
+    {
+        match gained {
+            Gained::Comms(made) => {
+                self.add(alloc, ranks, views, made)?;
+                Ok(Step::Read)
+            },
+            Gained::Untold => {
+                leave(&mut self.standings, all, Why::Untold);
+                Ok(Step::Read)
+            },
+            Gained::Unsound => {
+                leave(&mut self.standings, all, Why::Unsound);
+                Ok(Step::Over)
+            },
+            Gained::Waits => Ok(Step::Waits),
+        }
+    }
+
+    /// Reads the k-th making of a communicator, where all before are read. At last no group is waited for.
+    #[tactic(auto, using(crate::proofs::Right::right_comm))]
     fn step(
         &mut self,
         alloc: Global,
@@ -390,28 +481,18 @@ impl Run {
         k: usize,
         last: bool,
     ) -> Result<Step, AllocError>
-        requires { IsRight ranks.now views.now self.old.standings.items self.old.values.items self.old.comms.items }
-        ensures { OnOk result (IsRight ranks.now views.now self.new.standings.items self.new.values.items self.new.comms.items) }
+        requires right { IsRun ranks.now views.now self.old }
+        requires read { IsReadTo ranks.now views.now self.old.comms.items at k }
+        ensures right { OnOk result (IsRun ranks.now views.now self.new) }
+        ensures read { IfOk result (λ step. step ≡ steps.Read → IsReadTo ranks.now views.now self.new.comms.items at (k + 1)) }
     {
         let Some(parent) = comm_at(&self.comms, at) else {
             return Ok(Step::Over);
         };
         let all = all_kth(alloc, ranks, views, &parent.members, k)?;
-        match made_in(alloc, ranks, views, &self.values, &self.comms, parent, &all)? {
-            Gained::Comms(made) => {
-                self.add(alloc, ranks, views, made)?;
-                Ok(Step::Read)
-            },
-            Gained::Untold => {
-                leave(&mut self.standings, &all, Why::Untold);
-                Ok(Step::Read)
-            },
-            Gained::Waits if !last => Ok(Step::Waits),
-            _ => {
-                leave(&mut self.standings, &all, Why::Unsound);
-                Ok(Step::Over)
-            },
-        }
+        let made = made_in(alloc, ranks, views, &self.values, &self.comms, parent, &all)?;
+        let gained = ended(made, last);
+        self.take_gained(alloc, ranks, views, at, k, &all, gained)
     }
 
     /// What the members made of a communicator from the k-th making on is left out.
@@ -425,8 +506,8 @@ impl Run {
         k: usize,
         end: usize,
     ) -> Result<(), AllocError>
-        requires { IsRight ranks.now views.now self.old.standings.items self.old.values.items self.old.comms.items }
-        ensures { OnOk result (IsRight ranks.now views.now self.new.standings.items self.new.values.items self.new.comms.items) }
+        requires { IsRun ranks.now views.now self.old }
+        ensures { OnOk result (IsRun ranks.now views.now self.new) }
     {
         let Some(parent) = comm_at(&self.comms, at) else {
             return Ok(());
@@ -442,27 +523,52 @@ impl Run {
         )
     }
 
-    /// Notes that a making was read, and which one of the communicator comes next.
-    fn note(&mut self, at: usize, next: usize)
-        ensures standings { self.new.standings ≡ self.old.standings }
-        ensures values { self.new.values ≡ self.old.values }
+    /// Notes that a making was read: all before the k-th are.
+    #[tactic(auto, using(crate::proofs::Right::right_read))]
+    fn note_read(&mut self, ranks: &[RankCalls], views: &[RankView], at: usize, k: usize)
+        requires right { IsRun ranks.now views.now self.old }
+        requires read { IsReadTo ranks.now views.now self.old.comms.items at k }
+        ensures right { IsRun ranks.now views.now self.new }
         ensures comms { self.new.comms ≡ self.old.comms }
     {
         self.read = self.read.saturating_add(1);
-        if let Some(before) = self.next.get_mut(at) {
-            *before = next;
+        if at < self.next.len() {
+            self.next[at] = Progress::At(k);
         }
     }
 
-    /// The first making of a communicator that is not read, and one behind the last.
-    fn unread(&self, views: &[RankView], at: usize) -> (usize, usize) {
-        match (self.next.get(at), self.comms.get(at)) {
-            (Some(next), Some(comm)) => (*next, longest(views, comm)),
-            _ => (0, 0),
+    /// Notes that a making was read behind which nothing more is made of the communicator.
+    #[tactic(auto, using(crate::proofs::Right::right_over))]
+    fn note_over(&mut self, ranks: &[RankCalls], views: &[RankView], at: usize)
+        requires { IsRun ranks.now views.now self.old }
+        ensures { IsRun ranks.now views.now self.new }
+    {
+        self.read = self.read.saturating_add(1);
+        if at < self.next.len() {
+            self.next[at] = Progress::Over;
+        }
+    }
+
+    /// The first making of a communicator that is not read, unless nothing more is made of it.
+    fn unread(&self, at: usize) -> Option<usize>
+        ensures { IfSome result (λ k. slice_get self.now.next.items at ≡ Some (progress.At k)) }
+    {
+        match self.next.get(at).copied()? {
+            Progress::At(next) => Some(next),
+            Progress::Over => None,
+        }
+    }
+
+    /// How many makings the members of a communicator have of it, at most.
+    fn making_count(&self, views: &[RankView], at: usize) -> usize {
+        match self.comms.get(at) {
+            Some(comm) => longest(views, comm),
+            None => 0,
         }
     }
 
     /// Reads the makings of a communicator, as far as they don't wait. Says whether one does.
+    #[tactic(auto, using(crate::proofs::Right::reads_at))]
     pub(crate) fn advance(
         &mut self,
         alloc: Global,
@@ -471,17 +577,20 @@ impl Run {
         at: usize,
         last: bool,
     ) -> Result<bool, AllocError>
-        requires { IsRight ranks.now views.now self.old.standings.items self.old.values.items self.old.comms.items }
-        ensures { OnOk result (IsRight ranks.now views.now self.new.standings.items self.new.values.items self.new.comms.items) }
+        requires { IsRun ranks.now views.now self.old }
+        ensures { OnOk result (IsRun ranks.now views.now self.new) }
     {
-        let (first, end) = self.unread(views, at);
+        let Some(first) = self.unread(at) else {
+            return Ok(false);
+        };
+        let end = self.making_count(views, at);
         for k in first..end {
             match self.step(alloc, ranks, views, at, k, last)? {
                 Step::Waits => return Ok(true),
-                Step::Read => self.note(at, k + 1),
+                Step::Read => self.note_read(ranks, views, at, k + 1),
                 Step::Over => {
                     self.leave_from(alloc, ranks, views, at, k + 1, end)?;
-                    self.note(at, end);
+                    self.note_over(ranks, views, at);
                     return Ok(false);
                 },
             }
@@ -500,8 +609,8 @@ impl Run {
         left: &[(u32, usize)],
         over: Vec<Over>,
     ) -> Result<(), AllocError>
-        requires { IsRight ranks.now views.now self.old.standings.items self.old.values.items self.old.comms.items }
-        ensures { OnOk result (IsRight ranks.now views.now self.new.standings.items self.new.values.items self.new.comms.items) }
+        requires { IsRun ranks.now views.now self.old }
+        ensures { OnOk result (IsRun ranks.now views.now self.new) }
     {
         self.read = self.read.saturating_add(read.len() as u64);
         mark_all(&mut self.taken, read);
@@ -518,9 +627,9 @@ impl Run {
         at: usize,
         found: Found,
     ) -> Result<(), AllocError>
-        requires right { IsRight ranks.now views.now self.old.standings.items self.old.values.items self.old.comms.items }
+        requires right { IsRun ranks.now views.now self.old }
         requires found { AreDerived ranks.now views.now found.made.items }
-        ensures { OnOk result (IsRight ranks.now views.now self.new.standings.items self.new.values.items self.new.comms.items) }
+        ensures { OnOk result (IsRun ranks.now views.now self.new) }
     {
         let Found {
             made,
@@ -542,8 +651,8 @@ impl Run {
         at: usize,
         last: bool,
     ) -> Result<bool, AllocError>
-        requires { IsRight ranks.now views.now self.old.standings.items self.old.values.items self.old.comms.items }
-        ensures { OnOk result (IsRight ranks.now views.now self.new.standings.items self.new.values.items self.new.comms.items) }
+        requires { IsRun ranks.now views.now self.old }
+        ensures { OnOk result (IsRun ranks.now views.now self.new) }
     {
         let found = found_at(alloc, ranks, views, self, at, last)?;
         let waits = found.waits;
@@ -560,8 +669,8 @@ impl Run {
         todo: &[usize],
         last: bool,
     ) -> Result<Vec<usize>, AllocError>
-        requires { IsRight ranks.now views.now self.old.standings.items self.old.values.items self.old.comms.items }
-        ensures { OnOk result (IsRight ranks.now views.now self.new.standings.items self.new.values.items self.new.comms.items) }
+        requires { IsRun ranks.now views.now self.old }
+        ensures { OnOk result (IsRun ranks.now views.now self.new) }
     {
         let mut waiting = Vec::new(alloc);
         for at in todo {
@@ -583,8 +692,8 @@ impl Run {
         todo: &[usize],
         last: bool,
     ) -> Result<Vec<usize>, AllocError>
-        requires { IsRight ranks.now views.now self.old.standings.items self.old.values.items self.old.comms.items }
-        ensures { OnOk result (IsRight ranks.now views.now self.new.standings.items self.new.values.items self.new.comms.items) }
+        requires { IsRun ranks.now views.now self.old }
+        ensures { OnOk result (IsRun ranks.now views.now self.new) }
     {
         self.refresh(alloc, ranks, views)?;
         let known = self.comms.len();
@@ -602,8 +711,8 @@ impl Run {
         ranks: &[RankCalls],
         views: &[RankView],
     ) -> Result<(), AllocError>
-        requires { IsRight ranks.now views.now self.old.standings.items self.old.values.items self.old.comms.items }
-        ensures { OnOk result (IsRight ranks.now views.now self.new.standings.items self.new.values.items self.new.comms.items) }
+        requires { IsRun ranks.now views.now self.old }
+        ensures { OnOk result (IsRun ranks.now views.now self.new) }
     {
         let mut todo = places_to(alloc, self.comms.len())?;
         let mut last = false;
@@ -705,10 +814,11 @@ fn world_members(alloc: Global, ranks: u32) -> Result<Vec<Member>, AllocError>
 
 /// The world.
 fn world_of(alloc: Global, ranks: u32) -> Result<Made, AllocError>
-    ensures { IfOk result (IsFirstComm (world_members ranks)) }
+    ensures { IfOk result (IsFirstComm (world_members ranks) world_order) }
 {
     let members = world_members(alloc, ranks)?;
     Ok(Made {
+        object: Object::Communicator,
         ranks: ranks_of(alloc, &members)?,
         members,
         dims: None,
@@ -722,9 +832,10 @@ fn world_of(alloc: Global, ranks: u32) -> Result<Made, AllocError>
 
 /// MPI_COMM_SELF of a rank, its second handle.
 fn own_of(alloc: Global, rank: u32) -> Result<Made, AllocError>
-    ensures { IfOk result (IsFirstComm (member_with 1 rank ∷ [])) }
+    ensures { IfOk result (IsFirstComm (member_with 1 rank ∷ []) (own_order rank)) }
 {
     Ok(Made {
+        object: Object::Communicator,
         members: vec![in alloc;
             Member {
                 rank,
@@ -823,6 +934,7 @@ fn begin(alloc: Global, calls: &RankCalls, view: &RankView, run: &mut Run) -> Re
     ensures standings { OnOk result (NoneStandsAt run.new.standings.items) }
     ensures values { OnOk result (NoneListedAt run.new.values.items) }
     ensures comms { run.new.comms ≡ run.old.comms }
+    ensures next { run.new.next ≡ run.old.next }
 {
     run.standings
         .push(first_standings(alloc, &calls.calls, view)?)?;
@@ -843,6 +955,7 @@ fn begin_ranks(
     ensures standings { OnOk result (NoneStandsAt run.new.standings.items) }
     ensures values { OnOk result (NoneListedAt run.new.values.items) }
     ensures comms { OnOk result (run.new.comms ≡ run.old.comms) }
+    ensures next { OnOk result (run.new.next ≡ run.old.next) }
 {
     for (at, calls) in ranks.iter().enumerate() {
         if let Some(view) = views.get(at) {
@@ -858,6 +971,7 @@ fn begin_all(alloc: Global, ranks: &[RankCalls], views: &[RankView]) -> Result<R
     ensures standings { IfOk result (λ run. NoneStandsAt run.standings.items) }
     ensures values { IfOk result (λ run. NoneListedAt run.values.items) }
     ensures comms { IfOk result (λ run. run.comms.items ≡ []) }
+    ensures next { IfOk result (λ run. run.next.items ≡ []) }
 {
     let mut run = Run {
         standings: Vec::new(alloc),
@@ -876,7 +990,7 @@ fn begin_all(alloc: Global, ranks: &[RankCalls], views: &[RankView]) -> Result<R
 #[tactic(auto, using(crate::proofs::Right::right_first))]
 fn start(alloc: Global, ranks: &[RankCalls], views: &[RankView]) -> Result<Run, AllocError>
     requires { length ranks.now < 2 ^ 32 }
-    ensures { IfOk result (λ run. IsRight ranks.now views.now run.standings.items run.values.items run.comms.items) }
+    ensures { IfOk result (IsRun ranks.now views.now) }
 {
     let mut run = begin_all(alloc, ranks, views)?;
     run.add(alloc, ranks, views, first_comms(alloc, ranks, views)?)?;
@@ -899,7 +1013,7 @@ pub(crate) fn run_of(
     views: &[RankView],
 ) -> Result<Run, AllocError>
     requires { length ranks.now < 2 ^ 32 }
-    ensures { IfOk result (λ run. IsRight ranks.now views.now run.standings.items run.values.items run.comms.items) }
+    ensures { IfOk result (IsRun ranks.now views.now) }
 {
     let mut run = start(alloc, ranks, views)?;
     run.derive_all(alloc, ranks, views)?;
@@ -940,8 +1054,20 @@ enum Gained {
     Waits,
 }
 
+/// What is gained, where at last a making that waits is unsound.
+fn ended(gained: Gained, last: bool) -> Gained
+    ensures { IsEnded gained result }
+{
+    match gained {
+        Gained::Waits => { if last { Gained::Unsound } else { Gained::Waits } },
+        Gained::Comms(made) => Gained::Comms(made),
+        Gained::Untold => Gained::Untold,
+        Gained::Unsound => Gained::Unsound,
+    }
+}
+
 /// The communicators that the k-th calls of a parent's members make.
-#[tactic(auto, using(crate::proofs::Derivations::outcome_derives))]
+#[tactic(auto, using(crate::proofs::Derivations::gained_comms, crate::proofs::Derivations::gained_untold, crate::proofs::Derivations::gained_unsound, crate::proofs::Derivations::gained_waits))]
 fn made_in(
     alloc: Global,
     ranks: &[RankCalls],
@@ -953,8 +1079,7 @@ fn made_in(
 ) -> Result<Gained, AllocError>
     requires parent { IsDerivedComm ranks.now views.now parent.now }
     requires groups { AreAllDerivedGroups ranks.now views.now comms.now values.now }
-    requires kth { (k : ℕ) × (all.now ≡ kth_calls ranks.now views.now k parent.now.members.items) }
-    ensures { IfOk result (IsOfDerived ranks.now views.now) }
+    ensures { IfOk result (IsOfDerived ranks.now views.now parent.now.members.items (dims_of parent.now) all.now) }
 {
     match outcome_in(alloc, ranks, views, values, comms, parent, all)? {
         Outcome::Parts(parts) => Ok(Gained::Comms(all_made(alloc, &parent.members, all, &parts)?)),

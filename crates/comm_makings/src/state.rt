@@ -6,6 +6,7 @@ ghost use Rattle.std.specs.Option.{option_copied};
 ghost use Rattle.comm_makings.specs.Each.{list_in};
 
 use crate::answer::Why;
+use mpi_model::Object;
 use std::alloc::{AllocError, Global};
 
 /// How a handle of a rank stands.
@@ -16,6 +17,15 @@ pub(crate) enum HandleState {
     /// It names the derived communicator at this place.
     Derived(usize),
     Left(Why),
+}
+
+/// How far the makings of a communicator are read.
+#[derive(Clone, Copy)]
+pub(crate) enum Progress {
+    /// This is the first that isn't read.
+    At(usize),
+    /// Nothing more is made.
+    Over,
 }
 
 /// The place of a communicator in a layout: the world first, then MPI_COMM_SELF by rank, then by the making call of the
@@ -32,13 +42,14 @@ pub(crate) struct Order {
 pub(crate) struct Member {
     /// Its rank in the run.
     pub rank: u32,
-    /// The handle by which it names the communicator, where its text does.
+    /// The handle by which it names the communicator, where its text does; of a window or a file it is one of that sort.
     pub handle: Option<usize>,
 }
 
-/// A derived communicator.
+/// A derived communicator, or a window or a file of one.
 #[derive(Drop)]
 pub(crate) struct Made {
+    pub object: Object,
     /// In the order of their ranks in it.
     pub members: Vec<Member>,
     /// Their ranks in the run.

@@ -1,15 +1,15 @@
 //! What each rank called on each of its communicators.
 
-ghost use Rattle.std.specs.Prelude.{◌≡◌, ◌==◌, ◌++◌, [], IfOk, OnOk};
-ghost use Rattle.std.specs.List.{slice_get};
-ghost use Rattle.std.specs.Option.{option_and_then};
+ghost use Rattle.std.specs.Prelude.{◌≡◌, ◌==◌, ◌++◌, [], IfOk, OnOk, length};
 ghost use Rattle.comm_makings.specs.Each.{EachBecomes, EachIs, ListsAre, ListsBecome};
-ghost use Rattle.comm_makings.specs.Views.{AreViews, IsView, first_told_on, is_by_group, is_kind, makings_on, place_if, rank_told, told_now};
+ghost use Rattle.comm_makings.specs.Views.{AreViews, IsEnd, IsView, comm_at, first_told_on, is_by_group, is_kind, is_orphan, makings_on, place_if, rank_told, told_now};
 
 use crate::calls::{Action, CommCall, Making, RankCalls};
 use crate::handle::{Handle, Meant};
 use crate::here::making_of;
 use crate::names::names_of;
+use crate::object_view::{ObjectView, object_view};
+use mpi_model::Object;
 use std::alloc::{AllocError, Global};
 
 /// A rank's handles, and what it called on each.
@@ -26,11 +26,14 @@ pub(crate) struct RankView {
     pub told: Vec<Option<u32>>,
     /// From this call on the text counts as if it made no communicators.
     pub end: usize,
+    pub windows: ObjectView,
+    pub files: ObjectView,
 }
 
 /// An empty list for each of this many handles.
-fn lists(alloc: Global, count: usize) -> Result<Vec<Vec<usize>>, AllocError>
-    ensures { IfOk result (λ lists. ListsAre lists.items (λ handle. [])) }
+pub(crate) fn lists(alloc: Global, count: usize) -> Result<Vec<Vec<usize>>, AllocError>
+    ensures each { IfOk result (λ lists. ListsAre lists.items (λ handle. [])) }
+    ensures all { IfOk result (λ lists. length lists.items ≡ count) }
 {
     let mut lists = Vec::new(alloc);
     for _ in 0..count {
@@ -40,8 +43,9 @@ fn lists(alloc: Global, count: usize) -> Result<Vec<Vec<usize>>, AllocError>
 }
 
 /// Adds a call to the list of a handle.
-fn add_to(lists: &mut Vec<Vec<usize>>, at: usize, call: usize) -> Result<(), AllocError>
-    ensures { OnOk result (ListsBecome lists.old.items lists.new.items (λ handle list. list ++ place_if (at == handle) call [])) }
+pub(crate) fn add_to(lists: &mut Vec<Vec<usize>>, at: usize, call: usize) -> Result<(), AllocError>
+    ensures each { OnOk result (ListsBecome lists.old.items lists.new.items (λ handle list. list ++ place_if (at == handle) call [])) }
+    ensures all { OnOk result (length lists.new.items ≡ length lists.old.items) }
 {
     if at < lists.len() {
         lists[at].push(call)?;
@@ -50,15 +54,23 @@ fn add_to(lists: &mut Vec<Vec<usize>>, at: usize, call: usize) -> Result<(), All
 }
 
 /// The first call that makes communicators of a parent that is unknown; where there is none, one behind the last.
-fn end_of(calls: &[CommCall], meant: &[Meant]) -> usize {
+#[tactic(auto, using(crate::proofs::Ends::none_more, crate::proofs::Ends::found_end, crate::proofs::Ends::all_known))]
+fn end_of(calls: &[CommCall], meant: &[Meant]) -> usize
+    ensures { IsEnd calls.now meant.now result }
+{
     for (at, call) in calls.iter().enumerate() {
-        if let Action::Make { .. } = &call.action {
-            if comm_at(meant, at).is_none() {
-                return at;
-            }
+        if is_orphan(call, comm_at(meant, at)) {
+            return at;
         }
     }
     calls.len()
+}
+
+/// Whether a call makes communicators, of a parent that is unknown.
+fn is_orphan(call: &CommCall, parent: Option<usize>) -> bool
+    ensures { result ≡ is_orphan call.now parent }
+{
+    making_of(&call.action).is_some() && parent.is_none()
 }
 
 /// Whether a making is collective over a group and not over the parent.
@@ -93,8 +105,8 @@ fn is_kind(by_group: bool, making: &Making) -> bool
 }
 
 /// The handle that the call at this place names.
-fn comm_at(meant: &[Meant], at: usize) -> Option<usize>
-    ensures { result ≡ option_and_then (λ m. m.comm) (slice_get meant.now at) }
+pub(crate) fn comm_at(meant: &[Meant], at: usize) -> Option<usize>
+    ensures { result ≡ comm_at meant.now at }
 {
     meant.get(at)?.comm
 }
@@ -107,7 +119,8 @@ fn makings_by(
     count: usize,
     by_group: bool,
 ) -> Result<Vec<Vec<usize>>, AllocError>
-    ensures { IfOk result (λ lists. ListsAre lists.items (λ handle. makings_on by_group handle 0 calls.now meant.now)) }
+    ensures each { IfOk result (λ lists. ListsAre lists.items (λ handle. makings_on by_group handle 0 calls.now meant.now)) }
+    ensures all { IfOk result (λ lists. length lists.items ≡ count) }
 {
     let mut lists = lists(alloc, count)?;
     for (at, call) in calls.iter().enumerate() {
@@ -137,13 +150,16 @@ fn rank_told(call: &CommCall) -> Option<u32>
         Action::Make { .. }
         | Action::Free { .. }
         | Action::Group { .. }
-        | Action::GivesComm { .. } => None,
+        | Action::GivesComm { .. }
+        | Action::MakeObject { .. }
+        | Action::EndObject { .. } => None,
     }
 }
 
 /// Notes the rank that is told on a handle, unless one was told before.
 fn note_told(told: &mut Vec<Option<u32>>, handle: usize, rank: u32)
-    ensures { EachBecomes told.old.items told.new.items (λ at before. told_now (handle == at) rank before) }
+    ensures each { EachBecomes told.old.items told.new.items (λ at before. told_now (handle == at) rank before) }
+    ensures all { length told.new.items ≡ length told.old.items }
 {
     if handle < told.len() && told[handle].is_none() {
         told[handle] = Some(rank);
@@ -157,7 +173,8 @@ fn told_on(
     meant: &[Meant],
     count: usize,
 ) -> Result<Vec<Option<u32>>, AllocError>
-    ensures { IfOk result (λ told. EachIs told.items (λ handle. first_told_on handle calls.now meant.now)) }
+    ensures each { IfOk result (λ told. EachIs told.items (λ handle. first_told_on handle calls.now meant.now)) }
+    ensures all { IfOk result (λ told. length told.items ≡ count) }
 {
     let mut told = vec![in alloc; None; count]?;
     for (at, call) in calls.iter().enumerate() {
@@ -180,6 +197,8 @@ pub(crate) fn view_of(alloc: Global, world: u32, rank: &RankCalls) -> Result<Ran
     let by_group = makings_by(alloc, &rank.calls, &meant, count, true)?;
     let told = told_on(alloc, &rank.calls, &meant, count)?;
     let end = end_of(&rank.calls, &meant);
+    let windows = object_view(alloc, Object::Window, &rank.calls, &meant, count)?;
+    let files = object_view(alloc, Object::File, &rank.calls, &meant, count)?;
     Ok(RankView {
         handles,
         meant,
@@ -187,6 +206,8 @@ pub(crate) fn view_of(alloc: Global, world: u32, rank: &RankCalls) -> Result<Ran
         by_group,
         told,
         end,
+        windows,
+        files,
     })
 }
 

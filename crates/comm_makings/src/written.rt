@@ -1,18 +1,19 @@
-//! The communicators as a layout has them: which are written, their ids, and by which numbers their members name them.
+//! The communicators, windows and files as a layout has them: which are written, their ids, and by which numbers their members
+//! name them.
 
-ghost use Rattle.std.specs.Prelude.{◌≡◌, All, IfOk, IfSome, map};
-ghost use Rattle.std.specs.List.{slice_get};
+ghost use Rattle.std.specs.Prelude.{◌≡◌, All, IfOk, IfSome, length, map};
+ghost use Rattle.std.specs.List.{filter_map, range_with_len, slice_get};
 ghost use Rattle.std.specs.Option.{option_and_then};
-ghost use Rattle.comm_makings.specs.Written.{AreWrittenOf, IsNamedOnly, IsWorld, IsWritten, IsWrittenOf, entry_of, handle_at, is_only, only_number, stretch_of};
+ghost use Rattle.comm_makings.specs.Written.{AreChosen, AreIn, AreOthers, AreWrittenOf, HasNumber, IsNamedOnly, IsWorld, IsWritten, IsWrittenOf, entry_of, handle_at, handles_by, is_comm, is_named, is_only, named_at, only_number, stretch_of};
 
 use crate::handle::Handle;
 use crate::names::always;
 use crate::parts::first_places;
 use crate::state::{Made, Member, Order, comm_at, copy_of};
-use crate::uses::HandleUses;
+use crate::uses::{AllUses, HandleUses, count_at, uses_by};
 use crate::view::RankView;
 use indexmap::IndexMap;
-use mpi_model::{Comm, Stretch};
+use mpi_model::{Comm, Object, Stretch};
 use std::alloc::{AllocError, Global};
 
 /// Which communicator of the layout a number is of.
@@ -22,11 +23,24 @@ enum Owner {
     Several,
 }
 
-/// The stretch of a handle of a rank.
-fn handle_at(views: &[RankView], rank: u32, handle: usize) -> Option<Handle>
-    ensures { result ≡ handle_at views.now rank handle }
+/// The handles of a rank that name objects of this sort.
+fn handles_by(view: &RankView, object: Object) -> &[Handle]
+    ensures { result.now ≡ handles_by view.now object }
 {
-    views.get(rank as usize)?.handles.get(handle).copied()
+    match object {
+        Object::Communicator => &view.handles,
+        Object::Window => &view.windows.handles,
+        Object::File => &view.files.handles,
+    }
+}
+
+/// The stretch of a handle of a rank.
+fn handle_at(views: &[RankView], object: Object, rank: u32, handle: usize) -> Option<Handle>
+    ensures { result ≡ handle_at views.now object rank handle }
+{
+    handles_by(views.get(rank as usize)?, object)
+        .get(handle)
+        .copied()
 }
 
 /// Whether the number of a handle names nothing else of the rank, where there is such a handle.
@@ -46,51 +60,56 @@ fn is_only(uses: &[HandleUses], rank: u32, handle: usize) -> bool
     }
 }
 
-/// How many calls of the profile name a handle of a rank.
-fn count_at(uses: &[HandleUses], rank: u32, handle: usize) -> u64 {
-    match uses.get(rank as usize) {
-        Some(uses) => match uses.counts.get(handle) {
-            Some(count) => *count,
-            None => 0,
-        },
-        None => 0,
-    }
+/// Whether a call names it.
+fn is_named(uses: &AllUses, made: &Made) -> bool
+    ensures { result ≡ is_named uses.now made.now }
+{
+    let uses = uses_by(uses, made.object);
+    made.members
+        .iter()
+        .any(|member| count_at(uses, member.rank, member.handle) > 0)
 }
 
-/// Whether a call of the profile names the communicator.
-fn is_named(uses: &[HandleUses], comm: &Made) -> bool {
-    for member in &comm.members {
-        if let Some(handle) = member.handle {
-            if count_at(uses, member.rank, handle) > 0 {
-                return true;
-            }
-        }
-    }
-    false
-}
-
-/// A communicator, by its place among all, in the order of a layout.
+/// A communicator, a window or a file by its place among all, in the order of a layout.
 #[derive(Clone, Copy, PartialEq, Eq, PartialOrd, Ord)]
 struct Named {
     order: Order,
     place: usize,
 }
 
-/// The communicators that are named, but for the world, in their order.
-fn named_comms(
-    alloc: Global,
-    uses: &[HandleUses],
-    comms: &[Made],
-) -> Result<Vec<Named>, AllocError> {
+/// What is at this place, where it isn't the world and is named.
+fn named_at(uses: &AllUses, made: &[Made], place: usize) -> Option<Named>
+    ensures { result ≡ named_at uses.now made.now place }
+{
+    let one = comm_at(made, place)?;
+    if one.order.class > 0 && is_named(uses, one) {
+        Some(Named {
+            order: one.order,
+            place,
+        })
+    } else {
+        None
+    }
+}
+
+/// What is named, but for the world, as it was derived.
+fn all_named(alloc: Global, uses: &AllUses, made: &[Made]) -> Result<Vec<Named>, AllocError>
+    ensures { IfOk result (λ v. v.items ≡ filter_map (named_at uses.now made.now) (range_with_len 0 (length made.now))) }
+{
     let mut named = Vec::new(alloc);
-    for (place, comm) in comms.iter().enumerate() {
-        if comm.order.class > 0 && is_named(uses, comm) {
-            named.push(Named {
-                order: comm.order,
-                place,
-            })?;
+    for place in 0..made.len() {
+        if let Some(one) = named_at(uses, made, place) {
+            named.push(one)?;
         }
     }
+    Ok(named)
+}
+
+/// What is named, but for the world, in its order.
+fn named_in(alloc: Global, uses: &AllUses, made: &[Made]) -> Result<Vec<Named>, AllocError>
+    ensures { IfOk result (λ v. AreChosen uses.now made.now v.items) }
+{
+    let mut named = all_named(alloc, uses, made)?;
     named.sort()?;
     Ok(named)
 }
@@ -114,19 +133,34 @@ fn note_owner(
     Ok(())
 }
 
-/// Notes of which communicator the numbers are by which its members name it.
+/// Notes that the number by which this member names the communicator is of it.
+fn note_member(
+    owners: &mut IndexMap<u32, Owner>,
+    views: &[RankView],
+    at: usize,
+    member: Member,
+) -> Result<(), AllocError> {
+    let Some(handle) = member.handle else {
+        return Ok(());
+    };
+    match handle_at(views, Object::Communicator, member.rank, handle) {
+        Some(handle) => note_owner(owners, handle.number, at),
+        None => Ok(()),
+    }
+}
+
+/// Notes of which communicator the numbers are by which its members name it. Windows and files have numbers of their own.
 fn note_owners(
     owners: &mut IndexMap<u32, Owner>,
     views: &[RankView],
     at: usize,
-    comm: &Made,
+    made: &Made,
 ) -> Result<(), AllocError> {
-    for member in &comm.members {
-        if let Some(handle) = member.handle {
-            if let Some(handle) = handle_at(views, member.rank, handle) {
-                note_owner(owners, handle.number, at)?;
-            }
-        }
+    if !is_comm(made.object) {
+        return Ok(());
+    }
+    for member in &made.members {
+        note_member(owners, views, at, *member)?;
     }
     Ok(())
 }
@@ -135,13 +169,13 @@ fn note_owners(
 fn owners_of(
     alloc: Global,
     views: &[RankView],
-    comms: &[Made],
+    made: &[Made],
     named: &[Named],
 ) -> Result<IndexMap<u32, Owner>, AllocError> {
     let mut owners = IndexMap::new(alloc);
     for named in named {
-        if let Some(comm) = comms.get(named.place) {
-            note_owners(&mut owners, views, named.place, comm)?;
+        if let Some(one) = comm_at(made, named.place) {
+            note_owners(&mut owners, views, named.place, one)?;
         }
     }
     Ok(owners)
@@ -167,7 +201,7 @@ fn only_number(views: &[RankView], uses: &[HandleUses], member: Member) -> Optio
     ensures { result ≡ only_number views.now uses.now member }
 {
     let handle = member.handle?;
-    let stretch = handle_at(views, member.rank, handle)?;
+    let stretch = handle_at(views, Object::Communicator, member.rank, handle)?;
     if is_only(uses, member.rank, handle) {
         Some(stretch.number)
     } else {
@@ -186,27 +220,33 @@ fn stretch_of(only: bool, stretch: Stretch) -> Stretch
     }
 }
 
-/// By which number, over which calls, a member names the communicator.
-fn entry_of(views: &[RankView], uses: &[HandleUses], member: Member) -> Option<Stretch>
-    ensures { result ≡ entry_of views.now uses.now member }
+/// By which number, over which calls, a member names an object of this sort.
+fn entry_of(
+    views: &[RankView],
+    uses: &[HandleUses],
+    object: Object,
+    member: Member,
+) -> Option<Stretch>
+    ensures { result ≡ entry_of views.now uses.now object member }
 {
     let handle = member.handle?;
-    let stretch = handle_at(views, member.rank, handle)?;
+    let stretch = handle_at(views, object, member.rank, handle)?;
     Some(stretch_of(is_only(uses, member.rank, handle), stretch))
 }
 
-/// By which numbers, over which calls, the members name the communicator.
+/// By which numbers, over which calls, the members name an object of this sort.
 fn entries_of(
     alloc: Global,
     views: &[RankView],
     uses: &[HandleUses],
+    object: Object,
     members: &[Member],
 ) -> Result<Vec<Option<Stretch>>, AllocError>
-    ensures { IfOk result (λ v. v.items ≡ map (entry_of views.now uses.now) members.now) }
+    ensures { IfOk result (λ v. v.items ≡ map (entry_of views.now uses.now object) members.now) }
 {
     let mut entries = Vec::new(alloc);
     for member in members {
-        entries.push(entry_of(views, uses, *member))?;
+        entries.push(entry_of(views, uses, object, *member))?;
     }
     Ok(entries)
 }
@@ -220,13 +260,25 @@ fn largest_in(number: u32, handles: &[Handle]) -> u32 {
     largest
 }
 
-/// The largest number of any handle.
+/// The largest number of any handle of any sort.
 fn largest_number(world: u32, views: &[RankView]) -> u32 {
     let mut largest = world;
     for view in views {
         largest = largest_in(largest, &view.handles);
+        largest = largest_in(largest, &view.windows.handles);
+        largest = largest_in(largest, &view.files.handles);
     }
     largest
+}
+
+/// Whether it is the sort of communicators.
+fn is_comm(object: Object) -> bool
+    ensures { result ≡ is_comm object }
+{
+    match object {
+        Object::Communicator => true,
+        Object::Window | Object::File => false,
+    }
 }
 
 /// The id that a communicator has by its number.
@@ -235,11 +287,14 @@ fn id_of(
     uses: &[HandleUses],
     owners: &IndexMap<u32, Owner>,
     at: usize,
-    members: &[Member],
+    made: &Made,
 ) -> Option<u32>
-    ensures { IfSome result (λ number. All (IsNamedOnly views.now uses.now number) members.now) }
+    ensures { IfSome result (λ number. HasNumber views.now uses.now made.now number) }
 {
-    let number = common_number(views, uses, members)?;
+    if !is_comm(made.object) {
+        return None;
+    }
+    let number = common_number(views, uses, &made.members)?;
     if owners.get(&number).copied() == Some(Owner::One(at)) {
         Some(number)
     } else {
@@ -253,96 +308,102 @@ fn world_comm(alloc: Global, world: u32, ranks: u32) -> Result<Comm, AllocError>
 {
     Ok(Comm {
         id: world,
+        object: Object::Communicator,
         members: first_places(alloc, ranks)?,
         numbers: Vec::new(alloc),
     })
 }
 
-/// A communicator of the layout by its number, where it has such an id, and else by this one.
+/// A communicator of the layout by its number, where it has such an id, and else by this one, as windows and files.
 fn written_comm(
     alloc: Global,
     views: &[RankView],
-    uses: &[HandleUses],
+    uses: &AllUses,
     id: Option<u32>,
     other: u32,
-    comm: &Made,
+    made: &Made,
 ) -> Result<Comm, AllocError>
-    requires { IfSome id (λ number. All (IsNamedOnly views.now uses.now number) comm.now.members.items) }
-    ensures { IfOk result (IsWrittenOf views.now uses.now comm.now) }
+    requires { IfSome id (λ number. HasNumber views.now uses.now.comms.items made.now number) }
+    ensures { IfOk result (IsWrittenOf views.now uses.now made.now) }
 {
-    let members = copy_of(alloc, &comm.ranks)?;
+    let object = made.object;
+    let members = copy_of(alloc, &made.ranks)?;
     match id {
         Some(id) => Ok(Comm {
             id,
+            object,
             members,
             numbers: Vec::new(alloc),
         }),
         None => Ok(Comm {
             id: other,
+            object,
             members,
-            numbers: entries_of(alloc, views, uses, &comm.members)?,
+            numbers: entries_of(alloc, views, uses_by(uses, object), object, &made.members)?,
         }),
     }
 }
 
-/// These communicators of the layout, with the ids that they have by their numbers. Their free ids begin above this number.
-#[tactic(auto, using(crate::proofs::Derivations::written_none, crate::proofs::Derivations::written_more))]
-fn written_comms(
+/// What is at these places as the layout has it, with the ids that communicators have by their numbers. Free ids begin above
+/// this number.
+#[tactic(auto, using(crate::proofs::Choices::written_none, crate::proofs::Choices::written_all))]
+fn written_all(
     alloc: Global,
     largest: u32,
     views: &[RankView],
-    uses: &[HandleUses],
-    comms: &[Made],
+    uses: &AllUses,
+    made: &[Made],
     named: &[Named],
     owners: &IndexMap<u32, Owner>,
 ) -> Result<Vec<Comm>, AllocError>
-    ensures { IfOk result (λ all. AreWrittenOf views.now uses.now comms.now all.items) }
+    requires { AreIn made.now named.now }
+    ensures { IfOk result (λ comms. AreWrittenOf views.now uses.now made.now named.now comms.items) }
 {
     let mut free = largest;
-    let mut all = Vec::new(alloc);
-    for named in named {
-        if let Some(comm) = comm_at(comms, named.place) {
-            let id = id_of(views, uses, owners, named.place, &comm.members);
-            if id.is_none() {
-                free = free.saturating_add(1);
-            }
-            all.push(written_comm(alloc, views, uses, id, free, comm)?)?;
+    let mut comms = Vec::new(alloc);
+    for one in named {
+        let one_made = &made[one.place];
+        let id = id_of(views, &uses.comms, owners, one.place, one_made);
+        if id.is_none() {
+            free = free.saturating_add(1);
         }
+        comms.push(written_comm(alloc, views, uses, id, free, one_made)?)?;
     }
-    Ok(all)
+    Ok(comms)
 }
 
-/// The communicators of the layout but the world. Their free ids begin above this number.
+/// What the layout has but the world. Free ids begin above this number.
+#[tactic(auto, using(crate::proofs::Choices::chosen_in))]
 fn others(
     alloc: Global,
     largest: u32,
     views: &[RankView],
-    uses: &[HandleUses],
-    comms: &[Made],
+    uses: &AllUses,
+    made: &[Made],
 ) -> Result<Vec<Comm>, AllocError>
-    ensures { IfOk result (λ all. AreWrittenOf views.now uses.now comms.now all.items) }
+    ensures { IfOk result (λ comms. AreOthers views.now uses.now made.now comms.items) }
 {
-    let named = named_comms(alloc, uses, comms)?;
-    let owners = owners_of(alloc, views, comms, &named)?;
-    written_comms(alloc, largest, views, uses, comms, &named, &owners)
+    let named = named_in(alloc, uses, made)?;
+    let owners = owners_of(alloc, views, made, &named)?;
+    written_all(alloc, largest, views, uses, made, &named, &owners)
 }
 
-/// The communicators of the layout, the world first.
-#[tactic(auto, using(crate::proofs::Derivations::is_written))]
+/// The communicators, windows and files of the layout, the world first.
+#[tactic(auto, using(crate::proofs::Choices::is_written))]
 pub(crate) fn written(
     alloc: Global,
     world: u32,
     ranks: u32,
     views: &[RankView],
-    uses: &[HandleUses],
-    comms: &[Made],
+    uses: &AllUses,
+    made: &[Made],
 ) -> Result<Vec<Comm>, AllocError>
-    ensures { IfOk result (λ all. IsWritten world ranks views.now uses.now comms.now all.items) }
+    ensures { IfOk result (λ comms. IsWritten world ranks views.now uses.now made.now comms.items) }
 {
     let largest = largest_number(world, views);
-    let mut others = others(alloc, largest, views, uses, comms)?;
-    let mut all = Vec::new(alloc);
-    all.push(world_comm(alloc, world, ranks)?)?;
-    all.append(&mut others)?;
-    Ok(all)
+    let mut others = others(alloc, largest, views, uses, made)?;
+    let mut comms = Vec::new(alloc);
+    comms.push(world_comm(alloc, world, ranks)?)?;
+    comms.append(&mut others)?;
+    Ok(comms)
 }

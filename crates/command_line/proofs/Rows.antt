@@ -5,10 +5,10 @@ use Rattle.mpi_model.specs.declared.layout.Sends.{Sends}
 use Rattle.command_line.specs.Program.{Wish, form_in, in_form, init, init_in, verb_named, wanted_of, wish_in}
 use Rattle.command_line.specs.declared.Verb.{Verb}
 
-pub formed : (name : Text) (rows : List Row) (verb : Verb) (json rank : Option Text)
-    → verb_named name ≡ Some verb → json ≡ first_of (codes "json") rows → rank ≡ first_of (codes "rank") rows
-    → in_form verb json rank ≡ form_in name rows
-formed name rows verb json rank v j r = rw (v, j, r) refl
+pub formed : (name : Text) (rows : List Row) (verb : Verb) (json all rank : Option Text)
+    → verb_named name ≡ Some verb → json ≡ first_of (codes "json") rows → all ≡ first_of (codes "all") rows → rank ≡ first_of (codes "rank") rows
+    → in_form verb json all rank ≡ form_in name rows
+formed name rows verb json all rank v j a r = rw (v, j, a, r) refl
 
 pub wanted_from : (sends other_sends : Option Sends) (layout manifest force other_layout other_manifest other_force : Option Text)
     → sends ≡ other_sends → layout ≡ other_layout → manifest ≡ other_manifest → force ≡ other_force

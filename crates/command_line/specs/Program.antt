@@ -18,8 +18,10 @@ use Rattle.command_line.specs.declared.Asked.TheVariants as asked
 use Rattle.command_line.specs.declared.CommandFault.{CommandFault}
 use Rattle.command_line.specs.declared.CommandFault.TheVariants.{Memory, Shown, Unread}
 use Rattle.command_line.specs.declared.Wanted.{Wanted}
+use Rattle.command_line.specs.declared.Extent.{Extent}
+use Rattle.command_line.specs.declared.Extent.TheVariants.{Cut, Whole}
 use Rattle.command_line.specs.declared.Verb.{Verb}
-use Rattle.command_line.specs.declared.Verb.TheVariants.{Explain, ExplainRank, Graph, Report, ReportJson, Replay, Cluster, Check, Pack}
+use Rattle.command_line.specs.declared.Verb.TheVariants.{Explain, ExplainJson, ExplainRank, Graph, Report, ReportJson, Replay, Check, Pack}
 
 -- the texts behind these references
 abbrev pub texts_of : List (Bor Text) → List Text
@@ -61,9 +63,21 @@ rank_parser = Unsigned 0 4294967295
 abbrev pub rank_rule : Rule
 rank_rule = record (new_rule (codes "rank")) { long = Some (codes "rank"); parser = Some rank_parser }
 
--- `explain`, over texts or a layout and a manifest, of all ranks or of one
+-- the flag for lists that aren't cut
+abbrev pub all_rule : Rule
+all_rule = record (new_rule (codes "all")) { long = Some (codes "all"); action = Some SetTrue }
+
+-- `explain`, over texts or a layout and a manifest: as JSON, with lists that aren't cut, of all ranks or of one
 abbrev pub explain_app : App
-explain_app = with_rule (files_app (codes "explain")) rank_rule
+explain_app = with_rule (with_rule (with_rule (files_app (codes "explain")) json_rule) all_rule) rank_rule
+
+-- `graph`, over texts or a layout and a manifest, perhaps with all nodes
+abbrev pub graph_app : App
+graph_app = with_rule (files_app (codes "graph")) all_rule
+
+-- the program with `graph`
+abbrev pub with_graph : App → App
+with_graph app = with_subcommand app graph_app.top
 
 -- the program with `explain`
 abbrev pub with_explain : App → App
@@ -115,7 +129,7 @@ bare = on_top (λ s. record s { has_version = true; subcommand_required = true }
 
 -- the program with the verbs for who asks what happened
 abbrev pub answering : App
-answering = with_report (with_files (with_explain bare) (codes "graph"))
+answering = with_report (with_graph (with_explain bare))
 
 -- all verbs of the program
 abbrev pub program : App
@@ -123,11 +137,10 @@ program = with_init (with_pair (with_files (with_pair (with_pair answering (code
 
 -- the verb of a name
 abbrev pub verb_named : Text → Option Verb
-verb_named name = if bytes_eq name (codes "explain") then Some Explain
-    else if bytes_eq name (codes "graph") then Some Graph
+verb_named name = if bytes_eq name (codes "explain") then Some (Explain Cut)
+    else if bytes_eq name (codes "graph") then Some (Graph Cut)
     else if bytes_eq name (codes "report") then Some Report
     else if bytes_eq name (codes "replay") then Some Replay
-    else if bytes_eq name (codes "cluster") then Some Cluster
     else if bytes_eq name (codes "check") then Some Check
     else if bytes_eq name (codes "pack") then Some Pack else None
 
@@ -142,16 +155,23 @@ pub record Wish : Type 0 where
 abbrev pub wish_of : Wanted → Wish
 wish_of m = record { sends = m.sends; layout = m.layout.now; manifest = m.manifest.now; force = m.force }
 
--- what the words ask for: a verb over a layout and a manifest, a verb over its files, or `init` over its texts
+-- what the words ask for: a verb over a layout and a manifest, a verb over its files, a cluster of a layout and a manifest, or `init` over its texts
 pub data Request : Type 0 where
   pair : Verb → Text → Text → Request
   files : Verb → List Text → Request
+  cluster : Text → Text → Request
   init : List Text → Wish → Request
+
+-- the rank that a verb asks for, where it asks for one
+abbrev pub asked_rank : Verb → Option ℕ
+asked_rank (ExplainRank rank) = Some rank
+asked_rank verb = None
 
 -- what the words ask for
 abbrev pub request_of : Asked → Request
 request_of (asked.Pair verb layout manifest) = pair verb layout.now manifest.now
 request_of (asked.Files verb names) = files verb (texts_of names.items)
+request_of (asked.Cluster layout manifest) = cluster layout.now manifest.now
 request_of (asked.Init names wanted) = init (texts_of names.items) (wish_of wanted)
 
 -- a report, as JSON where the value of the flag says so
@@ -166,15 +186,25 @@ rank_in text = if accepts false rank_parser text then Some (digits_value 10 (wit
 abbrev pub explain_in : Text → Option Verb
 explain_in text = option_map ExplainRank (rank_in text)
 
--- a verb with the flag for JSON or that for a rank, where it has one
-abbrev pub in_form : Verb → Option Text → Option Text → Option Verb
-in_form Explain json (Some text) = explain_in text
-in_form Report (Some flag) rank = Some (report_in flag)
-in_form verb json rank = Some verb
+-- how much is said: all, where the value of the flag says so
+abbrev pub extent_in : Text → Extent
+extent_in flag = if bytes_eq flag (codes "true") then Whole else Cut
+
+-- an explanation as JSON, where the value of the first flag says so, and else in words
+abbrev pub told_in : Text → Text → Verb
+told_in json all = if bytes_eq json (codes "true") then ExplainJson else Explain (extent_in all)
+
+-- a verb with the flags for JSON, for lists that aren't cut and for a rank, where it has them
+abbrev pub in_form : Verb → Option Text → Option Text → Option Text → Option Verb
+in_form (Explain extent) json all (Some text) = explain_in text
+in_form (Explain extent) (Some json) (Some all) None = Some (told_in json all)
+in_form (Graph extent) json (Some all) rank = Some (Graph (extent_in all))
+in_form Report (Some flag) all rank = Some (report_in flag)
+in_form verb json all rank = Some verb
 
 -- the verb of this name, with its flags
 abbrev pub form_in : Text → List Row → Option Verb
-form_in name rows = option_and_then (λ verb. in_form verb (first_of (codes "json") rows) (first_of (codes "rank") rows)) (verb_named name)
+form_in name rows = option_and_then (λ verb. in_form verb (first_of (codes "json") rows) (first_of (codes "all") rows) (first_of (codes "rank") rows)) (verb_named name)
 
 -- a verb over a layout and a manifest, where both are named
 abbrev pub pair_of : Verb → Option Text → Option Text → Option Request
@@ -193,6 +223,15 @@ over verb None rows = pair_in verb rows
 -- what the words of a verb over files ask for
 abbrev pub files_in : Verb → List Row → Option Request
 files_in verb rows = over verb (all_of (codes "FILE") rows) rows
+
+-- a cluster of a layout and a manifest, where both are named
+abbrev pub cluster_of : Option Text → Option Text → Option Request
+cluster_of (Some layout) (Some manifest) = Some (cluster layout manifest)
+cluster_of layout manifest = None
+
+-- what the words of a cluster ask for
+abbrev pub cluster_in : List Row → Option Request
+cluster_in rows = cluster_of (first_of (codes "LAYOUT") rows) (first_of (codes "MANIFEST") rows)
 
 -- how sends of standard mode complete, by the word
 abbrev pub sends_named : Text → Option Sends
@@ -213,9 +252,13 @@ wish_in rows = wanted_of (option_and_then sends_named (first_of (codes "sends") 
 abbrev pub init_in : List Row → Option Request
 init_in rows = option_and_then (λ wish. option_map (λ texts. init texts wish) (all_of (codes "TEXT") rows)) (wish_in rows)
 
+-- what the words of a verb of this name ask for
+abbrev pub verb_in : Text → List Row → Option Request
+verb_in name rows = option_and_then (λ verb. files_in verb rows) (form_in name rows)
+
 -- what a subcommand asks for, with its values
 abbrev pub asks_for : Text → List Row → Option Request
-asks_for name rows = if bytes_eq name (codes "init") then init_in rows else option_and_then (λ verb. files_in verb rows) (form_in name rows)
+asks_for name rows = if bytes_eq name (codes "init") then init_in rows else if bytes_eq name (codes "cluster") then cluster_in rows else verb_in name rows
 
 -- what the subcommand that was met asks for
 abbrev pub request_in : Option (Text × List Row) → Option Request

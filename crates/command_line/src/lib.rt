@@ -12,7 +12,7 @@
 ghost use Rattle.std.specs.Prelude.{◌≡◌, [], IfErr, IfOk, OnOk, Some, codes, false, option_and_then, option_map};
 ghost use Rattle.clap.specs.Words.{app_of, fault_of, found_of, new_app, rows_of, rule_of, subcommand_of, subcommand_rows_of};
 ghost use Rattle.clap.specs.declared.builder.command.Command.TheViews.{out-Command};
-ghost use Rattle.command_line.specs.Program.{Refuses, answering, bare, explain_app, explain_in, file_rule, files_app, files_in, force_rule, form_in, in_form, init_app, init_in, json_rule, layout_rule, wanted_of, wish_in, wish_of, manifest_rule, option_rule, pair_app, pair_in, pair_of, program, rank_rule, report_app, report_in, request_in, request_of, sends_named, sends_rule, several_rule, shown_status_of, text_of, texts_of, verb_named, with_explain as and_explain, with_files as and_files, with_init as and_init, with_pair as and_pair, with_report as and_report};
+ghost use Rattle.command_line.specs.Program.{Refuses, all_rule, answering, bare, cluster_in, cluster_of, explain_app, extent_in, explain_in, file_rule, files_app, files_in, force_rule, form_in, graph_app, in_form, init_app, init_in, json_rule, layout_rule, wanted_of, wish_in, wish_of, manifest_rule, option_rule, pair_app, pair_in, pair_of, program, rank_rule, report_app, report_in, request_in, request_of, sends_named, sends_rule, several_rule, shown_status_of, text_of, told_in, verb_in, texts_of, verb_named, with_explain as and_explain, with_files as and_files, with_graph as and_graph, with_init as and_init, with_pair as and_pair, with_report as and_report};
 
 use clap::builder::ValueParser;
 use clap::error::ErrorKind;
@@ -21,15 +21,26 @@ use mpi_model::Sends;
 use std::alloc::{AllocError, Global};
 use thiserror::Error;
 
+/// How much is said of a run.
+#[derive(Clone, Copy, Debug, PartialEq, Eq)]
+pub enum Extent {
+    /// Long lists are cut.
+    Cut,
+    /// All there is.
+    Whole,
+}
+
 /// What the program is asked to do.
 #[derive(Clone, Copy, Debug, PartialEq, Eq)]
 pub enum Verb {
-    /// Say in words who is stuck, which of them hold up all others, and what makes the answer doubtful.
-    Explain,
+    /// Say in words what holds up the run, where all ranks stand, and what may make that wrong.
+    Explain(Extent),
+    /// Print the same facts as one JSON object.
+    ExplainJson,
     /// Say in words what is known of one rank.
     ExplainRank(u32),
-    /// Draw for whom each stuck rank waits, as Graphviz DOT.
-    Graph,
+    /// Draw what holds up the run, and who waits for it, as Graphviz DOT.
+    Graph(Extent),
     /// Print the report of a trace.
     Report,
     /// Print the report as one JSON object.
@@ -37,13 +48,25 @@ pub enum Verb {
     /// Run a schedule of posts, takes, shipments, deliveries and restarts, and print the report of
     /// each node.
     Replay,
-    /// Read the pieces of two nodes by two workers each, let the nodes exchange what they know, and
-    /// print the report of each and whether both say the same.
-    Cluster,
     /// Make what a report tells once more straight from the rules, and print whether both agree.
     Check,
     /// Write what the pieces tell together, as bytes that are a piece of another run.
     Pack,
+}
+
+impl Verb {
+    ghost use Rattle.std.specs.Prelude.{◌≡◌};
+    ghost use Rattle.command_line.specs.Program.{asked_rank};
+
+    /// The rank that the verb asks for, where it asks for one.
+    pub fn asked_rank(self) -> Option<u32>
+        ensures { result ≡ asked_rank self }
+    {
+        match self {
+            Verb::ExplainRank(rank) => Some(rank),
+            _ => None,
+        }
+    }
 }
 
 /// What `init` is to make of the texts.
@@ -72,6 +95,12 @@ pub enum Asked<'a> {
     Files {
         verb: Verb,
         files: Vec<&'a str>,
+    },
+    /// The pieces of a manifest are read by two nodes with two workers each, the nodes exchange what they know, and the
+    /// report of each is printed, and whether both say the same.
+    Cluster {
+        layout: &'a str,
+        manifest: &'a str,
     },
     /// A layout and a manifest for the texts of all ranks.
     Init {
@@ -145,26 +174,28 @@ pub fn command_of<'a>(alloc: Global, words: &'a [&'a str]) -> Result<Asked<'a>, 
 /// What the help of `explain` says below its arguments.
 const EXPLAIN_HELP: &str = r#"Example: mpimatch explain layout.json manifest.json
 
-It says how the run stands, and then of each stuck rank in which call it stands and whom it waits for:
-first of those that hold up one another, the hearts of the deadlocks, and then of those that only wait
-for them. Ranks that stand alike share a line. Below that it says what would be stuck if sends completed
-in the other way, which pieces disagree, where something is missing, and what else makes the answer
-doubtful. mpimatch report has all facts, one a line.
+It says whether ranks are stuck, collective calls don't match, or ranks wait for others that give no sign;
+then what holds up the run, where all ranks stand, which collective calls not all have entered, and which
+messages and receives found no partner, with what they miss one another by; and last what may make that
+wrong. Ranks that stand alike share a line. Where a trace tells from where in the program a call was made,
+that is said. mpimatch report has all facts of the run, one a line.
 
-With --rank it says what is known of one rank: how far it can be read, whether it is stuck and whom it
-waits for, and its last ten calls that can be read, with their times and where their messages went.
+With --json it prints the same facts as one JSON object, on one line:
+  mpimatch explain --json layout.json manifest.json | jq .roots
+
+With --rank it says of one rank how it stands, what it needs, what holds it up and what it holds up, and
+its last ten calls that can be read, with their times and where their messages went.
   mpimatch explain --rank 2 layout.json manifest.json
 "#;
 
 /// What the help of `graph` says below its arguments.
-const GRAPH_HELP: &str =
-    r#"Example: mpimatch graph layout.json manifest.json | dot -Tsvg >deadlock.svg
+const GRAPH_HELP: &str = r#"Example: mpimatch graph layout.json manifest.json | dot -Tsvg >hang.svg
 
-It prints a graph in the language of Graphviz, whose dot draws it. Each rank stands in one node, with
-the call in which it stands. Ranks that wait for the same, in the same function on the same
-communicator, share a node. Filled nodes with a double frame hold up all others, the hearts of the
-deadlocks; gray ones are not stuck. A rank waits for each rank to which a solid arrow leads, and for one
-of those to which the dashed arrows of a small point lead.
+It prints a graph in the language of Graphviz, whose dot draws it: the ranks that wait, and what holds
+them up. Ranks that stand alike and need the same share a node. What holds up the run is filled, with a
+bold frame where it has ended or gives no sign; a round whose calls don't match is a node with its calls.
+A rank needs each rank to which a solid arrow leads, and one of those to which the dashed arrows of a
+small point lead.
 "#;
 
 /// What the help of `report` says below its arguments.
@@ -340,13 +371,7 @@ fn answering_command<'a>(alloc: Global) -> Result<Command<'a>, AllocError>
     ensures { IfOk result (λ c. app_of c ≡ answering) }
 {
     let command = with_explain(bare_command(alloc), alloc)?;
-    let command = with_files(
-        command,
-        alloc,
-        "graph",
-        "Draws for whom each stuck rank waits, as a graph for Graphviz",
-        GRAPH_HELP,
-    )?;
+    let command = with_graph(command, alloc)?;
     with_report(command, alloc)
 }
 
@@ -389,7 +414,7 @@ fn with_files<'a>(
     command.subcommand(verb)
 }
 
-/// Adds `explain`, which has a flag.
+/// Adds `explain`, which has flags.
 fn with_explain<'a>(command: Command<'a>, alloc: Global) -> Result<Command<'a>, AllocError>
     ensures { IfOk result (λ c. app_of c ≡ and_explain (app_of command.entry)) }
 {
@@ -397,7 +422,7 @@ fn with_explain<'a>(command: Command<'a>, alloc: Global) -> Result<Command<'a>, 
     command.subcommand(explain)
 }
 
-/// `explain`, over texts or a layout and a manifest, of all ranks or of one.
+/// `explain`, over texts or a layout and a manifest: as JSON, with lists that aren't cut, of all ranks or of one.
 fn explain_command<'a>(alloc: Global) -> Result<Command<'a>, AllocError>
     ensures shape { IfOk result (λ c. app_of c ≡ explain_app) }
     ensures local { IfOk result (λ c. (out-Command c).has_globals ≡ false) }
@@ -405,10 +430,45 @@ fn explain_command<'a>(alloc: Global) -> Result<Command<'a>, AllocError>
     let bare = files_command(
         alloc,
         "explain",
-        "Says in words who is stuck, and which ranks hold up all others",
+        "Says in words what holds up the run, and where its ranks stand",
         EXPLAIN_HELP,
     )?;
-    bare.arg(rank_argument(alloc))
+    let json = bare.arg(json_argument(alloc, "Prints the same facts as one JSON object"))?;
+    let all = json.arg(all_argument(alloc, "Cuts no list"))?;
+    all.arg(rank_argument(alloc))
+}
+
+/// Adds `graph`, which has a flag.
+fn with_graph<'a>(command: Command<'a>, alloc: Global) -> Result<Command<'a>, AllocError>
+    ensures { IfOk result (λ c. app_of c ≡ and_graph (app_of command.entry)) }
+{
+    let graph = graph_command(alloc)?;
+    command.subcommand(graph)
+}
+
+/// `graph`, over texts or a layout and a manifest, perhaps with all nodes.
+fn graph_command<'a>(alloc: Global) -> Result<Command<'a>, AllocError>
+    ensures shape { IfOk result (λ c. app_of c ≡ graph_app) }
+    ensures local { IfOk result (λ c. (out-Command c).has_globals ≡ false) }
+{
+    let bare = files_command(
+        alloc,
+        "graph",
+        "Draws what holds up the run, and who waits for it, as a graph for Graphviz",
+        GRAPH_HELP,
+    )?;
+    bare.arg(all_argument(alloc, "Draws all nodes, also more than 200"))
+}
+
+/// The flag for all there is.
+fn all_argument<'a>(alloc: Global, help: &'a str) -> Arg<'a>
+    ensures rule { rule_of result ≡ all_rule }
+    ensures local { result.global ≡ false }
+{
+    Arg::new(alloc, "all")
+        .long("all")
+        .help(help)
+        .action(ArgAction::SetTrue)
 }
 
 /// `--rank`, a number.
@@ -441,17 +501,17 @@ fn report_command<'a>(alloc: Global) -> Result<Command<'a>, AllocError>
         "Prints who received what from whom, and which ranks are stuck",
         REPORT_HELP,
     )?;
-    bare.arg(json_argument(alloc))
+    bare.arg(json_argument(alloc, "Prints the report as one JSON object"))
 }
 
-/// The flag for a report as JSON.
-fn json_argument<'a>(alloc: Global) -> Arg<'a>
+/// The flag for JSON.
+fn json_argument<'a>(alloc: Global, help: &'a str) -> Arg<'a>
     ensures rule { rule_of result ≡ json_rule }
     ensures local { result.global ≡ false }
 {
     Arg::new(alloc, "json")
         .long("json")
-        .help("Prints the report as one JSON object")
+        .help(help)
         .action(ArgAction::SetTrue)
 }
 
@@ -614,15 +674,13 @@ fn verb_of(name: &str) -> Option<Verb>
     ensures { result ≡ verb_named name.now }
 {
     if name == "explain" {
-        Some(Verb::Explain)
+        Some(Verb::Explain(Extent::Cut))
     } else if name == "graph" {
-        Some(Verb::Graph)
+        Some(Verb::Graph(Extent::Cut))
     } else if name == "report" {
         Some(Verb::Report)
     } else if name == "replay" {
         Some(Verb::Replay)
-    } else if name == "cluster" {
-        Some(Verb::Cluster)
     } else if name == "check" {
         Some(Verb::Check)
     } else if name == "pack" {
@@ -632,14 +690,38 @@ fn verb_of(name: &str) -> Option<Verb>
     }
 }
 
-/// The verb with its flag, where that is set; none where a rank is no number, which `clap` has seen to.
-fn in_form(verb: Verb, json: Option<&str>, rank: Option<&str>) -> Option<Verb>
-    ensures { result ≡ in_form verb (text_of json.entry) (text_of rank.entry) }
+/// The verb with its flags, where those are set; none where a rank is no number, which `clap` has seen to.
+fn in_form(verb: Verb, json: Option<&str>, all: Option<&str>, rank: Option<&str>) -> Option<Verb>
+    ensures { result ≡ in_form verb (text_of json.entry) (text_of all.entry) (text_of rank.entry) }
 {
-    match (verb, json, rank) {
-        (Verb::Explain, _, Some(text)) => explain_in(text),
-        (Verb::Report, Some(text), _) => Some(report_in(text)),
-        (verb, _, _) => Some(verb),
+    match (verb, json, all, rank) {
+        (Verb::Explain(_), _, _, Some(text)) => explain_in(text),
+        (Verb::Explain(_), Some(json), Some(all), None) => Some(told_in(json, all)),
+        (Verb::Graph(_), _, Some(all), _) => Some(Verb::Graph(extent_in(all))),
+        (Verb::Report, Some(text), _, _) => Some(report_in(text)),
+        (verb, _, _, _) => Some(verb),
+    }
+}
+
+/// How much is said: all, where the value of the flag says so.
+fn extent_in(flag: &str) -> Extent
+    ensures { result ≡ extent_in flag.now }
+{
+    if flag == "true" {
+        Extent::Whole
+    } else {
+        Extent::Cut
+    }
+}
+
+/// An explanation as JSON, where the value of the first flag says so, and else in words.
+fn told_in(json: &str, all: &str) -> Verb
+    ensures { result ≡ told_in json.now all.now }
+{
+    if json == "true" {
+        Verb::ExplainJson
+    } else {
+        Verb::Explain(extent_in(all))
     }
 }
 
@@ -670,8 +752,9 @@ fn form_in(name: &str, inner: &ArgMatches<'_>) -> Option<Verb>
 {
     let verb = verb_of(name)?;
     let json = inner.get_str("json");
+    let all = inner.get_str("all");
     let rank = inner.get_str("rank");
-    in_form(verb, json, rank)
+    in_form(verb, json, all, rank)
 }
 
 /// A verb over a layout and a manifest, where both are named.
@@ -712,6 +795,25 @@ fn files_in<'a>(
         }
         None => Ok(pair_in(verb, inner)),
     }
+}
+
+/// A cluster of a layout and a manifest, where both are named.
+fn cluster_of<'a>(layout: Option<&'a str>, manifest: Option<&'a str>) -> Option<Asked<'a>>
+    ensures { option_map request_of result ≡ cluster_of (text_of layout.entry) (text_of manifest.entry) }
+{
+    match (layout, manifest) {
+        (Some(layout), Some(manifest)) => Some(Asked::Cluster { layout, manifest }),
+        _ => None,
+    }
+}
+
+/// A cluster of its layout and its manifest.
+fn cluster_in<'a>(inner: &ArgMatches<'a>) -> Option<Asked<'a>>
+    ensures { option_map request_of result ≡ cluster_in (rows_of (found_of inner.now)) }
+{
+    let layout = inner.get_str("LAYOUT");
+    let manifest = inner.get_str("MANIFEST");
+    cluster_of(layout, manifest)
 }
 
 /// How sends of standard mode complete, by the word.
@@ -793,6 +895,20 @@ fn asked_in<'a>(alloc: Global, matches: &ArgMatches<'a>) -> Result<Option<Asked<
     if name == "init" {
         return init_in(alloc, inner);
     }
+    if name == "cluster" {
+        return Ok(cluster_in(inner));
+    }
+    verb_in(alloc, name, inner)
+}
+
+/// A verb of this name over its files, with its flags.
+fn verb_in<'a>(
+    alloc: Global,
+    name: &str,
+    inner: &ArgMatches<'a>,
+) -> Result<Option<Asked<'a>>, AllocError>
+    ensures { IfOk result (λ asked. option_map request_of asked ≡ verb_in name.now (rows_of (found_of inner.now))) }
+{
     match form_in(name, inner) {
         Some(verb) => files_in(alloc, verb, inner),
         None => Ok(None),

@@ -10,12 +10,12 @@ use Rattle.std.proofs.lemmas.List.Elements.{All-cons, All-contains, All-head, Al
 use Rattle.std.proofs.lemmas.List.Sorted.{All-permutation, Contains-permutation, IsPermutation-keeps, IsPermutation-refl, IsPermutation-swap, IsPermutation-sym, IsPermutation-trans}
 use Rattle.trace_know.specs.Trace.{Fact, SameFacts, Trace, view_of}
 use Rattle.trace_know.specs.View.{View}
-use Rattle.input_files.specs.Manifests.{PieceParts}
+use Rattle.run_files.specs.Manifests.{PieceParts}
 use Rattle.command_runs.specs.Pieces.{AreFactsOf, RefusesPiece}
 use Rattle.command_runs.specs.Refusals.{BlamesFile, NamesStranger, RefusesFirst, RefusesInSomeOrder, RefusesOneOf, RefusesPieces}
 use Rattle.command_runs.specs.Traces.{Begin, IsFirstStranger, IsInside, IsKnown, TellTrace}
-use Rattle.command_runs.specs.declared.fault.RunFault.{RunFault}
-use Rattle.command_runs.specs.declared.fault.RunFault.TheVariants as faults
+use Rattle.command_runs.specs.declared.faults.fault.RunFault.{RunFault}
+use Rattle.command_runs.specs.declared.faults.fault.RunFault.TheVariants as faults
 use Rattle.command_runs.proofs.Traces.{begins}
 
 abbrev Files : Type 0

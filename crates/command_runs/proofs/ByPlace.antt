@@ -17,11 +17,11 @@ use Rattle.trace_crew.specs.declared.queue.item.Worker.TheVariants as workers
 use Rattle.trace_crew.specs.declared.piece.TextPiece.{TextPiece}
 use Rattle.trace_crew.specs.Pieces.{place_of}
 use Rattle.trace_cluster.specs.Pieces.{IsForeign, IsWhole, IsWithin, Placed, all_pieces, placed_from}
-use Rattle.input_files.specs.Manifests.{PieceParts}
+use Rattle.run_files.specs.Manifests.{PieceParts}
 use Rattle.command_runs.specs.Clusters.{AreSound, AreWhole, HaveStranger, IsOutside, by_node, piece_at}
-use Rattle.command_runs.specs.Texts.{AreShares, AreTextsOf, IsTextOf, share_of}
+use Rattle.command_runs.specs.NodeTexts.{AreShares, AreTextsOf, IsTextOf, share_of}
 use Rattle.command_runs.specs.Traces.{IsInside, TellTrace}
-use Rattle.command_runs.specs.declared.texts.AllTexts.{AllTexts}
+use Rattle.command_runs.specs.declared.pieces.node_texts.AllTexts.{AllTexts}
 use Rattle.command_runs.proofs.GivenFacts.{facts_given}
 use Rattle.command_runs.proofs.Traces.{facts_of_first}
 

@@ -17,12 +17,12 @@ use Rattle.trace_know.specs.View.{View, cell, join, place_cmp}
 use Rattle.trace_know.specs.declared.cell.Known.{Known}
 use Rattle.trace_node.specs.ByRank.{AreTold}
 use Rattle.trace_node.specs.declared.by_rank.RankByRank.{RankByRank}
-use Rattle.input_files.specs.Manifests.{PieceParts}
+use Rattle.run_files.specs.Manifests.{PieceParts}
 use Rattle.command_runs.specs.Ranks.{TellRanks}
 use Rattle.command_runs.specs.Refusals.{NamesStranger, RefusesFirst, RefusesPieces}
 use Rattle.command_runs.specs.Traces.{Begin, IsFirstStranger, IsInside, IsKnown, TellTrace}
-use Rattle.command_runs.specs.declared.fault.RunFault.{RunFault}
-use Rattle.command_runs.specs.declared.fault.RunFault.TheVariants as faults
+use Rattle.command_runs.specs.declared.faults.fault.RunFault.{RunFault}
+use Rattle.command_runs.specs.declared.faults.fault.RunFault.TheVariants as faults
 use Rattle.command_runs.proofs.Traces.{Unites}
 use Rattle.command_runs.proofs.Within.{ShowsFacts, fact_at, of_rank}
 

@@ -6,10 +6,10 @@ use Rattle.trace_know.specs.Segment.{PlacedEvents, enter_place}
 use Rattle.trace_know.specs.Trace.{facts_from, facts_of_all}
 use Rattle.trace_crew.specs.declared.piece.TextPiece.{TextPiece}
 use Rattle.trace_crew.specs.Pieces.{GivesSegments}
-use Rattle.input_files.specs.Manifests.{PieceParts}
+use Rattle.run_files.specs.Manifests.{PieceParts}
 use Rattle.command_runs.specs.Files.{IsFile}
 use Rattle.command_runs.specs.Pieces.{TellsFacts}
-use Rattle.command_runs.specs.Texts.{IsTextOf}
+use Rattle.command_runs.specs.NodeTexts.{IsTextOf}
 
 pub events_told : (file : Option (List ℕ)) (bytes : List ℕ) (events : List Event) → IsFile file bytes → AreEvents bytes events → TellsEvents file events
 events_told None bytes events is are = tt

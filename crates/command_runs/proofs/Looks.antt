@@ -5,7 +5,7 @@ use Rattle.std.proofs.lemmas.List.{take_all}
 use Rattle.std.specs.Io.KnownBytes.{Consumes, IsAtEnd}
 use Rattle.command_runs.specs.Files.{StandsAtFirst}
 use Rattle.command_runs.specs.Looks.{BeginsAsText, IsLookAt, any_below, begins_call, has_call}
-use Rattle.command_runs.specs.declared.first_look.TheConstants.{LONGEST_LOOK}
+use Rattle.command_runs.specs.declared.load.first_look.TheConstants.{LONGEST_LOOK}
 
 -- so many bytes were read
 pub looked_full : (left new : Option (List ℕ)) (front : List ℕ) (answer : Bool) → Consumes left new front → length front ≡ LONGEST_LOOK → answer ≡ has_call front → IsLookAt left answer

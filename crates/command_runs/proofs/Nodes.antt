@@ -14,7 +14,8 @@ use Rattle.trace_node.specs.Node.{Held, held}
 use Rattle.trace_world.specs.Refusals.{NoneStaler, stale}
 use Rattle.trace_world.specs.Shows.{knowledge_of, knows}
 use Rattle.trace_world.specs.Worlds.{layouts}
-use Rattle.command_runs.specs.Replays.{AppendsFront, AreAnswers, IsTextOf, NoneStale, node_text, node_texts}
+use Rattle.command_runs.specs.Replays.{AreAnswers, IsTextOf, NoneStale, node_text, node_texts}
+use Rattle.command_runs.specs.Writing.{AppendsFront}
 
 -- ---- what the nodes hold
 

@@ -14,11 +14,11 @@ use Rattle.trace_crew.specs.declared.queue.item.Worker.TheVariants as workers
 use Rattle.trace_crew.specs.declared.piece.TextPiece.{TextPiece}
 use Rattle.trace_crew.specs.Views.{is_from}
 use Rattle.trace_cluster.specs.Clustered.{KnowsOwn, KnowsPiece}
-use Rattle.input_files.specs.Manifests.{PieceParts}
+use Rattle.run_files.specs.Manifests.{PieceParts}
 use Rattle.command_runs.specs.Clusters.{IsKnownTo, known_by}
 use Rattle.command_runs.specs.Pieces.{TellsFacts}
-use Rattle.command_runs.specs.Texts.{AreShares, AreTextsOf, is_share, is_side, share_of, side_of, worker_of}
-use Rattle.command_runs.specs.declared.texts.AllTexts.{AllTexts}
+use Rattle.command_runs.specs.NodeTexts.{AreShares, AreTextsOf, is_share, is_side, share_of, side_of, worker_of}
+use Rattle.command_runs.specs.declared.pieces.node_texts.AllTexts.{AllTexts}
 use Rattle.command_runs.proofs.GivenFacts.{facts_given}
 
 -- all that the piece tells is known

@@ -1,5 +1,5 @@
 -- What the packed files of two nodes tell, one file more.
-use Rattle.std.proofs.Common.{◌≡◌, ◌∙◌, ◌++◌, ◌∷◌, ◌⊎◌, [], inl, inr, ℕ, List, Option, Bool, true, false, cond, ap, sym, refl, subst}
+use Rattle.std.proofs.Common.{◌≡◌, ◌∙◌, ◌++◌, ◌∷◌, [], ℕ, List, Option, Bool, true, false, cond, ap, sym, subst}
 use Rattle.std.specs.FinMap.{empty}
 use Rattle.std.proofs.lemmas.List.{append-nil}
 use Rattle.std.proofs.lemmas.List.Elements.{filter-append}
@@ -10,17 +10,14 @@ use Rattle.trace_cluster.specs.declared.side.Side.TheVariants as sides
 use Rattle.trace_know.specs.View.{View, IsBelow, join}
 use Rattle.trace_node.specs.Node.{Held}
 use Rattle.trace_wire.specs.Packed.{IsOfRanks, Unpacks}
-use Rattle.input_files.specs.Manifests.{ManifestParts, PackedParts}
-use Rattle.command_runs.specs.Clusters.{RefusesClusterNodes, known_by}
-use Rattle.command_runs.specs.Inputs.{TellsManifest}
-use Rattle.command_runs.specs.Packed.{RefusesFirstPacked, TellPacked}
+use Rattle.run_files.specs.Manifests.{PackedParts}
+use Rattle.command_runs.specs.Clusters.{known_by}
+use Rattle.command_runs.specs.Packed.{TellPacked}
 use Rattle.command_runs.specs.Shares.{KnowsShare, TellShares, packed_share_of, so_far, told_to}
-use Rattle.command_runs.specs.Texts.{is_side, known_in, side_of}
-use Rattle.command_runs.specs.declared.fault.RunFault.{RunFault}
-use Rattle.command_runs.specs.declared.fault.RunFault.TheVariants.{Memory}
-use Rattle.command_runs.specs.declared.shares.PackedShares.{PackedShares}
-use Rattle.command_runs.specs.declared.shares.SoFar.{SoFar}
-use Rattle.command_runs.specs.declared.texts.AllTexts.{AllTexts}
+use Rattle.command_runs.specs.NodeTexts.{is_side, known_in, side_of}
+use Rattle.command_runs.specs.declared.pieces.shares.PackedShares.{PackedShares}
+use Rattle.command_runs.specs.declared.pieces.shares.SoFar.{SoFar}
+use Rattle.command_runs.specs.declared.pieces.node_texts.AllTexts.{AllTexts}
 use Rattle.command_runs.proofs.Unpacking.{Associates, Commutes, of_both, packed_more}
 use Rattle.command_runs.proofs.Within.{JoinsCells}
 
@@ -80,9 +77,3 @@ shares_known file l packed shares texts one other tell same first second sides.F
     (shares.first, tell sides.First, subst (λ (v : View). IsBelow v one.know) (same sides.First) first.told)
 shares_known file l packed shares texts one other tell same first second sides.Second =
     (shares.second, tell sides.Second, subst (λ (v : View). IsBelow v other.know) (same sides.Second) second.told)
-
--- A packed file of one is refused.
-pub shares_refused : (file : List ℕ → Option (List ℕ)) (l : Parts) (manifest : List ℕ) (m : ManifestParts) (fault : RunFault) → TellsManifest (file manifest) m
-    → (fault ≡ Memory) ⊎ RefusesFirstPacked file l.ranks m.packed fault → RefusesClusterNodes file l manifest fault
-shares_refused file l manifest m fault told (inl e) = inl e
-shares_refused file l manifest m fault told (inr h) = inr (inr (m, told, inl h))

@@ -8,12 +8,12 @@ use Rattle.dumpi_calls.specs.Whole.{SegmentsTellAll}
 use Rattle.trace_know.specs.Segment.{PlacedEvents}
 use Rattle.trace_know.specs.Trace.{facts_of_all, view_of}
 use Rattle.trace_know.specs.View.{View}
-use Rattle.input_files.specs.Manifests.{PieceParts}
+use Rattle.run_files.specs.Manifests.{PieceParts}
 use Rattle.command_runs.specs.Pieces.{RefusesPiece, TellsSegments}
 use Rattle.command_runs.specs.Refusals.{RefusesFirst}
 use Rattle.command_runs.specs.Schedules.{TellSegments, held_lists}
 use Rattle.command_runs.specs.Traces.{IsKnown, TellTrace}
-use Rattle.command_runs.specs.declared.fault.RunFault.{RunFault}
+use Rattle.command_runs.specs.declared.faults.fault.RunFault.{RunFault}
 use Rattle.command_runs.proofs.Traces.{begins}
 
 segments_more : (file : List ℕ → Option (List ℕ)) (pieces : List PieceParts) (piece : PieceParts) (lists : List (List PlacedEvents)) (own : List PlacedEvents)

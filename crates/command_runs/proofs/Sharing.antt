@@ -5,9 +5,9 @@ use Rattle.std.proofs.lemmas.List.Elements.{filter-append}
 use Rattle.trace_cluster.specs.declared.side.Side.{Side}
 use Rattle.trace_crew.specs.declared.queue.item.Worker.{Worker}
 use Rattle.trace_crew.specs.declared.piece.TextPiece.{TextPiece}
-use Rattle.input_files.specs.Manifests.{PieceParts}
-use Rattle.command_runs.specs.Texts.{AreShares, AreTextsOf, IsTextOf, is_share, share_in, share_of}
-use Rattle.command_runs.specs.declared.texts.AllTexts.{AllTexts}
+use Rattle.run_files.specs.Manifests.{PieceParts}
+use Rattle.command_runs.specs.NodeTexts.{AreShares, AreTextsOf, IsTextOf, is_share, share_in, share_of}
+use Rattle.command_runs.specs.declared.pieces.node_texts.AllTexts.{AllTexts}
 
 texts_more : (file : List ℕ → Option (List ℕ)) (pieces : List PieceParts) (piece : PieceParts) (texts : List TextPiece) (text : TextPiece)
     → AreTextsOf file pieces texts → IsTextOf file piece text → AreTextsOf file (pieces ++ piece ∷ []) (texts ++ text ∷ [])

@@ -8,7 +8,7 @@ use Rattle.mpi_model.specs.declared.event.Event.{Event}
 use Rattle.trace_know.specs.Segment.{PlacedEvents}
 use Rattle.trace_know.specs.Trace.{Trace, facts_from, facts_of_all, view_of}
 use Rattle.trace_know.specs.View.{View, join}
-use Rattle.input_files.specs.Manifests.{PieceParts}
+use Rattle.run_files.specs.Manifests.{PieceParts}
 use Rattle.command_runs.specs.Pieces.{TellsFacts, facts_of_piece}
 use Rattle.command_runs.specs.Traces.{Begin, IsFirstStranger, IsInside, IsKnown, KeepsFirst, TellTrace}
 

@@ -1,9 +1,7 @@
 -- What packed files tell, one file more, and why one is refused.
-use Rattle.std.proofs.Common.{◌≡◌, ◌∙◌, ◌+◌, ◌++◌, ◌∷◌, [], ℕ, List, Option, Some, None, String, IsSome, ap, append_assoc, arith, drop, length, sym, refl, subst, inl, inr, string_bytes, take}
+use Rattle.std.proofs.Common.{◌≡◌, ◌∙◌, ◌+◌, ◌++◌, ◌∷◌, [], ℕ, List, Option, Some, None, IsSome, ap, append_assoc, arith, drop, length, sym, refl, subst, inl, inr, take}
 use Rattle.std.proofs.lemmas.List.{take-append-drop}
 use Rattle.std.specs.FinMap.{empty}
-use Rattle.std.specs.declared.alloc.Global.{Global}
-use Rattle.dumpi_text.specs.declared.fault.TextCause.TheVariants.{Read}
 use Rattle.trace_know.specs.View.{View, cell, join}
 use Rattle.trace_know.specs.declared.cell.Known.{Known}
 use Rattle.trace_wire.specs.Packed.{IsOfRanks, RefusesCause, RefusesPacked, Unpacks}
@@ -11,12 +9,12 @@ use Rattle.trace_wire.specs.declared.fault.WireFault.TheVariants as wires
 use Rattle.trace_wire.specs.declared.packed.fault.PackedCause.{PackedCause}
 use Rattle.trace_wire.specs.declared.packed.fault.PackedCause.TheVariants as causes
 use Rattle.trace_wire.specs.declared.packed.fault.PackedFault.{PackedFault}
-use Rattle.input_files.specs.Manifests.{PackedParts}
-use Rattle.command_runs.specs.Files.{IsUnreadable, NamesFailed, NamesUnreadable, StandsAtFirst}
+use Rattle.run_files.specs.Manifests.{PackedParts}
+use Rattle.command_runs.specs.Files.{NamesFailed, StandsAtFirst}
 use Rattle.command_runs.specs.Packed.{IsFrameFault, RefusesPackedFile, TellPacked}
-use Rattle.command_runs.specs.declared.fault.RunFault.{RunFault}
-use Rattle.command_runs.specs.declared.fault.RunFault.TheVariants.{Memory, File, Json, Shape, PackedFrame, Layout, Text, Missing, Wrong, Place, Rank, Outside, NodeCount, Step, Worker, Net, Frame, Write}
-use Rattle.command_runs.specs.declared.fault.RunFault.TheVariants as faults
+use Rattle.command_runs.specs.declared.faults.fault.RunFault.{RunFault}
+use Rattle.command_runs.specs.declared.faults.fault.RunFault.TheVariants.{Memory, File, Json, Shape, PackedFrame, Layout, Text, Missing, Wrong, Place, Rank, Outside, NodeCount, Step, Worker, Net, Frame, Write}
+use Rattle.command_runs.specs.declared.faults.fault.RunFault.TheVariants as faults
 use Rattle.command_runs.proofs.Within.{JoinsCells, either_known}
 
 -- ---- one file
@@ -81,13 +79,7 @@ file_refused name ranks count file left before now fault Net stands e h is = abs
 file_refused name ranks count file left before now fault (Frame broken) stands e h is = absurd is
 file_refused name ranks count file left before now fault Write stands e h is = absurd is
 
--- a packed file that can't be read is one that can't be opened
-pub packed_unread : (most : ℕ) (fails : Type 0) (file : List ℕ → Option (List ℕ)) (name : List ℕ) (ranks : ℕ) (fault : RunFault) → RefusesPackedFile name ranks (file name) fault
-    → NamesUnreadable most fails file fault
-packed_unread most fails file name ranks fault h path e =
-    let refuses : RefusesPackedFile name ranks (file name) (File path) = subst (RefusesPackedFile name ranks (file name)) e h in
-    subst (λ (text : Option (List ℕ)). IsUnreadable most fails text) (sym (ap file refuses.0 ∙ refuses.1)) tt
-
+-- a packed file is no text whose reader fails
 pub packed_untold : (fails : Type 0) (text : Option (List ℕ)) (name : List ℕ) (ranks : ℕ) (fault : RunFault) → RefusesPackedFile name ranks text fault → NamesFailed fails fault
 packed_untold fails text name ranks fault h path line e = absurd (subst (RefusesPackedFile name ranks text) e h)
 

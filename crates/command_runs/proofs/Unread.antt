@@ -1,7 +1,5 @@
--- Which file of a cluster can't be read, and that its texts are read in memory.
-use Rattle.std.proofs.Common.{◌≡◌, ◌≤◌, ◌∷◌, [], ℕ, List, Option, Some, None, String, length, string_bytes, inl, inr, refl, sym, subst, arith}
-use Rattle.std.specs.List.{Contains}
-use Rattle.std.proofs.lemmas.List.Elements.{Contains-append_right}
+-- The texts of a cluster are read in memory, so no reader of one fails.
+use Rattle.std.proofs.Common.{◌≡◌, ◌≤◌, ℕ, List, Option, Some, None, String, length, inl, inr, sym, subst}
 use Rattle.std.specs.declared.alloc.Global.{Global}
 use Rattle.dumpi_text.specs.declared.fault.TextCause.TheVariants.{Read}
 use Rattle.trace_crew.specs.declared.piece.PieceFault.{PieceFault}
@@ -19,87 +17,24 @@ use Rattle.trace_node.specs.declared.fault.NodeFault.TheVariants as nodes
 use Rattle.trace_wire.specs.declared.fault.WireFault.{WireFault}
 use Rattle.trace_wire.specs.declared.fault.WireFault.TheVariants as wires
 use Rattle.mpi_model.specs.Layouts.{Parts}
-use Rattle.input_files.specs.Manifests.{PieceParts}
+use Rattle.run_files.specs.Manifests.{PieceParts}
 use Rattle.dumpi_calls.specs.declared.collect.Memory.{Memory as NoMemory}
 use Rattle.dumpi_calls.specs.declared.fault.WalkCause.{WalkCause}
-use Rattle.input_files.specs.declared.fault.InputFault.{InputFault}
-use Rattle.input_files.specs.declared.fault.InputFault.TheVariants as inputs
-use Rattle.command_runs.specs.Clusters.{IsFaultFor, IsTextFault, NamesUnreadAmong, RefusesCrews, of_exchange, of_node, of_wire}
-use Rattle.command_runs.specs.Files.{FitsIn, IsFile, NamesFailed, NamesUnreadable}
-use Rattle.command_runs.specs.Inputs.{IsFaultOf, RefusesFile, RefusesInput}
-use Rattle.command_runs.specs.Pieces.{IsNamed}
-use Rattle.command_runs.specs.declared.fault.RunFault.{RunFault}
-use Rattle.command_runs.specs.declared.fault.RunFault.TheVariants.{File, Text}
-use Rattle.command_runs.specs.declared.whole.TheConstants.{LONGEST_FILE, LONGEST_PIECE}
+use Rattle.command_runs.specs.Clusters.{IsFaultFor, IsTextFault, of_exchange, of_node, of_wire}
+use Rattle.command_runs.specs.Files.{FitsIn, IsFile, NamesFailed}
+use Rattle.command_runs.specs.Inputs.{RefusesFile}
+use Rattle.command_runs.specs.declared.faults.fault.RunFault.{RunFault}
+use Rattle.command_runs.specs.declared.faults.fault.RunFault.TheVariants.{Text}
 
 -- a file whose bytes are at hand
 pub fits : (most : ℕ) (file : Option (List ℕ)) (bytes : List ℕ) → IsFile file bytes → length bytes ≤ most → FitsIn most file
 fits most None bytes is short = tt
 fits most (Some told) bytes is short = subst (λ (b : List ℕ). length b ≤ most) (sym is) short
 
--- the text of an input names no file as one that can't be read
-no_file : (name : List ℕ) (cause : InputFault) (path : String Global) → IsFaultOf name cause (File path) → ⊥
-no_file name inputs.Memory path is = cc
-no_file name (inputs.Json line column) path is = is
-no_file name (inputs.Shape field) path is = is
-no_file name inputs.Piece path is = is
-no_file name inputs.Packed path is = is
-no_file name (inputs.Layout broken) path is = is
-
--- an input that can't be read is named
-named : (refuses : List ℕ → InputFault → Type 0) (name : List ℕ) (file : Option (List ℕ)) (path : String Global) → RefusesInput refuses name file (File path) → IsNamed path name
-named refuses name file path (inl memory) = cc
-named refuses name file path (inr (inl unread)) = unread
-named refuses name file path (inr (inr h)) = absurd (no_file name h.1 path h.4)
-
-first_of_names : (names : List (List ℕ)) (name : List ℕ) → Contains (name ∷ names) name
-first_of_names names name = (0, omega arith, refl)
-
--- an input can't be read
-pub input_unread : (refuses : List ℕ → InputFault → Type 0) (fails : Type 0) (file : List ℕ → Option (List ℕ)) (name : List ℕ) (names : List (List ℕ)) (fault : RunFault)
-    → RefusesInput refuses name (file name) fault → NamesUnreadable LONGEST_FILE fails file fault → NamesUnreadAmong (name ∷ names) fails file fault
-input_unread refuses fails file name names fault refused unread path e =
-    let is : IsNamed path name = named refuses name (file name) path (subst (λ (f : RunFault). RefusesInput refuses name (file name) f) e refused) in
-    inl (subst (λ (n : List ℕ). Contains (n ∷ names) (string_bytes path)) is (first_of_names names (string_bytes path)), unread path e)
-
--- a piece can't be read
-pub piece_unread : (fails : Type 0) (file : List ℕ → Option (List ℕ)) (names : List (List ℕ)) (fault : RunFault) → NamesUnreadable LONGEST_PIECE fails file fault → NamesUnreadAmong names fails file fault
-piece_unread fails file names fault unread path e = inr (unread path e)
-
--- what is refused once all texts were read
-pub crews_unread : (fails : Type 0) (file : List ℕ → Option (List ℕ)) (ranks : ℕ) (pieces : List PieceParts) (names : List (List ℕ)) (fault : RunFault) → RefusesCrews file ranks pieces fault
-    → NamesUnreadAmong names fails file fault
-crews_unread fails file ranks pieces names fault refused path e = absurd (subst (λ (f : RunFault). RefusesCrews file ranks pieces f) e refused)
-
--- among more names
-pub more_names : (name : List ℕ) (names : List (List ℕ)) (fails : Type 0) (file : List ℕ → Option (List ℕ)) (fault : RunFault) → NamesUnreadAmong names fails file fault → NamesUnreadAmong (name ∷ names) fails file fault
-more_names name names fails file fault unread path e = elim (unread path e) [
-  | inl h ↦ inl (Contains-append_right (name ∷ []) names (string_bytes path) h.0, h.1)
-  | inr h ↦ inr h
-]
-
--- ---- no text of a cluster has a reader that fails
-
-no_text : (name : List ℕ) (cause : InputFault) (path : String Global) (line : ℕ) → IsFaultOf name cause (Text Read path line) → ⊥
-no_text name inputs.Memory path line is = cc
-no_text name (inputs.Json at along) path line is = is
-no_text name (inputs.Shape field) path line is = is
-no_text name inputs.Piece path line is = is
-no_text name inputs.Packed path line is = is
-no_text name (inputs.Layout broken) path line is = is
-
-input_of_text : (refuses : List ℕ → InputFault → Type 0) (name : List ℕ) (file : Option (List ℕ)) (path : String Global) (line : ℕ) → RefusesInput refuses name file (Text Read path line) → ⊥
-input_of_text refuses name file path line (inl memory) = cc
-input_of_text refuses name file path line (inr (inl unread)) = unread
-input_of_text refuses name file path line (inr (inr h)) = no_text name h.1 path line h.4
-
--- an input
-pub input_untold : (refuses : List ℕ → InputFault → Type 0) (name : List ℕ) (file : Option (List ℕ)) (fault : RunFault) → RefusesInput refuses name file fault → NamesFailed ⊥ fault
-input_untold refuses name file fault refused path line e = input_of_text refuses name file path line (subst (λ (f : RunFault). RefusesInput refuses name file f) e refused)
-
 -- the bytes of a piece
-pub file_untold : (name : List ℕ) (fault : RunFault) → RefusesFile name fault → NamesFailed ⊥ fault
-file_untold name fault refused path line e = subst (λ (f : RunFault). RefusesFile name f) e refused
+pub file_untold : (most : ℕ) (fails : Type 0) (name : List ℕ) (file : Option (List ℕ)) (fault : RunFault) → RefusesFile most fails name file fault → NamesFailed ⊥ fault
+file_untold most fails name file fault (inl memory) path line e = cc (memory, e)
+file_untold most fails name file fault (inr h) path line e = let one = h.1 in cc (one, e)
 
 -- a text in memory
 text_untold : (piece : texts.TextPiece) (name : List ℕ) (fault : PieceFault) (path : String Global) (line : ℕ) → IsRefusedFor piece fault → IsTextFault name fault (Text Read path line) → ⊥

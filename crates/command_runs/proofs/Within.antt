@@ -12,7 +12,7 @@ use Rattle.trace_know.specs.View.{View, cell, join, place_cmp}
 use Rattle.trace_know.specs.declared.cell.Known.{Known}
 use Rattle.trace_know.specs.declared.cell.Known.TheVariants.{One, Contradiction}
 use Rattle.trace_node.specs.Node.{IsWithin}
-use Rattle.input_files.specs.Manifests.{PieceParts}
+use Rattle.run_files.specs.Manifests.{PieceParts}
 use Rattle.command_runs.specs.Pieces.{TellsFacts}
 use Rattle.command_runs.specs.Traces.{KeepsFirst}
 

@@ -12,11 +12,11 @@ use Rattle.command_runs.specs.FaultLines.{fault_line_of}
 use Rattle.command_runs.specs.Notes.{BeginsSo, HasValueSo}
 use Rattle.command_runs.specs.Sentences.{begun_text, field_text, folder_text, layout_text, line_text, packed_text, plain_text, said, wanted_text}
 use Rattle.command_runs.specs.ShownBytes.{value_text}
-use Rattle.command_runs.specs.declared.fault.RunFault.{RunFault}
-use Rattle.command_runs.specs.declared.fault.RunFault.TheVariants.{File, Json, Shape, PackedFrame, Layout, Text, Wrong}
-use Rattle.command_runs.specs.declared.found.Found.{Found}
-use Rattle.command_runs.specs.declared.reason.Reason.{Reason}
-use Rattle.command_runs.specs.declared.reason.Reason.TheVariants as reasons
+use Rattle.command_runs.specs.declared.faults.fault.RunFault.{RunFault}
+use Rattle.command_runs.specs.declared.faults.fault.RunFault.TheVariants.{File, Json, Shape, PackedFrame, Layout, Text, Wrong}
+use Rattle.command_runs.specs.declared.faults.found.Found.{Found}
+use Rattle.command_runs.specs.declared.load.reason.Reason.{Reason}
+use Rattle.command_runs.specs.declared.load.reason.Reason.TheVariants as reasons
 
 -- ---- what is said
 
@@ -74,7 +74,7 @@ IsFound file fault found = found.start ≡ None
 
 -- whether a verb answers a person in words
 abbrev pub is_in_words : Verb → Bool
-is_in_words verbs.Explain = true
+is_in_words (verbs.Explain extent) = true
 is_in_words (verbs.ExplainRank rank) = true
 is_in_words _ = false
 
@@ -82,7 +82,3 @@ is_in_words _ = false
 abbrev pub IsShownIn : Bool → (List ℕ → Option (List ℕ)) → RunFault → List ℕ → Type 0
 IsShownIn false file fault errors = errors ≡ fault_line_of fault
 IsShownIn true file fault errors = (found : Found) × IsFound file fault found × (errors ≡ fault_line_of fault ++ advice_text fault found)
-
--- What a verb shows of a fault.
-abbrev pub IsShown : (List ℕ → Option (List ℕ)) → Verb → RunFault → List ℕ → Type 0
-IsShown file verb fault errors = IsShownIn (is_in_words verb) file fault errors

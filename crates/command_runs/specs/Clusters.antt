@@ -1,7 +1,6 @@
 -- What a cluster of two nodes prints, and why it is refused.
-use Rattle.std.specs.Prelude.{◌≡◌, ◌≢◌, ◌≤◌, ◌⊎◌, ◌++◌, ℕ, List, [], Option, Some, String, codes, string_bytes, Contains, ⊤}
+use Rattle.std.specs.Prelude.{◌≡◌, ◌≢◌, ◌≤◌, ◌⊎◌, ◌++◌, ℕ, List, [], Option, Some, codes, Contains, ⊤}
 use Rattle.std.specs.List.{All, slice_get}
-use Rattle.std.specs.declared.alloc.Global.{Global}
 use Rattle.mpi_model.specs.Layouts.{Parts}
 use Rattle.trace_know.specs.Trace.{Trace, view_of}
 use Rattle.trace_know.specs.View.{View, IsBelow}
@@ -21,20 +20,16 @@ use Rattle.trace_cluster.specs.declared.side.Side.{Side}
 use Rattle.trace_cluster.specs.declared.side.Side.TheVariants as sides
 use Rattle.trace_cluster.specs.declared.fault.ClusterFault.{ClusterFault}
 use Rattle.trace_cluster.specs.declared.fault.ClusterFault.TheVariants as clusters
-use Rattle.input_files.specs.Layouts.{RefusesLayout}
-use Rattle.input_files.specs.Manifests.{ManifestParts, PieceParts, RefusesManifest}
-use Rattle.command_runs.specs.Files.{IsUnreadable}
-use Rattle.command_runs.specs.Inputs.{RefusesInput, TellsLayout, TellsManifest}
+use Rattle.run_files.specs.Manifests.{ManifestParts, PieceParts}
 use Rattle.command_runs.specs.Packed.{RefusesFirstPacked, TellPacked}
 use Rattle.command_runs.specs.Pieces.{IsNamed, IsWalkFault, TellsFacts}
 use Rattle.command_runs.specs.Refusals.{RefusesFirst}
 use Rattle.command_runs.specs.Replays.{node_text}
 use Rattle.command_runs.specs.Shares.{KnowsShare}
-use Rattle.command_runs.specs.Texts.{RefusesBytes, share_of, side_of}
+use Rattle.command_runs.specs.NodeTexts.{RefusesBytes, share_of, side_of}
 use Rattle.command_runs.specs.Traces.{IsInside, IsKnown}
-use Rattle.command_runs.specs.declared.fault.RunFault.{RunFault}
-use Rattle.command_runs.specs.declared.fault.RunFault.TheVariants as faults
-use Rattle.command_runs.specs.declared.whole.TheConstants.{LONGEST_FILE, LONGEST_PIECE}
+use Rattle.command_runs.specs.declared.faults.fault.RunFault.{RunFault}
+use Rattle.command_runs.specs.declared.faults.fault.RunFault.TheVariants as faults
 
 -- ---- nodes
 
@@ -49,9 +44,8 @@ IsKnownTo file one other piece = (facts : Trace) × TellsFacts (file piece.file)
     × IsBelow (view_of facts) (known_by one other (side_of piece.node))
 
 -- Two nodes of the layout, each of which knows its own pieces of the manifest: the texts, and the packed files.
-abbrev pub AreClusterNodes : (List ℕ → Option (List ℕ)) → Parts → List ℕ → Held → Held → Type 0
-AreClusterNodes file l manifest one other = (m : ManifestParts) × TellsManifest (file manifest) m
-    × (one.layout ≡ l) × (other.layout ≡ l) × All (IsKnownTo file one other) m.pieces
+abbrev pub AreClusterNodes : (List ℕ → Option (List ℕ)) → Parts → ManifestParts → Held → Held → Type 0
+AreClusterNodes file l m one other = (one.layout ≡ l) × (other.layout ≡ l) × All (IsKnownTo file one other) m.pieces
     × ((node : Side) → KnowsShare file l.ranks m.packed node (known_by one other node))
 
 -- ---- what is printed
@@ -68,11 +62,9 @@ IsBothText one other text = (line : List ℕ) × IsEqualLine one other line × (
 abbrev pub SayBoth : Held → Held → List ℕ → Type 0
 SayBoth one other text = (a b : Answered) × IsAnswer one.layout one.know a × IsAnswer other.layout other.know b × IsBothText a b text
 
--- The text of a cluster: that of the answers of two nodes of its layout, each of which knows its own pieces.
-abbrev pub IsClusterOf : (List ℕ → Option (List ℕ)) → List ℕ → List ℕ → List ℕ → Type 0
-IsClusterOf file layout manifest text = (l : Parts) × (one other : Held) × (a b : Answered)
-    × TellsLayout (file layout) l × AreClusterNodes file l manifest one other
-    × IsAnswer one.layout one.know a × IsAnswer other.layout other.know b × IsBothText a b text
+-- The text of a cluster: what two nodes of its layout print, each of which knows its own pieces.
+abbrev pub IsClusterOf : (List ℕ → Option (List ℕ)) → Parts → ManifestParts → List ℕ → Type 0
+IsClusterOf file l m text = (one other : Held) × AreClusterNodes file l m one other × SayBoth one other text
 
 -- ---- why a cluster is refused
 
@@ -112,29 +104,11 @@ RefusesCrews file ranks pieces faults.Net = AreSound file ranks pieces
 RefusesCrews file ranks pieces (faults.Frame fault) = AreSound file ranks pieces
 RefusesCrews file ranks pieces _ = ⊥
 
--- Why what a manifest names is refused: a packed file is; or, where all of them were read, a file of a text can't be read, or, where
--- all were, the crews are refused.
-abbrev pub RefusesLoads : (List ℕ → Option (List ℕ)) → ℕ → ManifestParts → RunFault → Type 0
-RefusesLoads file ranks m fault = RefusesFirstPacked file ranks m.packed fault
-    ⊎ (((view : View) × TellPacked file ranks m.packed view) × (RefusesBytes file m.pieces fault ⊎ RefusesCrews file ranks (by_node m.pieces) fault))
-
--- Why there are no such nodes: the manifest is refused, or what it names.
-abbrev pub RefusesClusterNodes : (List ℕ → Option (List ℕ)) → Parts → List ℕ → RunFault → Type 0
-RefusesClusterNodes file l manifest fault = (fault ≡ faults.Memory)
-    ⊎ (RefusesInput RefusesManifest manifest (file manifest) fault
-    ⊎ ((m : ManifestParts) × TellsManifest (file manifest) m × RefusesLoads file l.ranks m fault))
-
--- Why there is no cluster: the layout is refused, or what comes after it.
-abbrev pub RefusesCluster : (List ℕ → Option (List ℕ)) → List ℕ → List ℕ → RunFault → Type 0
-RefusesCluster file layout manifest fault = (fault ≡ faults.Memory)
-    ⊎ (RefusesInput RefusesLayout layout (file layout) fault
-    ⊎ ((l : Parts) × TellsLayout (file layout) l × RefusesClusterNodes file l manifest fault))
-
--- A fault that says of a file that it can't be read says it of one that can't: one of these names, or a piece, which may be
--- longer.
-abbrev pub NamesUnreadAmong : List (List ℕ) → Type 0 → (List ℕ → Option (List ℕ)) → RunFault → Type 0
-NamesUnreadAmong names fails file fault = (path : String Global) → fault ≡ faults.File path
-    → (Contains names (string_bytes path) × IsUnreadable LONGEST_FILE fails (file (string_bytes path))) ⊎ IsUnreadable LONGEST_PIECE fails (file (string_bytes path))
+-- Why there is no cluster: a packed file is refused; or, where all of them were read, a file of a text can't be read, by readers
+-- that fail so; or, where all were, the crews are refused.
+abbrev pub RefusesCluster : Type 0 → (List ℕ → Option (List ℕ)) → ℕ → ManifestParts → RunFault → Type 0
+RefusesCluster fails file ranks m fault = (fault ≡ faults.Memory) ⊎ (RefusesFirstPacked file ranks m.packed fault
+    ⊎ (((view : View) × TellPacked file ranks m.packed view) × (RefusesBytes fails file m.pieces fault ⊎ RefusesCrews file ranks (by_node m.pieces) fault)))
 
 -- ---- faults of a cluster as faults of a run
 

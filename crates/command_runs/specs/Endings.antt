@@ -1,146 +1,131 @@
 -- How the program ends: its status, what it wrote, and what it showed.
-use Rattle.std.specs.Prelude.{◌≡◌, ◌≢◌, ◌⊎◌, ◌∷◌, ◌++◌, ℕ, Bool, true, false, List, [], Option, Some, Result, Ok, Err, codes, length, string_bytes}
+use Rattle.std.specs.Prelude.{◌≡◌, ◌≢◌, ◌⊎◌, ◌∷◌, ◌++◌, ℕ, Bool, false, List, [], Option, Some, None, Result, Ok, Err, IfErr, codes, length, string_bytes}
 use Rattle.std.specs.Io.KnownBytes.{Keeps}
-use Rattle.mpi_model.specs.Failures.{HasFailed}
 use Rattle.clap.specs.Words.{Text, subcommand_of}
-use Rattle.command_line.specs.Program.{Refuses, Request, files, init, wish_of, pair, program, request_in, status_of, texts_of}
+use Rattle.mpi_model.specs.Failures.{HasFailed}
+use Rattle.mpi_model.specs.Layouts.{Parts}
+use Rattle.mpi_model.specs.declared.layout.Sends.TheVariants.{Wait}
+use Rattle.command_line.specs.Program.{Refuses, Request, asked_rank, cluster, files, init, pair, program, request_in, status_of}
 use Rattle.command_line.specs.declared.CommandFault.{CommandFault}
 use Rattle.command_line.specs.declared.Verb.{Verb}
-use Rattle.command_line.specs.declared.Verb.TheVariants as verbs
-use Rattle.command_runs.specs.Advice.{IsShown}
+use Rattle.run_files.specs.Manifests.{ManifestParts}
+use Rattle.run_files.specs.Stores.{Files}
+use Rattle.text_layouts.specs.declared.made.Made.{Made}
+use Rattle.command_runs.specs.Advice.{IsShownIn, is_in_words}
 use Rattle.command_runs.specs.FaultLines.{fault_line_of}
 use Rattle.command_runs.specs.FileNames.{shown_name}
-use Rattle.command_runs.specs.Files.{IsLength}
+use Rattle.command_runs.specs.Files.{IsLength, NamesFailed}
+use Rattle.command_runs.specs.InitAdvice.{IsInitShown}
+use Rattle.command_runs.specs.Inits.{EndsInit, NamesPiped}
+use Rattle.command_runs.specs.Inputs.{LacksRank, RefusesLoading, TellInput}
 use Rattle.command_runs.specs.Looks.{BeginsAsText}
-use Rattle.command_runs.specs.Replays.{Writes}
-use Rattle.command_runs.specs.Verbs.{IsOutputOf, RefusesVerb}
+use Rattle.command_runs.specs.Prepared.{IsMadeOf, RefusesWords}
+use Rattle.command_runs.specs.Verbs.{Ran, RanCluster}
 use Rattle.command_runs.specs.declared.ending.Ending.{Ending}
-use Rattle.command_runs.specs.declared.ending.Turn.{Turn}
-use Rattle.command_runs.specs.declared.ending.Turn.TheVariants as turns
-use Rattle.command_runs.specs.declared.fault.RunFault.{RunFault}
-use Rattle.command_runs.specs.declared.fault.RunFault.TheVariants.{Memory, Write}
+use Rattle.command_runs.specs.declared.faults.fault.RunFault.{RunFault}
+use Rattle.command_runs.specs.declared.faults.fault.RunFault.TheVariants.{Memory, Outside, Write}
+use Rattle.command_runs.specs.declared.faults.init_fault.InitFault.{InitFault}
+use Rattle.command_runs.specs.declared.run.Outcome.{Outcome}
+use Rattle.command_runs.specs.declared.run.Outcome.TheVariants.{Good, CheckFailed}
 
--- The words ask for this.
-abbrev pub Ask : List Text → Request → Type 0
-Ask words request = request_in (subcommand_of program words) ≡ Some request
+-- ---- a run
 
--- The words ask for a verb over this layout and this manifest: they name both as such, or as its two files.
-abbrev pub AskOver : List Text → Verb → Text → Text → Type 0
-AskOver words verb layout manifest = Ask words (pair verb layout manifest) ⊎ Ask words (files verb (layout ∷ manifest ∷ []))
+-- The status after a run that answered so, and what is shown: its fault, in words or by its line alone.
+abbrev pub IsEndedBy : Bool → (List ℕ → Option (List ℕ)) → Result Outcome RunFault → Ending → Type 0
+IsEndedBy in_words file (Ok Good) e = (e.status ≡ 0) × (string_bytes e.errors ≡ [])
+IsEndedBy in_words file (Ok CheckFailed) e = (e.status ≡ 1) × (string_bytes e.errors ≡ [])
+IsEndedBy in_words file (Err fault) e = (e.status ≡ 1) × IsShownIn in_words file fault (string_bytes e.errors)
+
+-- A verb ran over this layout and this manifest, over readers that fail so, and the program ends so.
+abbrev pub EndsRun : {W : Type 0} → Type 0 → (List ℕ → Option (List ℕ)) → Verb → Parts → ManifestParts → (W → Option (List ℕ)) → (W → ℕ) → W → W → Ending → Type 0
+EndsRun fails file verb l m written failures old new e = (ran : Result Outcome RunFault) × Ran file verb l m ran written failures old new
+    × IfErr ran (NamesFailed fails) × IsEndedBy (is_in_words verb) file ran e
+
+-- Nothing is written, and this fault is shown, in words or by its line alone.
+abbrev pub EndsShowing : {W : Type 0} → Bool → (List ℕ → Option (List ℕ)) → RunFault → W → W → Ending → Type 0
+EndsShowing in_words file fault old new e = (new ≡ old) × (e.status ≡ 1) × IsShownIn in_words file fault (string_bytes e.errors)
+
+-- ---- by what the words ask for
+
+-- A verb over the files of a layout and a manifest ends so: it ran over what they tell, or they are refused.
+abbrev pub EndsPair : {W : Type 0} → Type 0 → (List ℕ → Option (List ℕ)) → Verb → Text → Text → (W → Option (List ℕ)) → (W → ℕ) → W → W → Ending → Type 0
+EndsPair fails file verb layout manifest written failures old new e =
+    ((l : Parts) × (m : ManifestParts) × TellInput file layout manifest l m × EndsRun fails file verb l m written failures old new e)
+    ⊎ ((fault : RunFault) × RefusesLoading fails file (asked_rank verb) layout manifest fault × EndsShowing (is_in_words verb) file fault old new e)
+
+-- The texts are refused, or one is no file that can be read twice; nothing is written, and this is shown.
+abbrev pub EndsUnmade : {W : Type 0} → (List ℕ → Option (List ℕ)) → Verb → List Text → W → W → Ending → Type 0
+EndsUnmade file verb texts old new e = (fault : InitFault) × (NamesPiped file texts fault ⊎ RefusesWords file texts fault)
+    × (new ≡ old) × (e.status ≡ 1) × IsInitShown file verb fault (string_bytes e.errors)
+
+-- A verb over the texts of all ranks ends so: they are refused; or it ran over the input that is made of them; or that has no such
+-- rank as the verb asks for.
+abbrev pub EndsTexts : {W : Type 0} → Type 0 → (List ℕ → Option (List ℕ)) → Verb → List Text → (W → Option (List ℕ)) → (W → ℕ) → W → W → Ending → Type 0
+EndsTexts fails file verb texts written failures old new e = EndsUnmade file verb texts old new e
+    ⊎ ((made : Made) × IsMadeOf file Wait texts made
+    × (EndsRun fails file verb made.input.layout made.input.manifest written failures old new e
+    ⊎ (LacksRank (asked_rank verb) made.input.layout × EndsShowing (is_in_words verb) file Outside old new e)))
 
 -- The first of these files that isn't empty begins as the text of a trace.
 abbrev pub BeginsWithText : (List ℕ → Option (List ℕ)) → List Text → Type 0
 BeginsWithText file [] = ⊥
 BeginsWithText file (first ∷ names) = BeginsAsText (file first) ⊎ (IsLength (file first) 0 × BeginsWithText file names)
 
--- The words ask for a verb over files that are no layout and manifest: they aren't two.
-abbrev pub AskStrange : List Text → List Text → Type 0
-AskStrange words names = ((verb : Verb) × Ask words (files verb names)) × (length names ≢ 2)
-
 -- the name of the first of some files
 abbrev pub first_name : List Text → Text
 first_name [] = []
 first_name (first ∷ names) = first
 
--- the line that is shown of them
+-- the line that is shown of files that are no texts, and not two
 abbrev pub strange_line : List Text → List ℕ
 strange_line names = codes "mpimatch: " ++ shown_name (first_name names)
     ++ codes " can't be read as a trace text: name the texts of all ranks, or a layout and a manifest\n"
 
--- The words ask for nothing, for a cause with this status: 0 where they ask for the help or the version, 2 where they are mistaken.
-abbrev pub AskNothing : List Text → ℕ → Type 0
-AskNothing words status = (fault : CommandFault) × Refuses words fault × (status ≡ status_of fault)
+-- A verb over its files ends so: over texts, where the first that isn't empty begins as one; or over a layout and a manifest, where
+-- they are two; or they are mistaken, and nothing is written.
+abbrev pub EndsFiles : {W : Type 0} → Type 0 → (List ℕ → Option (List ℕ)) → Verb → List Text → (W → Option (List ℕ)) → (W → ℕ) → W → W → Ending → Type 0
+EndsFiles fails file verb names written failures old new e = (BeginsWithText file names × EndsTexts fails file verb names written failures old new e)
+    ⊎ (((layout manifest : Text) × (names ≡ layout ∷ manifest ∷ []) × EndsPair fails file verb layout manifest written failures old new e)
+    ⊎ ((length names ≢ 2) × (new ≡ old) × (e.status ≡ 2) × (string_bytes e.errors ≡ strange_line names)))
 
--- What the words ask for was written, whole.
-abbrev pub Reports : (List ℕ → Option (List ℕ)) → List Text → Option (List ℕ) → Option (List ℕ) → Type 0
-Reports file words old new = (verb : Verb) × (layout manifest : Text) × AskOver words verb layout manifest
-    × Writes (IsOutputOf file verb layout manifest) old new
+-- A cluster of the files of a layout and a manifest ends so: it ran over what they tell, or they are refused.
+abbrev pub EndsCluster : {W : Type 0} → Type 0 → (List ℕ → Option (List ℕ)) → Text → Text → (W → Option (List ℕ)) → (W → ℕ) → W → W → Ending → Type 0
+EndsCluster fails file layout manifest written failures old new e =
+    ((l : Parts) × (m : ManifestParts) × TellInput file layout manifest l m × (ran : Result Outcome RunFault)
+    × RanCluster fails file l m ran written failures old new × IfErr ran (NamesFailed ⊥) × IsEndedBy false file ran e)
+    ⊎ ((fault : RunFault) × RefusesLoading fails file None layout manifest fault × EndsShowing false file fault old new e)
 
--- The run that the words ask for is refused for this.
-abbrev pub IsRefusedRun : (List ℕ → Option (List ℕ)) → List Text → RunFault → Type 0
-IsRefusedRun file words fault = (verb : Verb) × (layout manifest : Text) × AskOver words verb layout manifest × RefusesVerb file verb layout manifest fault
+-- What the program is run on, and what it leaves: the words, the files that it reads, and the store in which `init` keeps its two.
+pub record Surroundings : Type 0 where
+  pub words : List Text
+  pub file : List ℕ → Option (List ℕ)
+  pub store_before : Option Files
+  pub store_after : Option Files
 
--- What the standard output holds, where it tells that, and how often a write to it has failed.
-pub record Output : Type 0 where
-  pub bytes : Option (List ℕ)
-  pub failures : ℕ
+-- What the words ask for ends so, over readers that fail so and a store that has failed meanwhile.
+abbrev pub EndsAsked : {W : Type 0} → Type 0 → Type 0 → Surroundings → Request → (W → Option (List ℕ)) → (W → ℕ) → W → W → Ending → Type 0
+EndsAsked fails failed s (pair verb layout manifest) written failures old new e =
+    EndsPair fails s.file verb layout manifest written failures old new e × (s.store_after ≡ s.store_before)
+EndsAsked fails failed s (files verb names) written failures old new e =
+    EndsFiles fails s.file verb names written failures old new e × (s.store_after ≡ s.store_before)
+EndsAsked fails failed s (cluster layout manifest) written failures old new e =
+    EndsCluster fails s.file layout manifest written failures old new e × (s.store_after ≡ s.store_before)
+EndsAsked fails failed s (init texts wish) written failures old new e =
+    EndsInit s.file texts wish s.store_before s.store_after failed written failures old new e
 
--- what a writer tells, as the standard output
-abbrev pub output_of : {W : Type 0} → (W → Option (List ℕ)) → (W → ℕ) → W → Output
-output_of written failures out = record { bytes = written out; failures = failures out }
+-- ---- the program
 
--- Status 0: no line was shown, and what the words ask for was written, or the words ask for the help or the version, and no write failed.
-abbrev pub EndsWell : (List ℕ → Option (List ℕ)) → List Text → List ℕ → Output → Output → Type 0
-EndsWell file words errors old new = (errors ≡ [])
-    × (Reports file words old.bytes new.bytes ⊎ (AskNothing words 0 × (new.failures ≡ old.failures)))
-
--- A fault was shown: as the verb shows it for which the words ask, or by its line alone, where memory was wanting or the help
--- or the version was not written.
-abbrev pub ShowsFault : (List ℕ → Option (List ℕ)) → List Text → RunFault → List ℕ → Type 0
-ShowsFault file words fault errors = ((verb : Verb) × (layout manifest : Text) × AskOver words verb layout manifest × IsShown file verb fault errors)
-    ⊎ ((errors ≡ fault_line_of fault) × ((fault ≡ Memory) ⊎ ((fault ≡ Write) × AskNothing words 0)))
-
--- Status 1: a fault was shown. Either a write failed, or nothing was written, and memory was wanting or the run is refused for that fault.
-abbrev pub EndsRefused : (List ℕ → Option (List ℕ)) → List Text → List ℕ → Output → Output → Type 0
-EndsRefused file words errors old new = (fault : RunFault) × ShowsFault file words fault errors
-    × (((fault ≡ Write) × HasFailed old.failures new.failures) ⊎ (Keeps old.bytes new.bytes × ((fault ≡ Memory) ⊎ IsRefusedRun file words fault)))
-
--- The words are mistaken: they ask for nothing, or for a verb over files that aren't what it takes, of which a line was shown.
-abbrev pub AreMistaken : List Text → List ℕ → Type 0
-AreMistaken words errors = AskNothing words 2 ⊎ ((names : List Text) × AskStrange words names × (errors ≡ strange_line names))
-
--- Status 2: the words are mistaken, and nothing was written.
-abbrev pub EndsMistaken : List Text → ℕ → List ℕ → Output → Output → Type 0
-EndsMistaken words status errors old new = (status ≡ 2) × AreMistaken words errors × Keeps old.bytes new.bytes
-
--- The program ends with this status on these words, over these files.
-abbrev pub IsEnding : (List ℕ → Option (List ℕ)) → List Text → ℕ → List ℕ → Output → Output → Type 0
-IsEnding file words status errors old new = ((status ≡ 0) × EndsWell file words errors old new)
-    ⊎ (((status ≡ 1) × EndsRefused file words errors old new) ⊎ EndsMistaken words status errors old new)
-
--- The program ends so where the words ask for nothing for this cause: its text was written, or a write failed; or memory was wanting; or its text was shown.
-abbrev pub IsEndingFor : CommandFault → ℕ → List ℕ → Output → Output → Type 0
-IsEndingFor fault status errors old new = ((status ≡ 0) × (errors ≡ []) × (0 ≡ status_of fault) × (new.failures ≡ old.failures))
-    ⊎ (((status ≡ 1) × (errors ≡ fault_line_of Write) × (0 ≡ status_of fault) × HasFailed old.failures new.failures)
-    ⊎ (((status ≡ 1) × (errors ≡ fault_line_of Memory) × Keeps old.bytes new.bytes)
-    ⊎ ((status ≡ 2) × (2 ≡ status_of fault) × Keeps old.bytes new.bytes)))
-
--- The status after a run of a verb that answered so, and what is shown: its fault.
-abbrev pub IsEndedBy : (List ℕ → Option (List ℕ)) → Verb → Result Bool RunFault → ℕ → List ℕ → Type 0
-IsEndedBy file verb (Ok true) status errors = (status ≡ 0) × (errors ≡ [])
-IsEndedBy file verb (Ok false) status errors = (status ≡ 1) × (errors ≡ [])
-IsEndedBy file verb (Err fault) status errors = (status ≡ 1) × IsShown file verb fault errors
-
--- The program has ended so on these words; or nothing was done, and they ask for a cluster, for a verb over texts, of which the first begins as one, or for `init`.
-abbrev pub IsTurn : (List ℕ → Option (List ℕ)) → List Text → Turn → Output → Output → Type 0
-IsTurn file words (turns.Ended e) old new = IsEnding file words e.status (string_bytes e.errors) old new
-IsTurn file words (turns.Cluster layout manifest) old new = AskOver words verbs.Cluster layout.now manifest.now × (new ≡ old)
-IsTurn file words (turns.Texts verb texts) old new = Ask words (files verb (texts_of texts.items))
-    × BeginsWithText file (texts_of texts.items) × (new ≡ old)
-IsTurn file words (turns.Init texts wanted) old new = Ask words (init (texts_of texts.items) (wish_of wanted)) × (new ≡ old)
-
--- ---- by what a writer tells before and after
-
--- Where the words ask for nothing for this cause, the program ends so.
+-- The words ask for nothing, for this cause, and the program ends so: its text was written, or a write failed; or memory was
+-- wanting; or its text was shown.
 abbrev pub EndsFor : {W : Type 0} → CommandFault → (W → Option (List ℕ)) → (W → ℕ) → W → W → Ending → Type 0
 EndsFor fault written failures old new e =
-    IsEndingFor fault e.status (string_bytes e.errors) (output_of written failures old) (output_of written failures new)
+    ((e.status ≡ 0) × (string_bytes e.errors ≡ []) × (0 ≡ status_of fault) × (failures new ≡ failures old))
+    ⊎ (((e.status ≡ 1) × (string_bytes e.errors ≡ fault_line_of Write) × (0 ≡ status_of fault) × HasFailed (failures old) (failures new))
+    ⊎ (((e.status ≡ 1) × (string_bytes e.errors ≡ fault_line_of Memory) × Keeps (written old) (written new))
+    ⊎ ((e.status ≡ 2) × (2 ≡ status_of fault) × Keeps (written old) (written new))))
 
--- On these words the program has ended so, or has this left to do.
-abbrev pub Turns : {W : Type 0} → (List ℕ → Option (List ℕ)) → List Text → (W → Option (List ℕ)) → (W → ℕ) → W → W → Turn → Type 0
-Turns file words written failures old new turn = IsTurn file words turn (output_of written failures old) (output_of written failures new)
-
--- The same on all words that ask for a verb over this layout and this manifest.
-abbrev pub TurnsPair : {W : Type 0} → (List ℕ → Option (List ℕ)) → Verb → Text → Text → (W → Option (List ℕ)) → (W → ℕ) → W → W → Turn → Type 0
-TurnsPair file verb layout manifest written failures old new turn = (words : List Text) → AskOver words verb layout manifest
-    → Turns file words written failures old new turn
-
--- The same on all words that ask for a verb over these files.
-abbrev pub TurnsFiles : {W : Type 0} → (List ℕ → Option (List ℕ)) → Verb → List Text → (W → Option (List ℕ)) → (W → ℕ) → W → W → Turn → Type 0
-TurnsFiles file verb names written failures old new turn = (words : List Text) → Ask words (files verb names)
-    → Turns file words written failures old new turn
-
--- The program ends so on all words that ask for a cluster of this layout and this manifest.
-abbrev pub EndsCluster : {W : Type 0} → (List ℕ → Option (List ℕ)) → Text → Text → (W → Option (List ℕ)) → (W → ℕ) → W → W → Ending → Type 0
-EndsCluster file layout manifest written failures old new e = (words : List Text) → AskOver words verbs.Cluster layout manifest
-    → IsEnding file words e.status (string_bytes e.errors) (output_of written failures old) (output_of written failures new)
+-- The program ends so: as what the words ask for ends, or they ask for nothing.
+abbrev pub IsEnding : {W : Type 0} → Type 0 → Type 0 → Surroundings → (W → Option (List ℕ)) → (W → ℕ) → W → W → Ending → Type 0
+IsEnding fails failed s written failures old new e =
+    ((request : Request) × (request_in (subcommand_of program s.words) ≡ Some request) × EndsAsked fails failed s request written failures old new e)
+    ⊎ ((fault : CommandFault) × Refuses s.words fault × EndsFor fault written failures old new e × (s.store_after ≡ s.store_before))

@@ -1,55 +1,18 @@
--- What `explain` prints.
-use Rattle.std.specs.Prelude.{◌≡◌, ◌-◌, ◌++◌, false, ℕ, List, Option, length, take}
+-- What `explain` and `graph` print.
+use Rattle.std.specs.Prelude.{ℕ, List, Option}
 use Rattle.mpi_model.specs.Layouts.{Parts}
-use Rattle.mpi_model.specs.declared.layout.Sends.{Sends}
-use Rattle.mpi_model.specs.declared.layout.Sends.TheVariants.{Wait, Buffer}
-use Rattle.trace_know.specs.View.{View}
-use Rattle.trace_node.specs.Answer.{Answered, IsAnswer}
-use Rattle.trace_node.specs.Node.{Held, held}
-use Rattle.trace_explain.specs.Explained.{IsExplained, unknown_in}
-use Rattle.text_notes.specs.Words.{NoteParts, PlaceParts, notes_text, pieceless, pieceless_text, places_text}
-use Rattle.text_notes.specs.declared.totals.TheConstants.{MOST_SHOWN}
-use Rattle.input_files.specs.Manifests.{ManifestParts}
-use Rattle.command_runs.specs.Inputs.{TellsLayout, TellsManifest}
-use Rattle.command_runs.specs.Known.{TellAll}
-use Rattle.command_runs.specs.Notes.{AreNotesOf, ArePlacesOf}
-use Rattle.command_runs.specs.declared.fault.RunFault.{RunFault}
+use Rattle.trace_node.specs.Node.{Held}
+use Rattle.text_notes.specs.Words.{NoteParts}
+use Rattle.run_files.specs.Manifests.{ManifestParts}
+use Rattle.command_runs.specs.Known.{OfAllTold}
+use Rattle.command_runs.specs.Nodes.{IsNodeOf}
+use Rattle.command_runs.specs.Notes.{AreNotesOf}
+use Rattle.command_runs.specs.Said.{IsDiagnosed}
 
--- the other way in which sends of standard mode can complete
-abbrev pub other_sends : Sends → Sends
-other_sends Wait = Buffer
-other_sends Buffer = Wait
+-- The node knows, for this layout, all that the pieces tell, and these are the notes of their texts.
+abbrev pub IsNotedNodeOf : (List ℕ → Option (List ℕ)) → Parts → ManifestParts → Held → List NoteParts → Type 0
+IsNotedNodeOf file l m node notes = IsNodeOf file l m node × AreNotesOf file m.pieces notes
 
--- a layout but for its sends, which complete in the other way
-abbrev pub under_other : Parts → Parts
-under_other l = record l { sends = other_sends l.sends }
-
--- The text says what the answer to a view tells, beside who is stuck under the other kind of sends.
-abbrev pub SaysAnswer : Parts → View → Answered → List ℕ → Type 0
-SaysAnswer l view answer text = IsExplained l (under_other l) answer view text
-
--- what was said, then of which of these ranks no text was given, what is noted of the texts that were read, and where stuck calls stand in them, of which so many more do
-abbrev pub told_text : List ℕ → List ℕ → List NoteParts → List PlaceParts → ℕ → List ℕ
-told_text said unknown notes places more = said ++ pieceless_text (pieceless notes unknown) ++ notes_text notes ++ places_text places more
-
--- The text says that, then of which ranks nothing is known and no text was given, what is noted of the texts that were read, and then where the first ten stuck calls stand in them.
-abbrev pub IsTold : (List ℕ → Option (List ℕ)) → Parts → View → List NoteParts → List ℕ → Type 0
-IsTold file l view notes text = (answer : Answered) × (said : List ℕ) × (places : List PlaceParts)
-    × IsAnswer l view answer × SaysAnswer l view answer said × ArePlacesOf file notes (take MOST_SHOWN answer.stuck) places
-    × (text ≡ told_text said (unknown_in answer) notes places (length answer.stuck - length places))
-
--- The text says that of what a node holds.
-abbrev pub IsNodeTold : (List ℕ → Option (List ℕ)) → Held → List NoteParts → List ℕ → Type 0
-IsNodeTold file node notes text = IsTold file node.layout node.know notes text
-
--- The node knows, for this layout, all that the pieces tell that the manifest names, and these are the notes of their texts.
-abbrev pub IsNotedNodeOf : (List ℕ → Option (List ℕ)) → Parts → List ℕ → Held → List NoteParts → Type 0
-IsNotedNodeOf file l manifest node notes = (m : ManifestParts) × (view : View)
-    × TellsManifest (file manifest) m × TellAll file l.ranks m view × AreNotesOf file m.pieces notes
-    × (node ≡ held l view false)
-
--- The text says what the files tell: all that the pieces tell that the manifest names, for the layout, and what is noted of their texts.
-abbrev pub IsExplainOf : (List ℕ → Option (List ℕ)) → List ℕ → List ℕ → List ℕ → Type 0
-IsExplainOf file layout manifest text = (l : Parts) × (m : ManifestParts) × (view : View) × (notes : List NoteParts)
-    × TellsLayout (file layout) l × TellsManifest (file manifest) m × TellAll file l.ranks m view
-    × AreNotesOf file m.pieces notes × IsTold file l view notes text
+-- What holds up the run is told of all that the pieces tell, for the layout. The words are free.
+abbrev pub IsExplainOf : (List ℕ → Option (List ℕ)) → Parts → ManifestParts → List ℕ → Type 0
+IsExplainOf file l m text = OfAllTold file l m (λ view. IsDiagnosed l view)

@@ -15,8 +15,8 @@ use Rattle.trace_wire.specs.declared.packed.fault.PackedCause.TheVariants as pac
 use Rattle.trace_world.specs.declared.step.WorldFault.{WorldFault}
 use Rattle.trace_world.specs.declared.step.WorldFault.TheVariants as worlds
 use Rattle.command_runs.specs.FileNames.{shown_name}
-use Rattle.command_runs.specs.declared.fault.RunFault.{RunFault}
-use Rattle.command_runs.specs.declared.fault.RunFault.TheVariants.{Memory, File, Json, Shape, Piece, Packed, PackedFrame, Layout, Text, Missing, Wrong, Place, Rank, Outside, NodeCount, Step, Worker, Net, Frame, Write}
+use Rattle.command_runs.specs.declared.faults.fault.RunFault.{RunFault}
+use Rattle.command_runs.specs.declared.faults.fault.RunFault.TheVariants.{Memory, File, Json, Shape, Piece, Packed, PackedFrame, Layout, Text, Missing, Wrong, Place, Rank, Outside, NodeCount, Step, Worker, Net, Frame, Write}
 
 -- the name of a layout's fault
 abbrev pub layout_fault_name : LayoutFault → List ℕ

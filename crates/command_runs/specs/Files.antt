@@ -1,9 +1,9 @@
 -- The files of a run.
-use Rattle.std.specs.Prelude.{◌≡◌, ◌<◌, ◌≤◌, ◌⊎◌, ℕ, List, Option, Some, None, String, length, string_bytes}
+use Rattle.std.specs.Prelude.{◌≡◌, ◌<◌, ◌≤◌, ◌⊎◌, ℕ, List, Option, Some, None, String, length}
 use Rattle.std.specs.declared.alloc.Global.{Global}
 use Rattle.dumpi_text.specs.declared.fault.TextCause.TheVariants.{Read}
-use Rattle.command_runs.specs.declared.fault.RunFault.{RunFault}
-use Rattle.command_runs.specs.declared.fault.RunFault.TheVariants.{File, Text}
+use Rattle.command_runs.specs.declared.faults.fault.RunFault.{RunFault}
+use Rattle.command_runs.specs.declared.faults.fault.RunFault.TheVariants.{Text}
 
 -- A reader stands at the first byte of the file, where its bytes are told.
 abbrev pub StandsAtFirst : Option (List ℕ) → Option (List ℕ) → Type 0
@@ -29,10 +29,6 @@ FitsIn most (Some bytes) = length bytes ≤ most
 abbrev pub IsUnreadable : ℕ → Type 0 → Option (List ℕ) → Type 0
 IsUnreadable most fails None = Unit {0}
 IsUnreadable most fails (Some bytes) = fails ⊎ (most < length bytes)
-
--- A fault that says of a file that it can't be read says it of one that can't.
-abbrev pub NamesUnreadable : ℕ → Type 0 → (List ℕ → Option (List ℕ)) → RunFault → Type 0
-NamesUnreadable most fails file fault = (path : String Global) → fault ≡ File path → IsUnreadable most fails (file (string_bytes path))
 
 -- A fault that says that a text's reader failed is answered only of a reader that fails.
 abbrev pub NamesFailed : Type 0 → RunFault → Type 0

@@ -4,8 +4,7 @@ use Rattle.std.specs.List.{All}
 use Rattle.mpi_model.specs.Layouts.{Parts}
 use Rattle.trace_know.specs.Trace.{Trace, view_of}
 use Rattle.trace_know.specs.View.{View, join}
-use Rattle.input_files.specs.Manifests.{ManifestParts}
-use Rattle.command_runs.specs.Inputs.{TellsManifest}
+use Rattle.run_files.specs.Manifests.{ManifestParts}
 use Rattle.command_runs.specs.Packed.{TellPacked}
 use Rattle.command_runs.specs.Traces.{IsInside, TellTrace}
 
@@ -14,6 +13,6 @@ abbrev pub TellAll : (List ℕ → Option (List ℕ)) → ℕ → ManifestParts 
 TellAll file ranks m view = (packed : View) × (trace : Trace) × TellPacked file ranks m.packed packed
     × TellTrace file m.pieces trace × All (IsInside file ranks) m.pieces × (view ≡ join packed (view_of trace))
 
--- All that the pieces tell that the manifest names, of ranks of the layout.
-abbrev pub IsKnownBy : (List ℕ → Option (List ℕ)) → Parts → List ℕ → View → Type 0
-IsKnownBy file l manifest view = (m : ManifestParts) × TellsManifest (file manifest) m × TellAll file l.ranks m view
+-- It is so of all that the pieces tell that a manifest lists, of ranks of the layout.
+abbrev pub OfAllTold : (List ℕ → Option (List ℕ)) → Parts → ManifestParts → (View → Type 0) → Type 0
+OfAllTold file l m Is = (view : View) × TellAll file l.ranks m view × Is view

@@ -2,7 +2,7 @@
 use Rattle.std.specs.Prelude.{◌≡◌, ◌==◌, ◌-◌, ◌&&◌, ◌||◌, ℕ, Bool, true, List, Option, Some, None, codes, drop, get_or, length, suc, take, zero, false}
 use Rattle.std.specs.List.{starts_with}
 use Rattle.dumpi_text.specs.Bytes.{line_feed}
-use Rattle.command_runs.specs.declared.first_look.TheConstants.{LONGEST_LOOK}
+use Rattle.command_runs.specs.declared.load.first_look.TheConstants.{LONGEST_LOOK}
 
 -- a line begins at this byte: it is the first one, or a line feed stands before it
 abbrev pub begins_line : List ℕ → ℕ → Bool

@@ -1,20 +1,20 @@
--- The node of a run, from the files that the manifest names.
+-- The node of a run, and its answer.
 use Rattle.std.specs.Prelude.{◌≡◌, false, ℕ, List, Option}
 use Rattle.mpi_model.specs.Layouts.{Parts}
-use Rattle.trace_know.specs.View.{View}
+use Rattle.trace_check.specs.Checker as checker
 use Rattle.trace_node.specs.Answer.{Answered, IsAnswer}
 use Rattle.trace_node.specs.Node.{Held, held}
-use Rattle.input_files.specs.Manifests.{ManifestParts}
-use Rattle.command_runs.specs.Known.{IsKnownBy, TellAll}
+use Rattle.run_files.specs.Manifests.{ManifestParts}
+use Rattle.command_runs.specs.Known.{OfAllTold}
 
--- The node knows, for this layout, all that the pieces tell that the manifest names, and has its answer.
-abbrev pub IsNodeOf : (List ℕ → Option (List ℕ)) → Parts → List ℕ → Held → Type 0
-IsNodeOf file l manifest node = (view : View) × IsKnownBy file l manifest view × (node ≡ held l view false)
+-- The node knows, for this layout, all that the pieces tell, and has its answer.
+abbrev pub IsNodeOf : (List ℕ → Option (List ℕ)) → Parts → ManifestParts → Held → Type 0
+IsNodeOf file l m node = OfAllTold file l m (λ view. node ≡ held l view false)
 
--- What is answered to all that the pieces tell that a manifest lists, of ranks of the layout.
+-- This is answered to all that the pieces tell.
 abbrev pub AnswersAll : (List ℕ → Option (List ℕ)) → Parts → ManifestParts → Answered → Type 0
-AnswersAll file l m answer = (view : View) × TellAll file l.ranks m view × IsAnswer l view answer
+AnswersAll file l m answer = OfAllTold file l m (λ view. IsAnswer l view answer)
 
--- The same, by the manifest's name.
-abbrev pub IsAnswerOf : (List ℕ → Option (List ℕ)) → Parts → List ℕ → Answered → Type 0
-IsAnswerOf file l manifest answer = (view : View) × IsKnownBy file l manifest view × IsAnswer l view answer
+-- The checker holds, for this layout, all that the pieces tell.
+abbrev pub IsCheckerOf : (List ℕ → Option (List ℕ)) → Parts → ManifestParts → checker.Held → Type 0
+IsCheckerOf file l m c = OfAllTold file l m (λ view. c ≡ checker.held l view)

@@ -4,10 +4,10 @@ use Rattle.std.specs.FinMap.{empty}
 use Rattle.trace_know.specs.View.{View, join}
 use Rattle.trace_wire.specs.Packed.{RefusesCause, Unpacks}
 use Rattle.trace_wire.specs.declared.packed.fault.PackedFault.{PackedFault}
-use Rattle.input_files.specs.Manifests.{PackedParts}
+use Rattle.run_files.specs.Manifests.{PackedParts}
 use Rattle.command_runs.specs.Pieces.{IsNamed}
-use Rattle.command_runs.specs.declared.fault.RunFault.{RunFault}
-use Rattle.command_runs.specs.declared.fault.RunFault.TheVariants.{Memory, File, PackedFrame}
+use Rattle.command_runs.specs.declared.faults.fault.RunFault.{RunFault}
+use Rattle.command_runs.specs.declared.faults.fault.RunFault.TheVariants.{Memory, File, PackedFrame}
 
 -- What these files tell together: each has frames of ranks below a number.
 abbrev pub TellPacked : (List ℕ → Option (List ℕ)) → ℕ → List PackedParts → View → Type 0

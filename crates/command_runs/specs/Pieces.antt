@@ -6,7 +6,7 @@ use Rattle.dumpi_text.specs.Call.{TextCall}
 use Rattle.dumpi_text.specs.declared.fault.TextFault.TheVariants.{At}
 use Rattle.trace_know.specs.Segment.{PlacedEvents, enter_place}
 use Rattle.trace_know.specs.Trace.{Trace, facts_from, facts_of}
-use Rattle.input_files.specs.Manifests.{PieceParts}
+use Rattle.run_files.specs.Manifests.{PieceParts}
 use Rattle.dumpi_calls.specs.Collected.{AreSegments, HasPlacesPast}
 use Rattle.dumpi_calls.specs.Seen.{seen_in}
 use Rattle.dumpi_calls.specs.Walks.{StopsWalk}
@@ -15,8 +15,8 @@ use Rattle.dumpi_calls.specs.declared.collect.Memory.{Memory as NoMemory}
 use Rattle.dumpi_calls.specs.declared.fault.WalkCause.{WalkCause}
 use Rattle.dumpi_calls.specs.declared.fault.WalkCause.TheVariants as causes
 use Rattle.dumpi_calls.specs.declared.fault.WalkFault.{WalkFault}
-use Rattle.command_runs.specs.declared.fault.RunFault.{RunFault}
-use Rattle.command_runs.specs.declared.fault.RunFault.TheVariants.{Memory, File, Text, Missing, Wrong, Place}
+use Rattle.command_runs.specs.declared.faults.fault.RunFault.{RunFault}
+use Rattle.command_runs.specs.declared.faults.fault.RunFault.TheVariants.{Memory, File, Text, Missing, Wrong, Place}
 
 -- The facts of a piece: the events of its text stand from the Enter of its first call on.
 abbrev pub TellsFacts : Option (List ℕ) → ℕ → ℕ → Trace → Type 0

@@ -5,7 +5,7 @@ use Rattle.mpi_model.specs.Layouts.{Parts}
 use Rattle.trace_know.specs.View.{View, join}
 use Rattle.trace_node.specs.ByRank.{AreTold}
 use Rattle.trace_node.specs.declared.by_rank.RankByRank.{RankByRank}
-use Rattle.input_files.specs.Manifests.{PieceParts}
+use Rattle.run_files.specs.Manifests.{PieceParts}
 use Rattle.command_runs.specs.Traces.{IsKnown}
 
 -- These pieces are of ranks below a number, and those ranks were told by all that the pieces tell.

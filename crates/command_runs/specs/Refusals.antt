@@ -1,15 +1,12 @@
 -- Why a run is refused.
 use Rattle.std.specs.Prelude.{◌≡◌, ◌⊎◌, ℕ, List, Option, Contains, IsPermutation}
-use Rattle.mpi_model.specs.Layouts.{Parts}
 use Rattle.trace_know.specs.View.{View}
-use Rattle.input_files.specs.Layouts.{RefusesLayout}
-use Rattle.input_files.specs.Manifests.{ManifestParts, PieceParts, RefusesManifest}
-use Rattle.command_runs.specs.Inputs.{RefusesInput, TellsLayout, TellsManifest}
+use Rattle.run_files.specs.Manifests.{ManifestParts, PieceParts}
 use Rattle.command_runs.specs.Packed.{RefusesFirstPacked, TellPacked}
 use Rattle.command_runs.specs.Pieces.{RefusesPiece}
 use Rattle.command_runs.specs.Traces.{Begin, IsFirstStranger, IsKnown}
-use Rattle.command_runs.specs.declared.fault.RunFault.{RunFault}
-use Rattle.command_runs.specs.declared.fault.RunFault.TheVariants.{Memory, Rank}
+use Rattle.command_runs.specs.declared.faults.fault.RunFault.{RunFault}
+use Rattle.command_runs.specs.declared.faults.fault.RunFault.TheVariants.{Memory, Rank}
 
 -- A piece is refused for its file or its text, and all before it are whole.
 abbrev pub RefusesFirst : (List ℕ → Option (List ℕ)) → List PieceParts → RunFault → Type 0
@@ -42,15 +39,3 @@ BlamesFile name fault = (file : List ℕ) (first other : ℕ) (text : Option (Li
 abbrev pub RefusesNamed : (List ℕ → Option (List ℕ)) → ℕ → ManifestParts → RunFault → Type 0
 RefusesNamed file ranks m fault = (fault ≡ Memory) ⊎ (RefusesFirstPacked file ranks m.packed fault
     ⊎ (((view : View) × TellPacked file ranks m.packed view) × RefusesPieces file ranks m.pieces fault))
-
--- Why there is no node: the manifest is refused, or a piece that it names is.
-abbrev pub RefusesNode : (List ℕ → Option (List ℕ)) → Parts → List ℕ → RunFault → Type 0
-RefusesNode file l manifest fault = (fault ≡ Memory)
-    ⊎ (RefusesInput RefusesManifest manifest (file manifest) fault
-    ⊎ ((m : ManifestParts) × TellsManifest (file manifest) m × RefusesNamed file l.ranks m fault))
-
--- Why there is no report: the layout is refused, or, under it, what comes after it.
-abbrev pub RefusesRun : (List ℕ → Option (List ℕ)) → List ℕ → List ℕ → RunFault → Type 0
-RefusesRun file layout manifest fault = (fault ≡ Memory)
-    ⊎ (RefusesInput RefusesLayout layout (file layout) fault
-    ⊎ ((l : Parts) × TellsLayout (file layout) l × RefusesNode file l manifest fault))

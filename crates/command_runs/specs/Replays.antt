@@ -1,6 +1,5 @@
 -- What a replay prints, and why it is refused.
-use Rattle.std.specs.Prelude.{◌≡◌, ◌⊎◌, ◌<◌, ◌≤◌, ◌++◌, ℕ, suc, false, List, [], ◌∷◌, Option, Some, codes, decimal, length, map, take, slice_index_or}
-use Rattle.std.specs.Io.KnownBytes.{Appends}
+use Rattle.std.specs.Prelude.{◌≡◌, ◌⊎◌, ◌<◌, ◌≤◌, ◌++◌, ℕ, suc, false, List, [], ◌∷◌, Option, Some, codes, decimal, map, take, slice_index_or}
 use Rattle.std.specs.List.{slice_get}
 use Rattle.mpi_model.specs.Layouts.{Parts}
 use Rattle.trace_know.specs.Segment.{PlacedEvents}
@@ -14,13 +13,11 @@ use Rattle.trace_world.specs.Shows.{knowledge_of, most_nodes}
 use Rattle.trace_world.specs.declared.step.Step.{Step}
 use Rattle.trace_world.specs.declared.step.WorldFault.{WorldFault}
 use Rattle.trace_world.specs.declared.step.WorldFault.TheVariants as worlds
-use Rattle.input_files.specs.Layouts.{RefusesLayout}
-use Rattle.input_files.specs.Manifests.{ManifestParts, RefusesManifest}
-use Rattle.command_runs.specs.Inputs.{RefusesInput, TellsLayout, TellsManifest}
+use Rattle.run_files.specs.Manifests.{ManifestParts}
 use Rattle.command_runs.specs.Refusals.{RefusesFirst}
 use Rattle.command_runs.specs.Schedules.{TellSegments, world_steps}
-use Rattle.command_runs.specs.declared.fault.RunFault.{RunFault}
-use Rattle.command_runs.specs.declared.fault.RunFault.TheVariants as faults
+use Rattle.command_runs.specs.declared.faults.fault.RunFault.{RunFault}
+use Rattle.command_runs.specs.declared.faults.fault.RunFault.TheVariants as faults
 
 -- ---- nodes
 
@@ -39,9 +36,8 @@ abbrev pub AreLeft : Parts → ℕ → List Step → List Held → Type 0
 AreLeft l nodes steps left = CanReplay l nodes steps × (left ≡ nodes_after l nodes steps)
 
 -- The manifest's schedule can be replayed, of pieces with the texts of their files, and the nodes hold what it leaves.
-abbrev pub AreNodesOf : (List ℕ → Option (List ℕ)) → Parts → List ℕ → List Held → Type 0
-AreNodesOf file l manifest nodes = (m : ManifestParts) × (lists : List (List PlacedEvents)) × TellsManifest (file manifest) m × TellSegments file m.pieces lists
-    × CanReplay l m.nodes (world_steps lists m.schedule) × (nodes ≡ nodes_after l m.nodes (world_steps lists m.schedule))
+abbrev pub AreNodesOf : (List ℕ → Option (List ℕ)) → Parts → ManifestParts → List Held → Type 0
+AreNodesOf file l m nodes = (lists : List (List PlacedEvents)) × TellSegments file m.pieces lists × AreLeft l m.nodes (world_steps lists m.schedule) nodes
 
 -- No node is without its answer.
 abbrev pub NoneStale : List Held → Type 0
@@ -77,33 +73,17 @@ replay_text answers = node_texts 0 answers
 abbrev pub IsTextOf : List Held → List ℕ → Type 0
 IsTextOf nodes text = (answers : List Answered) × AreAnswers nodes answers × (text ≡ replay_text answers)
 
--- The bytes grew by a text, but for its end.
-abbrev pub AppendsFront : Option (List ℕ) → Option (List ℕ) → List ℕ → Type 0
-AppendsFront old new text = (count : ℕ) × (count < length text) × Appends old new (take count text)
-
--- The bytes grew by a text of this kind.
-abbrev pub Writes : (List ℕ → Type 0) → Option (List ℕ) → Option (List ℕ) → Type 0
-Writes Is old new = (text : List ℕ) × Is text × Appends old new text
-
--- The bytes grew by a text of this kind, but for its end.
-abbrev pub WritesFront : (List ℕ → Type 0) → Option (List ℕ) → Option (List ℕ) → Type 0
-WritesFront Is old new = (text : List ℕ) × Is text × AppendsFront old new text
-
--- What the files tell of a replay: its layout, and the nodes that its schedule leaves.
-abbrev pub IsReplay : (List ℕ → Option (List ℕ)) → List ℕ → List ℕ → List Held → Type 0
-IsReplay file layout manifest nodes = (l : Parts) × TellsLayout (file layout) l × AreNodesOf file l manifest nodes
-
 -- The line and the report of each of the first nodes.
 abbrev pub BeginsTextOf : List Held → List ℕ → Type 0
 BeginsTextOf nodes text = (count : ℕ) × IsTextOf (take count nodes) text
 
 -- The text of a replay: the line and the report of each node that the schedule leaves.
-abbrev pub IsReplayOf : (List ℕ → Option (List ℕ)) → List ℕ → List ℕ → List ℕ → Type 0
-IsReplayOf file layout manifest text = (nodes : List Held) × IsReplay file layout manifest nodes × IsTextOf nodes text
+abbrev pub IsReplayOf : (List ℕ → Option (List ℕ)) → Parts → ManifestParts → List ℕ → Type 0
+IsReplayOf file l m text = (nodes : List Held) × AreNodesOf file l m nodes × IsTextOf nodes text
 
 -- The text of the first nodes of a replay.
-abbrev pub BeginsReplayOf : (List ℕ → Option (List ℕ)) → List ℕ → List ℕ → List ℕ → Type 0
-BeginsReplayOf file layout manifest text = (nodes : List Held) × (count : ℕ) × IsReplay file layout manifest nodes × IsTextOf (take count nodes) text
+abbrev pub BeginsReplayOf : (List ℕ → Option (List ℕ)) → Parts → ManifestParts → List ℕ → Type 0
+BeginsReplayOf file l m text = (nodes : List Held) × AreNodesOf file l m nodes × BeginsTextOf nodes text
 
 -- ---- why a replay is refused
 
@@ -132,15 +112,7 @@ RefusesSteps l nodes steps faults.NodeCount = (nodes ≡ 0) ⊎ (most_nodes < no
 RefusesSteps l nodes steps (faults.Step fault k) = RefusesStep l nodes steps k fault
 RefusesSteps l nodes steps _ = ⊥
 
--- Why there are no such nodes: the manifest is refused; or a piece is, for its file or its text; or, where none is, a step.
-abbrev pub RefusesNodes : (List ℕ → Option (List ℕ)) → Parts → List ℕ → RunFault → Type 0
-RefusesNodes file l manifest fault = (fault ≡ faults.Memory)
-    ⊎ (RefusesInput RefusesManifest manifest (file manifest) fault
-    ⊎ ((m : ManifestParts) × TellsManifest (file manifest) m × (RefusesFirst file m.pieces fault
-    ⊎ ((lists : List (List PlacedEvents)) × TellSegments file m.pieces lists × RefusesSteps l m.nodes (world_steps lists m.schedule) fault))))
-
--- Why there is no replay: the layout is refused, or, under it, what comes after it.
-abbrev pub RefusesReplay : (List ℕ → Option (List ℕ)) → List ℕ → List ℕ → RunFault → Type 0
-RefusesReplay file layout manifest fault = (fault ≡ faults.Memory)
-    ⊎ (RefusesInput RefusesLayout layout (file layout) fault
-    ⊎ ((l : Parts) × TellsLayout (file layout) l × RefusesNodes file l manifest fault))
+-- Why there is no replay: a piece is refused, for its file or its text; or, where none is, a step.
+abbrev pub RefusesReplay : (List ℕ → Option (List ℕ)) → Parts → ManifestParts → RunFault → Type 0
+RefusesReplay file l m fault = (fault ≡ faults.Memory) ⊎ (RefusesFirst file m.pieces fault
+    ⊎ ((lists : List (List PlacedEvents)) × TellSegments file m.pieces lists × RefusesSteps l m.nodes (world_steps lists m.schedule) fault))

@@ -5,9 +5,9 @@ use Rattle.std.specs.declared.alloc.Global.{Global}
 use Rattle.trace_know.specs.Segment.{PlacedEvents}
 use Rattle.trace_world.specs.declared.step.Step.{Step}
 use Rattle.trace_world.specs.declared.step.Step.TheVariants.{Post, Take, Ship, Deliver, Restart}
-use Rattle.input_files.specs.Manifests.{PieceParts}
-use Rattle.input_files.specs.declared.schedule.PlannedStep.{PlannedStep}
-use Rattle.input_files.specs.declared.schedule.PlannedStep.TheVariants as planned
+use Rattle.run_files.specs.Manifests.{PieceParts}
+use Rattle.run_files.specs.declared.manifest.PlannedStep.{PlannedStep}
+use Rattle.run_files.specs.declared.manifest.PlannedStep.TheVariants as planned
 use Rattle.command_runs.specs.Pieces.{TellsSegments}
 
 -- The segments of each of these pieces, from its file.

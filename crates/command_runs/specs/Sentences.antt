@@ -1,21 +1,21 @@
 -- The sentences that are said below the line of a fault, each on a line of its own behind two spaces.
-use Rattle.std.specs.Prelude.{◌==◌, ◌++◌, ℕ, Bool, true, false, List, [], ◌∷◌, Option, Some, None, codes, if◌then◌else◌}
+use Rattle.std.specs.Prelude.{◌==◌, ◌++◌, ℕ, Bool, false, List, [], ◌∷◌, Option, Some, None, codes, if◌then◌else◌}
 use Rattle.mpi_model.specs.declared.layout.fault.LayoutFault.{LayoutFault}
 use Rattle.mpi_model.specs.declared.layout.fault.LayoutFault.TheVariants as layouts
 use Rattle.dumpi_text.specs.declared.fault.LineFault.{LineFault}
 use Rattle.dumpi_text.specs.declared.fault.LineFault.TheVariants as lines
 use Rattle.dumpi_calls.specs.declared.parameter.Parameter.{Parameter}
 use Rattle.dumpi_calls.specs.declared.parameter.Parameter.TheVariants as parameters
-use Rattle.input_files.specs.declared.fault.Field.{Field}
-use Rattle.input_files.specs.declared.fault.Field.TheVariants as fields
+use Rattle.run_files.specs.declared.fault.Field.{Field}
+use Rattle.run_files.specs.declared.fault.Field.TheVariants as fields
 use Rattle.trace_wire.specs.declared.fault.WireFault.{WireFault}
 use Rattle.trace_wire.specs.declared.fault.WireFault.TheVariants as wires
 use Rattle.trace_wire.specs.declared.packed.fault.PackedCause.{PackedCause}
 use Rattle.trace_wire.specs.declared.packed.fault.PackedCause.TheVariants as packs
 use Rattle.text_notes.specs.declared.start.Start.{Start}
 use Rattle.text_notes.specs.declared.start.Start.TheVariants as starts
-use Rattle.command_runs.specs.declared.fault.RunFault.{RunFault}
-use Rattle.command_runs.specs.declared.fault.RunFault.TheVariants.{Piece, Packed, Missing, Place, Rank, Outside, Write}
+use Rattle.command_runs.specs.declared.faults.fault.RunFault.{RunFault}
+use Rattle.command_runs.specs.declared.faults.fault.RunFault.TheVariants.{Piece, Packed, Missing, Place, Rank, Outside, Write}
 
 -- a sentence on its line
 abbrev pub said : List ℕ → List ℕ
@@ -113,6 +113,12 @@ wanted_text parameters.Tag = codes "a number from 0 to 2147483647, and of a rece
 wanted_text parameters.SendTag = codes "a number from 0 to 2147483647"
 wanted_text parameters.RecvTag = codes "a number from 0 to 2147483647, or -1 or (MPI_ANY_TAG)"
 wanted_text parameters.Comm = codes "a number from 0 to 2147483647, or (MPI_COMM_WORLD) behind a number"
+wanted_text parameters.OldComm = codes "a number from 0 to 2147483647, or (MPI_COMM_WORLD) behind a number"
+wanted_text parameters.CommOld = codes "a number from 0 to 2147483647, or (MPI_COMM_WORLD) behind a number"
+wanted_text parameters.LocalComm = codes "a number from 0 to 2147483647, or (MPI_COMM_WORLD) behind a number"
+wanted_text parameters.Win = codes "a number from 0 to 2147483647"
+wanted_text parameters.Fh = codes "a number from 0 to 2147483647"
+wanted_text parameters.File = codes "a number from 0 to 2147483647"
 wanted_text parameters.Requests = codes "a list of numbers, as [2] {4, 5}"
 wanted_text parameters.Indices = codes "a list of numbers, as [2] {0, 1}"
 wanted_text parameters.Status = codes "a group, as {source=0, tag=7}"

@@ -4,11 +4,11 @@ use Rattle.std.specs.List.{filter}
 use Rattle.trace_cluster.specs.declared.side.Side.{Side}
 use Rattle.trace_cluster.specs.declared.side.Side.TheVariants as sides
 use Rattle.trace_know.specs.View.{View, IsBelow, join}
-use Rattle.input_files.specs.Manifests.{PackedParts}
+use Rattle.run_files.specs.Manifests.{PackedParts}
 use Rattle.command_runs.specs.Packed.{TellPacked}
-use Rattle.command_runs.specs.Texts.{is_side, side_of}
-use Rattle.command_runs.specs.declared.shares.PackedShares.{PackedShares}
-use Rattle.command_runs.specs.declared.shares.SoFar.{SoFar}
+use Rattle.command_runs.specs.NodeTexts.{is_side, side_of}
+use Rattle.command_runs.specs.declared.pieces.shares.PackedShares.{PackedShares}
+use Rattle.command_runs.specs.declared.pieces.shares.SoFar.{SoFar}
 
 -- those of a node among these packed files, in their order
 abbrev pub packed_share_of : Side → List PackedParts → List PackedParts

@@ -2,7 +2,7 @@
 use Rattle.std.specs.Prelude.{ℕ, false, List, ◌++◌, codes, decimal, flat_map, if◌then◌else◌, length, nat_lt, take}
 use Rattle.std.specs.Fmt.{digits}
 use Rattle.command_runs.specs.FileNames.{shown_char}
-use Rattle.command_runs.specs.declared.shown_bytes.TheConstants.{LONGEST_SHOWN}
+use Rattle.command_runs.specs.declared.faults.shown_bytes.TheConstants.{LONGEST_SHOWN}
 
 -- a byte: an ASCII character as in a file's name, any other by its number, as Rust escapes it
 abbrev pub shown_byte : ℕ → List ℕ

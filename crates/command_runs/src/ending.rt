@@ -1,22 +1,35 @@
 //! How the program ends: from words to a status and what standard error shows.
 
-ghost use Rattle.std.specs.Prelude.{◌≡◌, ◌≢◌, ◌∷◌, [], IfOk, IfSome, IsTrue, None, length, string_bytes};
-ghost use Rattle.command_line.specs.Program.{texts_of};
-ghost use Rattle.command_runs.specs.Endings.{BeginsWithText, EndsCluster, EndsFor, IsEndedBy, Turns, TurnsFiles, TurnsPair, first_name, strange_line};
+ghost use Rattle.std.specs.Prelude.{◌≡◌, ◌≢◌, ◌∷◌, [], Contains, IfOk, IfSome, IsTrue, None, Option, length, string_bytes};
+ghost use Rattle.mpi_model.specs.Failures.{HasFailed};
+ghost use Rattle.dumpi_text.specs.Failing.{Fails};
+ghost use Rattle.command_line.specs.Program.{texts_of, wish_of};
+ghost use Rattle.run_files.specs.Stores.{Files};
+ghost use Rattle.command_runs.specs.Advice.{IsShownIn};
+ghost use Rattle.command_runs.specs.Endings.{BeginsWithText, EndsCluster, EndsFiles, EndsFor, EndsPair, EndsTexts, IsEndedBy, IsEnding, first_name, strange_line};
 ghost use Rattle.command_runs.specs.FaultLines.{fault_line_of};
 ghost use Rattle.command_runs.specs.Files.{IsLength};
+ghost use Rattle.command_runs.specs.InitAdvice.{IsInitShown};
+ghost use Rattle.command_runs.specs.Inits.{EndsInit};
 
-use crate::advice::shown_fault;
-use crate::cluster::run_cluster;
-use crate::fault::{RunFault, fault_line};
-use crate::file_name::FileName;
-use crate::first_look::begins_as_text;
-use crate::opener::Opener;
-use crate::run::run_with;
-use crate::watch::Watcher;
+use crate::faults::advice::{is_in_words, shown_fault};
+use crate::faults::fault::{RunFault, fault_line};
+use crate::faults::file_name::FileName;
+use crate::faults::init_advice::shown_init_fault;
+use crate::faults::init_fault::{InitFault, init_fault_line};
+use crate::load::first_look::begins_as_text;
+use crate::load::input::{has_rank, input_at};
+use crate::load::opener::Opener;
+use crate::load::prepared::prepare;
+use crate::load::watch::Watcher;
+use crate::run::{Outcome, Run, run_with};
+use crate::verbs::cluster::cluster;
+use crate::verbs::init::init;
 use command_line::{Asked, CommandFault, Verb, Wanted, command_of};
-use mpi_model::{Write, write_all};
+use mpi_model::{Sends, Write, write_all};
+use run_files::Store;
 use std::alloc::{AllocError, Global};
+use std::io::Eprint;
 use std::net::{Net, TcpListener, TcpStream};
 use std::sync::Wait;
 use std::thread::Threads;
@@ -28,101 +41,181 @@ pub struct Ending {
     pub errors: String,
 }
 
-/// What the words leave to do.
-#[derive(Debug, Drop)]
-pub enum Turn<'a> {
-    /// Nothing: the program ends so.
-    Ended(Ending),
-    /// A cluster of these two files, for which [`ending_of_cluster`] takes threads and a socket.
-    Cluster {
-        layout: &'a str,
-        manifest: &'a str,
-    },
-    /// A verb over the texts of all ranks, the first of which that isn't empty begins as one.
-    Texts {
-        verb: Verb,
-        texts: Vec<&'a str>,
-    },
-    /// A layout and a manifest for the texts of all ranks.
-    Init {
-        texts: Vec<&'a str>,
-        wanted: Wanted<'a>,
-    },
-}
-
 /// Does what the words ask for, the first being the program's name: 0 where the run was good or
 /// help or the version was asked for, 1 for a refused input, with its fault line, and 2 for a
-/// mistake in the words. What takes more than files is left to do: a cluster, and what is made of texts.
+/// mistake in the words.
 ///
 /// Where a verb takes a layout and a manifest or texts, its words are texts if the first file that isn't
 /// empty begins as one, and else a layout and a manifest if they are two, and else mistaken.
-pub fn ending_of<'a, O: Opener, V: Watcher, W: Write>(
+pub fn ending_of<
+    R: Net<Listener = TcpListener, Stream = TcpStream> + Threads + Wait + Sync + Eprint,
+    O: Opener,
+    S: Store,
+    V: Watcher,
+    W: Write,
+>(
+    rt: &R,
     alloc: Global,
-    words: &'a [&'a str],
-    files: &mut O,
+    words: &[&str],
+    files: &O,
+    store: &mut S,
     watcher: &mut V,
     out: &mut W,
-) -> Result<Turn<'a>, AllocError>
-    ensures { IfOk result (Turns (O.file files.old) (texts_of words.entry.now) W.written W.failures out.old out.new) }
+) -> Result<Ending, AllocError>
+    ensures { IfOk result (IsEnding (Fails O.R.failures) (HasFailed (S.failures store.old) (S.failures store.new))
+        (record { words = texts_of words.now; file = O.file files.now; store_before = S.files store.old; store_after = S.files store.new })
+        W.written W.failures out.old out.new) }
 {
     let asked = match command_of(alloc, words) {
         Ok(asked) => asked,
-        Err(CommandFault::Memory) => return Ok(Turn::Ended(refused(alloc, &RunFault::Memory)?)),
-        Err(fault) => return Ok(Turn::Ended(shown(alloc, &fault, out)?)),
+        Err(fault) => return shown(alloc, &fault, out),
     };
     match asked {
         Asked::Pair {
             verb,
             layout,
             manifest,
-        } => turn_of_pair(alloc, verb, layout, manifest, files, watcher, out),
+        } => over_pair(alloc, verb, (layout, manifest), files, watcher, out),
         Asked::Files { verb, files: names } => {
-            turn_of_files(alloc, verb, names, files, watcher, out)
+            over_files(rt, alloc, verb, names.as_slice(), files, watcher, out)
         }
-        Asked::Init { texts, wanted } => Ok(Turn::Init { texts, wanted }),
+        Asked::Cluster { layout, manifest } => {
+            over_cluster(rt, alloc, (layout, manifest), files, out)
+        }
+        Asked::Init { texts, wanted } => {
+            over_init(alloc, texts.as_slice(), wanted, files, store, out)
+        }
     }
 }
 
-/// Runs a verb over a layout and a manifest, or leaves a cluster of them to do.
-fn turn_of_pair<'a, O: Opener, V: Watcher, W: Write>(
+/// Runs a verb over a layout and a manifest, by the names of their files.
+fn over_pair<O: Opener, V: Watcher, W: Write>(
     alloc: Global,
     verb: Verb,
-    layout: &'a str,
-    manifest: &'a str,
-    files: &mut O,
+    names: (&str, &str),
+    files: &O,
     watcher: &mut V,
     out: &mut W,
-) -> Result<Turn<'a>, AllocError>
-    ensures { IfOk result (TurnsPair (O.file files.old) verb layout.now manifest.now W.written W.failures out.old out.new) }
+) -> Result<Ending, AllocError>
+    ensures { IfOk result (EndsPair (Fails O.R.failures) (O.file files.now) verb names.entry.0.now names.entry.1.now W.written W.failures out.old out.new) }
 {
-    let ran = match verb {
-        Verb::Cluster => return Ok(Turn::Cluster { layout, manifest }),
-        verb => run_with(alloc, verb, layout, manifest, files, watcher, out),
+    let (layout, manifest) = names;
+    match input_at(alloc, verb.asked_rank(), layout, manifest, files) {
+        Ok(input) => {
+            let ran = run_with(verb, &Run::new(alloc, &input, files), watcher, out);
+            ending_after(alloc, is_in_words(verb), ran, files)
+        }
+        Err(fault) => showing(alloc, is_in_words(verb), &fault, files),
+    }
+}
+
+/// Runs a verb over its files: texts, or a layout and a manifest.
+fn over_files<R: Eprint, O: Opener, V: Watcher, W: Write>(
+    rt: &R,
+    alloc: Global,
+    verb: Verb,
+    names: &[&str],
+    files: &O,
+    watcher: &mut V,
+    out: &mut W,
+) -> Result<Ending, AllocError>
+    ensures { IfOk result (EndsFiles (Fails O.R.failures) (O.file files.now) verb (texts_of names.now) W.written W.failures out.old out.new) }
+{
+    if are_texts(names, files) {
+        return over_texts(rt, alloc, verb, names, files, watcher, out);
+    }
+    match two_of(names) {
+        Some(two) => over_pair(alloc, verb, two, files, watcher, out),
+        None => strange_files(alloc, names),
+    }
+}
+
+/// Runs a verb over texts: makes the input of them, shows what was found, and runs.
+fn over_texts<R: Eprint, O: Opener, V: Watcher, W: Write>(
+    rt: &R,
+    alloc: Global,
+    verb: Verb,
+    texts: &[&str],
+    files: &O,
+    watcher: &mut V,
+    out: &mut W,
+) -> Result<Ending, AllocError>
+    ensures { IfOk result (EndsTexts (Fails O.R.failures) (O.file files.now) verb (texts_of texts.now) W.written W.failures out.old out.new) }
+{
+    if let Some(path) = piped_of(texts, files) {
+        let path = path.to_string(alloc)?;
+        return showing_init(alloc, verb, &InitFault::Piped { path }, files);
+    }
+    let prepared = match prepare(alloc, Sends::Wait, texts, files) {
+        Ok(prepared) => prepared,
+        Err(fault) => return showing_init(alloc, verb, &fault, files),
     };
-    Ok(Turn::Ended(ending_after(alloc, verb, ran, files)?))
+    show(rt, &prepared.notes);
+    let input = &prepared.made.input;
+    if let Err(fault) = has_rank(verb.asked_rank(), &input.layout) {
+        return showing(alloc, is_in_words(verb), &fault, files);
+    }
+    let ran = run_with(verb, &Run::new(alloc, input, files), watcher, out);
+    ending_after(alloc, is_in_words(verb), ran, files)
 }
 
-/// A verb over its files: texts, or a layout and a manifest.
-#[tactic(auto, using(crate::proofs::Endings::turned_pair))]
-fn turn_of_files<'a, O: Opener, V: Watcher, W: Write>(
-    alloc: Global,
-    verb: Verb,
-    names: Vec<&'a str>,
-    files: &mut O,
-    watcher: &mut V,
-    out: &mut W,
-) -> Result<Turn<'a>, AllocError>
-    ensures { IfOk result (TurnsFiles (O.file files.old) verb (texts_of names.entry.items) W.written W.failures out.old out.new) }
+/// Runs a cluster of a layout and a manifest, by the names of their files.
+fn over_cluster<
+    R: Net<Listener = TcpListener, Stream = TcpStream> + Threads + Wait + Sync,
+    O: Opener,
+    W: Write,
+>(rt: &R, alloc: Global, names: (&str, &str), files: &O, out: &mut W) -> Result<Ending, AllocError>
+    ensures { IfOk result (EndsCluster (Fails O.R.failures) (O.file files.now) names.entry.0.now names.entry.1.now W.written W.failures out.old out.new) }
 {
-    if are_texts(names.as_slice(), files) {
-        return Ok(Turn::Texts { verb, texts: names });
-    }
-    match two_of(names.as_slice()) {
-        Some((layout, manifest)) => {
-            turn_of_pair(alloc, verb, layout, manifest, files, watcher, out)
+    let (layout, manifest) = names;
+    match input_at(alloc, None, layout, manifest, files) {
+        Ok(input) => {
+            let ran = cluster(rt, &Run::new(alloc, &input, files), out);
+            ending_after(alloc, false, ran, files)
         }
-        None => Ok(Turn::Ended(strange_files(alloc, names.as_slice())?)),
+        Err(fault) => showing(alloc, false, &fault, files),
     }
+}
+
+/// Writes the layout and the manifest that are made of texts, both or none, and then what was found.
+fn over_init<O: Opener, S: Store, W: Write>(
+    alloc: Global,
+    texts: &[&str],
+    wanted: Wanted<'_>,
+    files: &O,
+    store: &mut S,
+    out: &mut W,
+) -> Result<Ending, AllocError>
+    ensures { IfOk result (EndsInit (O.file files.now) (texts_of texts.now) (wish_of wanted.entry) (S.files store.old) (S.files store.new)
+        (HasFailed (S.failures store.old) (S.failures store.new)) W.written W.failures out.old out.new) }
+{
+    match init(alloc, texts, wanted, files, store, out) {
+        Ok(()) => Ok(silent(alloc, 0)),
+        Err(fault) => Ok(Ending {
+            status: 1,
+            errors: init_fault_line(alloc, &fault)?,
+        }),
+    }
+}
+
+/// Shows on standard error what was found in the texts.
+fn show<R: Eprint>(rt: &R, notes: &[u8]) {
+    if let Ok(text) = std::str::from_utf8(notes) {
+        let _ = eprint!(rt; "{text}");
+    }
+}
+
+/// The first of the texts that is a pipe or a device: it could be read for the layout, and not once more for the verb.
+fn piped_of<'a, O: Opener>(texts: &[&'a str], files: &O) -> Option<&'a str>
+    ensures among { IfSome result (λ path. Contains (texts_of texts.now) path.now) }
+    ensures untold { IfSome result (λ path. O.file files.now path.now ≡ None) }
+{
+    for path in texts {
+        if files.length(path).is_none() && files.reason(path).is_none() {
+            return Some(*path);
+        }
+    }
+    None
 }
 
 /// The names, where they are two.
@@ -146,9 +239,8 @@ fn is_empty<O: Opener>(path: &str, files: &O) -> bool
 }
 
 /// Whether the names are those of texts: the first one of a file that isn't empty tells it.
-fn are_texts<O: Opener>(names: &[&str], files: &mut O) -> bool
-    ensures told { IsTrue result → BeginsWithText (O.file files.old) (texts_of names.now) }
-    ensures same { O.file files.new ≡ O.file files.old }
+fn are_texts<O: Opener>(names: &[&str], files: &O) -> bool
+    ensures { IsTrue result → BeginsWithText (O.file files.now) (texts_of names.now) }
 {
     for name in names {
         if begins_as_text(name, files) {
@@ -185,42 +277,48 @@ fn strange_files(alloc: Global, names: &[&str]) -> Result<Ending, AllocError>
     })
 }
 
-/// Runs the cluster that the words ask for.
-pub fn ending_of_cluster<
-    R: Net<Listener = TcpListener, Stream = TcpStream> + Threads + Wait + Sync,
-    O: Opener,
-    W: Write,
->(
-    rt: &R,
+/// The ending after such a run over these files, whose fault is shown in words or by its line alone.
+fn ending_after<O: Opener>(
     alloc: Global,
-    layout: &str,
-    manifest: &str,
-    files: &mut O,
-    out: &mut W,
+    in_words: bool,
+    ran: Result<Outcome, RunFault>,
+    files: &O,
 ) -> Result<Ending, AllocError>
-    ensures { IfOk result (EndsCluster (O.file files.old) layout.now manifest.now W.written W.failures out.old out.new) }
-{
-    let ran = run_cluster(rt, alloc, layout, manifest, files, out);
-    ending_after(alloc, Verb::Cluster, ran, files)
-}
-
-/// The ending after such a run of a verb over these files.
-pub fn ending_after<O: Opener>(
-    alloc: Global,
-    verb: Verb,
-    ran: Result<bool, RunFault>,
-    files: &mut O,
-) -> Result<Ending, AllocError>
-    ensures { IfOk result (λ e. IsEndedBy (O.file files.old) verb ran e.status (string_bytes e.errors)) }
+    ensures { IfOk result (IsEndedBy in_words (O.file files.now) ran) }
 {
     match ran {
-        Ok(true) => Ok(silent(alloc, 0)),
-        Ok(false) => Ok(silent(alloc, 1)),
-        Err(fault) => Ok(Ending {
-            status: 1,
-            errors: shown_fault(alloc, verb, &fault, files)?,
-        }),
+        Ok(Outcome::Good) => Ok(silent(alloc, 0)),
+        Ok(Outcome::CheckFailed) => Ok(silent(alloc, 1)),
+        Err(fault) => showing(alloc, in_words, &fault, files),
     }
+}
+
+/// The ending that shows a fault, in words or by its line alone.
+fn showing<O: Opener>(
+    alloc: Global,
+    in_words: bool,
+    fault: &RunFault,
+    files: &O,
+) -> Result<Ending, AllocError>
+    ensures status { IfOk result (λ e. e.status ≡ 1) }
+    ensures errors { IfOk result (λ e. IsShownIn in_words (O.file files.now) fault.now (string_bytes e.errors)) }
+{
+    let errors = shown_fault(alloc, in_words, fault, files)?;
+    Ok(Ending { status: 1, errors })
+}
+
+/// The ending of a verb over texts that shows a fault of them.
+fn showing_init<O: Opener>(
+    alloc: Global,
+    verb: Verb,
+    fault: &InitFault,
+    files: &O,
+) -> Result<Ending, AllocError>
+    ensures status { IfOk result (λ e. e.status ≡ 1) }
+    ensures errors { IfOk result (λ e. IsInitShown (O.file files.now) verb fault.now (string_bytes e.errors)) }
+{
+    let errors = shown_init_fault(alloc, verb, fault, files)?;
+    Ok(Ending { status: 1, errors })
 }
 
 /// The program ends so where its words can't be read, since one is no UTF-8: a mistake in the words.

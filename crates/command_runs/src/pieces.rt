@@ -1,55 +1,15 @@
-//! The segments of all pieces of a manifest.
+//! What the pieces of a manifest tell, one by one and together.
 
-ghost use Rattle.std.specs.Prelude.{◌≡◌, ◌⊎◌, IfErr, IfOk};
-ghost use Rattle.dumpi_text.specs.Failing.{Fails};
-ghost use Rattle.command_runs.specs.Files.{NamesFailed};
-ghost use Rattle.command_runs.specs.Refusals.{RefusesFirst};
-ghost use Rattle.command_runs.specs.Schedules.{TellSegments, held_lists};
-
-use crate::fault::RunFault;
-use crate::opener::Opener;
-use crate::piece::segments_of;
-use crate::watch::{Watcher, announce};
-use dumpi_calls::whole_segments;
-use input_files::Piece;
-use std::alloc::{AllocError, Global};
-use trace_know::ReadySegment;
-use trace_world::SharedSegment;
-
-/// The segments of each piece, in the order of the pieces, for all steps that post them.
-pub fn segments_of_all<O: Opener, V: Watcher>(
-    alloc: Global,
-    pieces: &[Piece],
-    files: &mut O,
-    watcher: &mut V,
-) -> Result<Vec<Vec<SharedSegment>>, RunFault>
-    ensures ok { IfOk result (λ lists. TellSegments (O.file files.old) pieces.now (held_lists lists.items)) }
-    ensures err { IfErr result (λ fault. (fault ≡ RunFault.Memory) ⊎ RefusesFirst (O.file files.old) pieces.now fault) }
-    ensures failed { IfErr result (NamesFailed (Fails O.R.failures)) }
-    ensures same { O.file files.new ≡ O.file files.old }
-{
-    whole_segments();
-    announce(pieces, files, watcher);
-    let mut buffer = Vec::new(alloc);
-    let mut lists = Vec::new(alloc);
-    for piece in pieces {
-        let segments = match segments_of(alloc, piece, files, watcher, &mut buffer) {
-            Ok(segments) => segments,
-            Err(fault) => return Err(fault),
-        };
-        lists.push(shared(alloc, segments)?)?;
-    }
-    Ok(lists)
-}
-
-/// The same segments, to be shared: their events are moved to lists.
-fn shared(alloc: Global, segments: Vec<ReadySegment>) -> Result<Vec<SharedSegment>, AllocError>
-    ensures { IfOk result (λ list. list.items ≡ segments.items) }
-{
-    let mut list = Vec::new(alloc);
-    for segment in segments {
-        let plain = segment.into_segment(alloc)?;
-        list.push(SharedSegment::new(alloc, plain)?)?;
-    }
-    Ok(list)
-}
+pub(crate) mod answering;
+pub(crate) mod any_order;
+pub(crate) mod by_rank;
+pub(crate) mod gatherer;
+pub(crate) mod knowing;
+pub(crate) mod known;
+pub(crate) mod laws;
+pub(crate) mod node_texts;
+pub(crate) mod noted;
+pub(crate) mod packed;
+pub(crate) mod piece;
+pub(crate) mod segments;
+pub(crate) mod shares;

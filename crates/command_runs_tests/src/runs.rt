@@ -3,12 +3,14 @@
 //! readers can fail behind some bytes too, and their writer behind some. The rest is shown by the built
 //! program, on the rows and cases of tests/.
 
-ghost use Rattle.std.specs.Prelude.{◌≢◌, Some, None, codes, if◌then◌else◌};
+ghost use Rattle.std.specs.Prelude.{Some, None, codes, if◌then◌else◌};
 ghost use Rattle.std.specs.Str.{bytes_eq};
 
 use command_line::Verb;
-use command_runs::{OpenFault, Opener, Unwatched, fault_line, run_with};
-use mpi_model::{MemoryReader, MemoryWriter};
+use command_runs::{
+    OpenFault, Opener, Outcome, Run, RunFault, Unwatched, fault_line, input_at, run_with,
+};
+use mpi_model::{MemoryReader, MemoryWriter, Write};
 use std::alloc::Global;
 use std::process::Abort;
 
@@ -31,7 +33,7 @@ impl Opener for Shelf {
         else if bytes_eq path (codes "r0.txt") then Some shelf.piece.now
         else None };
 
-    fn open(&mut self, path: &str) -> Result<MemoryReader<'static>, OpenFault> {
+    fn open(&self, path: &str) -> Result<MemoryReader<'static>, OpenFault> {
         if path == "layout.json" {
             return Ok(MemoryReader::new(self.layout));
         }
@@ -69,11 +71,20 @@ MPI_Comm comm=2
 MPI_Barrier returning at walltime 1.75, cputime 0.25 seconds in thread 0.
 ";
 
-/// The verb of a replay or of a report: none of these runs is a cluster's.
-fn verb_of(replays: bool) -> Verb
-    ensures { result ≢ Verb.Cluster }
-{
-    if replays { Verb::Replay } else { Verb::Report }
+/// The run of a replay or of a report over these files, which are named.
+fn ran<O: Opener, W: Write>(
+    alloc: Global,
+    replays: bool,
+    files: &O,
+    out: &mut W,
+) -> Result<Outcome, RunFault> {
+    let input = input_at(alloc, None, "layout.json", "manifest.json", files)?;
+    let run = Run::new(alloc, &input, files);
+    if replays {
+        run_with(Verb::Replay, &run, &mut Unwatched, out)
+    } else {
+        run_with(Verb::Report, &run, &mut Unwatched, out)
+    }
 }
 
 /// What a run writes, and then its fault line. Its output has room for so many bytes.
@@ -84,30 +95,20 @@ fn told<R: Abort>(
     until_failure: usize,
     room: usize,
 ) -> String {
-    let mut files = Shelf {
+    let files = Shelf {
         layout: LAYOUT,
         manifest: MANIFEST,
         piece: PIECE,
         until_failure,
     };
     let mut out = MemoryWriter::new(alloc).failing_after(room);
-    let verb = verb_of(replays);
-    let (layout, manifest) = ("layout.json", "manifest.json");
-    let ran = run_with(
-        alloc,
-        verb,
-        layout,
-        manifest,
-        &mut files,
-        &mut Unwatched,
-        &mut out,
-    );
+    let ended = ran(alloc, replays, &files, &mut out);
     let mut text = std::str::from_utf8(out.bytes())
         .ok()
         .expect(rt, "a text")
         .to_string(alloc)
         .expect(rt, "memory");
-    if let Err(fault) = ran {
+    if let Err(fault) = ended {
         let line = fault_line(alloc, &fault).expect(rt, "memory");
         text.push_str(line.as_str()).expect(rt, "memory");
     }

@@ -7,7 +7,8 @@ use Rattle.mpi_model.specs.Ranges.{CollectiveCall}
 use Rattle.mpi_model.specs.Times.{Times}
 use Rattle.mpi_model.specs.declared.call.Call.{Call}
 use Rattle.mpi_model.specs.declared.call.Call.TheVariants as calls
-use Rattle.mpi_model.specs.Kinds.{has_root}
+use Rattle.mpi_model.specs.Kinds.{has_root, row as kind_row}
+use Rattle.mpi_model.specs.declared.object.Object.TheVariants.{Communicator}
 use Rattle.mpi_model.specs.declared.kind.Kind.{Kind as GroupKind}
 use Rattle.mpi_model.specs.declared.envelope.CommRef.{CommRef}
 use Rattle.mpi_model.specs.declared.envelope.Envelope.{Envelope}
@@ -28,13 +29,13 @@ use Rattle.dumpi_text.specs.declared.value.Value.TheVariants.{Number}
 use Rattle.dumpi_calls.specs.InPlace.{EndsNumber, IsWhole, PassesLines, TellsCall, TellsNumber, TellsReceive, TellsRequests, TellsSend, TellsStatus, TellsStatuses, is_unread, param_of, receive_lines, send_lines, usual_name}
 use Rattle.dumpi_calls.specs.Outcomes.{groups_by, groups_from, groups_in, outcome_in, posted, told_at, tolds_from}
 use Rattle.dumpi_calls.specs.Skims.{requests_from}
-use Rattle.dumpi_calls.specs.Readings.{all_numbers, asked_tag_by, asked_tag_in, comm_by, comm_in, dest_by, dest_in, name_of, non_negative, non_negative_in, number_in, numbers_in, request_by, request_in, requests_in, requests_of, root_by, root_named, source_by, source_in, text_of}
+use Rattle.dumpi_calls.specs.Readings.{all_numbers, asked_tag_by, asked_tag_in, comm_by, comm_in, dest_by, dest_in, name_of, named_in, non_negative, non_negative_in, number_in, numbers_in, request_by, request_in, requests_in, requests_of, root_by, root_named, source_by, source_in, text_of}
 use Rattle.dumpi_calls.specs.Rows.{Row, collective_call, collective_in, collective_parameters, envelope_of_receive, envelope_of_send, exit_in, first_missing, function_named, irecv_call, isend_call, missing_in, read_by, receive_part, recv_call, returned, row, send_call, send_part, typed_by, wait_call, waitall_call}
 use Rattle.dumpi_calls.specs.declared.function.Function.{Function}
 use Rattle.dumpi_calls.specs.declared.function.Function.TheVariants as functions
 use Rattle.dumpi_calls.specs.declared.parameter.CallFault.{CallFault}
 use Rattle.dumpi_calls.specs.declared.parameter.Parameter.{Parameter}
-use Rattle.dumpi_calls.specs.declared.parameter.Parameter.TheVariants.{Count, Datatype, Dest, Source, Tag, Comm, SendCount, SendType, SendTag, RecvCount, RecvType, RecvTag, Root, Request, Requests, Index, Indices, Flag, Status, Statuses}
+use Rattle.dumpi_calls.specs.declared.parameter.Parameter.TheVariants.{Count, Datatype, Dest, Source, Tag, Comm, OldComm, CommOld, LocalComm, Win, Fh, File, SendCount, SendType, SendTag, RecvCount, RecvType, RecvTag, Root, Request, Requests, Index, Indices, Flag, Status, Statuses}
 
 -- each parameter's name is a word
 pub named_by_a_word : (parameter : Parameter) → is_word (name_of parameter) ≡ true
@@ -44,6 +45,12 @@ named_by_a_word Dest = refl
 named_by_a_word Source = refl
 named_by_a_word Tag = refl
 named_by_a_word Comm = refl
+named_by_a_word OldComm = refl
+named_by_a_word CommOld = refl
+named_by_a_word LocalComm = refl
+named_by_a_word Win = refl
+named_by_a_word Fh = refl
+named_by_a_word File = refl
 named_by_a_word SendCount = refl
 named_by_a_word SendType = refl
 named_by_a_word SendTag = refl
@@ -374,21 +381,21 @@ all_of_group kind raw comm none there = rw none (rw there refl)
 all_of_rooted : (kind : GroupKind) (raw : TextCall) (root comm : List ℕ) → has_root kind ≡ true → text_of Root raw ≡ Some root → text_of Comm raw ≡ Some comm → first_missing (collective_parameters kind) raw ≡ None
 all_of_rooted kind raw root comm some there_root there = rw some (rw (there_root, there) refl)
 
-grouped : (kind : GroupKind) (raw : TextCall) (number : Num) (comm : CommRef) → has_root kind ≡ false → number_in Comm raw ≡ Ok number → comm_by number.name number.value ≡ Some comm
+grouped : (kind : GroupKind) (raw : TextCall) (number : Num) (comm : CommRef) → has_root kind ≡ false → (kind_row kind).object ≡ Communicator → number_in Comm raw ≡ Ok number → comm_by number.name number.value ≡ Some comm
     → collective_call kind raw ≡ Ok (calls.Collective (record { kind = kind; root = None; comm = comm }))
-unfolding collective_call collective_in comm_in
-grouped kind raw number comm none reads is = rw (none, reads, is) refl
+unfolding collective_call collective_in named_in
+grouped kind raw number comm none object reads is = rw (none, object, reads, is) refl
 
-rooted : (kind : GroupKind) (raw : TextCall) (root number : Num) (rank : Option ℕ) (comm : CommRef) → has_root kind ≡ true → number_in Root raw ≡ Ok root → root_by root.name root.value ≡ Some rank
+rooted : (kind : GroupKind) (raw : TextCall) (root number : Num) (rank : Option ℕ) (comm : CommRef) → has_root kind ≡ true → (kind_row kind).object ≡ Communicator → number_in Root raw ≡ Ok root → root_by root.name root.value ≡ Some rank
     → number_in Comm raw ≡ Ok number → comm_by number.name number.value ≡ Some comm
     → collective_call kind raw ≡ Ok (calls.Collective (record { kind = kind; root = rank; comm = comm }))
-unfolding collective_call collective_in root_named comm_in
-rooted kind raw root number rank comm some reads_root is_root reads is = rw (some, reads_root, is_root, reads, is) refl
+unfolding collective_call collective_in root_named named_in
+rooted kind raw root number rank comm some object reads_root is_root reads is = rw (some, object, reads_root, is_root, reads, is) refl
 
-pub group_call_told : (kind : GroupKind) (passed : ℕ) (number : Num) (comm : CommRef) (collective : CollectiveCall) (text mid rest : List ℕ) → has_root kind ≡ false → PassesLines passed text mid → TellsNumber Comm number mid rest
+pub group_call_told : (kind : GroupKind) (passed : ℕ) (number : Num) (comm : CommRef) (collective : CollectiveCall) (text mid rest : List ℕ) → has_root kind ≡ false → (kind_row kind).object ≡ Communicator → PassesLines passed text mid → TellsNumber Comm number mid rest
     → Some comm ≡ comm_by number.name number.value → collective ≡ record { kind = kind; root = None; comm = comm }
     → TellsCall (functions.Collective kind) (calls.Collective collective) outcomes.Nothing (passed + 1) text rest
-group_call_told kind passed number comm collective text mid rest none p n as_comm is =
+group_call_told kind passed number comm collective text mid rest none object p n as_comm is =
     let lines : List Param = param_of Comm n.value ∷ [] in
     record {
       params = p.params ++ lines;
@@ -399,13 +406,13 @@ group_call_told kind passed number comm collective text mid rest none p n as_com
           let there : text_of Comm raw ≡ Some n.value = text_there Comm raw _ params ∙ first_after (name_of Comm) p.params lines p.comm in
           typed_so row_is raw (calls.Collective collective) outcomes.Nothing exit
           (none_missing row_is raw exit returns (all_of_group kind raw n.value none there) refl)
-          (grouped kind raw number comm none (number_said Comm raw n.value number there n.means) (sym as_comm) ∙ ap read_collective (sym is)) returns refl;
+          (grouped kind raw number comm none object (number_said Comm raw n.value number there n.means) (sym as_comm) ∙ ap read_collective (sym is)) returns refl;
     }
 
-pub rooted_call_told : (kind : GroupKind) (passed : ℕ) (root number : Num) (rank : Option ℕ) (comm : CommRef) (collective : CollectiveCall) (text t1 t2 rest : List ℕ) → has_root kind ≡ true → PassesLines passed text t1
+pub rooted_call_told : (kind : GroupKind) (passed : ℕ) (root number : Num) (rank : Option ℕ) (comm : CommRef) (collective : CollectiveCall) (text t1 t2 rest : List ℕ) → has_root kind ≡ true → (kind_row kind).object ≡ Communicator → PassesLines passed text t1
     → TellsNumber Root root t1 t2 → TellsNumber Comm number t2 rest → Some rank ≡ root_by root.name root.value → Some comm ≡ comm_by number.name number.value → collective ≡ record { kind = kind; root = rank; comm = comm }
     → TellsCall (functions.Collective kind) (calls.Collective collective) outcomes.Nothing (passed + 2) text rest
-rooted_call_told kind passed root number rank comm collective text t1 t2 rest some p r n as_root as_comm is =
+rooted_call_told kind passed root number rank comm collective text t1 t2 rest some object p r n as_root as_comm is =
     let lines : List Param = param_of Root r.value ∷ param_of Comm n.value ∷ [] in
     record {
       params = p.params ++ lines;
@@ -417,7 +424,7 @@ rooted_call_told kind passed root number rank comm collective text t1 t2 rest so
           let there : text_of Comm raw ≡ Some n.value = text_there Comm raw _ params ∙ first_after (name_of Comm) p.params lines p.comm in
           typed_so row_is raw (calls.Collective collective) outcomes.Nothing exit
           (none_missing row_is raw exit returns (all_of_rooted kind raw r.value n.value some there_root there) refl)
-          (rooted kind raw root number rank comm some (number_said Root raw r.value root there_root r.means) (sym as_root) (number_said Comm raw n.value number there n.means) (sym as_comm) ∙ ap read_collective (sym is))
+          (rooted kind raw root number rank comm some object (number_said Root raw r.value root there_root r.means) (sym as_root) (number_said Comm raw n.value number there n.means) (sym as_comm) ∙ ap read_collective (sym is))
           returns refl;
     }
 

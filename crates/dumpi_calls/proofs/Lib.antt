@@ -6,6 +6,7 @@ pub mod GroupByGroup
 pub mod NumberByNumber
 pub mod Missing
 pub mod Tolds
+mod UsualNames
 pub mod Named
 pub mod Elements
 pub mod InPlace

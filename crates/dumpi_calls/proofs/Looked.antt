@@ -3,7 +3,10 @@ use Rattle.std.proofs.Common.{◌≡◌, ℕ, ℤ, Bool, true, false, ◌||◌, 
 use Rattle.std.proofs.lemmas.List.{append-nil}
 use Rattle.std.proofs.lemmas.Slice.Eq.{bytes_eq-Decides}
 use Rattle.std.specs.Str.{bytes_eq}
-use Rattle.mpi_model.specs.Kinds.{has_root}
+use Rattle.mpi_model.specs.Kinds.{has_nonblocking, has_root, row as kind_row}
+use Rattle.mpi_model.specs.declared.kind.ObjectParameter.{ObjectParameter}
+use Rattle.mpi_model.specs.declared.kind.ObjectParameter.TheVariants as objects
+use Rattle.mpi_model.specs.declared.object.Object.{Object}
 use Rattle.mpi_model.specs.Times.{Times}
 use Rattle.mpi_model.specs.Ranges.{CollectiveCall, Probed}
 use Rattle.mpi_model.specs.declared.call.Call.{Call}
@@ -17,15 +20,15 @@ use Rattle.mpi_model.specs.declared.outcome.Outs.{Outs}
 use Rattle.dumpi_text.specs.Call.{Param, TextCall, first_value, same_bytes}
 use Rattle.dumpi_text.specs.Kept.{kept_after, kept_call, more_kept}
 use Rattle.dumpi_calls.specs.Looked.{is_named_in, looked_choice, looked_parameters}
-use Rattle.dumpi_calls.specs.Outcomes.{all_done, any_done, flag, groups_in, index, index_where_set, indices_in, is_flagged, outcome_in, posted, several, status, statuses}
-use Rattle.dumpi_calls.specs.Readings.{◌>>=◌, asked_tag_in, comm_in, dest_in, name_of, non_negative_in, number_in, numbers_in, request_in, requests_in, root_in, root_named, source_in, text_of}
-use Rattle.dumpi_calls.specs.Rows.{Row, cancel_call, collective_call, collective_in, collective_parameters, envelope_of, envelope_of_receive, envelope_of_send, exit_in, first_missing, free_call, function_named, icollective_call, improbe_call, irecv_call, isend_call, missing_by, missing_in, mprobe_call, probe_call, probe_parameters, probed_in, read_by, receive_parameters, receive_part, recv_call, recv_init_call, returned, row, send_call, send_init_call, send_parameters, send_part, sendrecv_call, sendrecv_parameters, sendrecv_replace_call, sendrecv_replace_parameters, start_call, startall_call, test_call, testall_call, testany_call, testsome_call, typed, typed_by, unless_missing, wait_call, waitall_call, waitany_call, waitsome_call}
+use Rattle.dumpi_calls.specs.Outcomes.{all_done, any_done, flag, groups_in, index, index_where_set, indices_in, is_flagged, outcome_in, posted, posted_or_nothing, started, several, status, statuses}
+use Rattle.dumpi_calls.specs.Readings.{◌>>=◌, asked_tag_in, comm_in, dest_in, name_of, non_negative_in, number_in, numbers_in, named_in, first_object, object_from, object_in, object_parameters, or_the_next, request_in, requests_in, root_in, root_named, source_in, text_of}
+use Rattle.dumpi_calls.specs.Rows.{Row, cancel_call, collective_call, collective_in, collective_parameters, envelope_of, envelope_of_receive, envelope_of_send, exit_in, first_missing, free_call, function_named, icollective_call, improbe_call, iprobe_call, is_started, made_on, object_call, object_or_local, probe_or_local, started_call, started_request, irecv_call, isend_call, missing_by, missing_in, mprobe_call, probe_call, probe_parameters, probed_in, read_by, receive_parameters, receive_part, recv_call, recv_init_call, returned, row, send_call, send_init_call, send_parameters, send_part, sendrecv_call, sendrecv_parameters, sendrecv_replace_call, sendrecv_replace_parameters, start_call, startall_call, test_call, testall_call, testany_call, testsome_call, typed, typed_by, unless_missing, wait_call, waitall_call, waitany_call, waitsome_call}
 use Rattle.dumpi_calls.specs.declared.envelope.Part.{Part}
 use Rattle.dumpi_calls.specs.declared.function.Function.{Function}
 use Rattle.dumpi_calls.specs.declared.function.Function.TheVariants as functions
 use Rattle.dumpi_calls.specs.declared.parameter.CallFault.{CallFault}
 use Rattle.dumpi_calls.specs.declared.parameter.Parameter.{Parameter}
-use Rattle.dumpi_calls.specs.declared.parameter.Parameter.TheVariants.{Count, Datatype, Dest, Source, Tag, Comm, SendCount, SendType, SendTag, RecvCount, RecvType, RecvTag, Root, Request, Requests, Index, Indices, Flag, Status, Statuses}
+use Rattle.dumpi_calls.specs.declared.parameter.Parameter.TheVariants.{Count, Datatype, Dest, Source, Tag, Comm, OldComm, CommOld, LocalComm, Win, Fh, File, SendCount, SendType, SendTag, RecvCount, RecvType, RecvTag, Root, Request, Requests, Index, Indices, Flag, Status, Statuses}
 use Rattle.dumpi_calls.specs.declared.typing.TypedCall.{TypedCall}
 use Rattle.dumpi_calls.proofs.Names.{same_test}
 
@@ -122,6 +125,27 @@ comm_same : (a b : TextCall) → text_of Comm a ≡ text_of Comm b → comm_in a
 unfolding comm_in
 comm_same a b e = rw (number_same Comm a b e) refl
 
+named_same : (object : Object) (a b : TextCall) → text_of Comm a ≡ text_of Comm b → named_in object a ≡ named_in object b
+unfolding named_in
+named_same object a b e = rw (number_same Comm a b e) refl
+
+-- the parameters say the same in both
+abbrev AreSame : List Parameter → TextCall → TextCall → Type 0
+AreSame [] a b = Unit {0}
+AreSame (parameter ∷ parameters) a b = (text_of parameter a ≡ text_of parameter b) × AreSame parameters a b
+
+one_object : (object : Object) (parameter : Parameter) (a b : TextCall) (first second : Option CommRef) (x y : Option (List ℕ)) → number_in parameter a ≡ number_in parameter b → first ≡ second → x ≡ y
+    → or_the_next object parameter x a first ≡ or_the_next object parameter y b second
+one_object object parameter a b first second None y number same e = subst (λ (t : Option (List ℕ)). first ≡ or_the_next object parameter t b second) e same
+one_object object parameter a b first second (Some x) y number same e =
+    subst (λ (t : Option (List ℕ)). object_from object (number_in parameter a) ≡ or_the_next object parameter t b second) e (ap (object_from object) number)
+
+first_object_same : (object : Object) (parameters : List Parameter) (a b : TextCall) → AreSame parameters a b → first_object object parameters a ≡ first_object object parameters b
+first_object_same object [] a b same = refl
+first_object_same object (parameter ∷ parameters) a b same =
+    one_object object parameter a b (first_object object parameters a) (first_object object parameters b) (text_of parameter a) (text_of parameter b) (number_same parameter a b same.0)
+    (first_object_same object parameters a b same.1) same.0
+
 request_same : (a b : TextCall) → text_of Request a ≡ text_of Request b → request_in a ≡ request_in b
 unfolding request_in
 request_same a b e = rw (number_same Request a b e) refl
@@ -170,6 +194,10 @@ posted_same : (a b : TextCall) → text_of Request a ≡ text_of Request b → p
 unfolding posted
 posted_same a b e = rw (request_same a b e) refl
 
+started_same : (is_communication : Bool) (a b : TextCall) → text_of Request a ≡ text_of Request b → started is_communication a ≡ started is_communication b
+started_same true a b e = posted_same a b e
+started_same false a b e = ap (λ (said : Result Outs CallFault). Ok (posted_or_nothing said)) (posted_same a b e)
+
 status_same : (a b : TextCall) → text_of Status a ≡ text_of Status b → ◌≡◌ {A = Result Outs CallFault} (Ok (status a)) (Ok (status b))
 status_same a b e = rw (groups_same Status a b e) refl
 
@@ -196,10 +224,6 @@ unfolding any_done
 any_done_same requests a b f i s = rw (number_same Flag a b f, index_same requests a b i s) refl
 
 -- ---- parameters that are missing
-
-abbrev AreSame : List Parameter → TextCall → TextCall → Type 0
-AreSame [] a b = Unit {0}
-AreSame (parameter ∷ parameters) a b = (text_of parameter a ≡ text_of parameter b) × AreSame parameters a b
 
 missing_same : (parameters : List Parameter) (a b : TextCall) → AreSame parameters a b → first_missing parameters a ≡ first_missing parameters b
 missing_same [] a b same = refl
@@ -455,8 +479,8 @@ collective_of kind named group = do
 collective_same : (kind : Kind) (a b : TextCall) → SameTold (collective_parameters kind) a b → collective_in kind a ≡ collective_in kind b
 unfolding collective_in
 collective_same kind a b s =
-    ap (λ (r : Result (Option ℕ) CallFault). collective_of kind r (comm_in a)) (root_told (has_root kind) a b s)
-    ∙ ap (λ (r : Result CommRef CallFault). collective_of kind (root_in kind b) r) (comm_same a b (group_told (has_root kind) a b s))
+    ap (λ (r : Result (Option ℕ) CallFault). collective_of kind r (named_in (kind_row kind).object a)) (root_told (has_root kind) a b s)
+    ∙ ap (λ (r : Result CommRef CallFault). collective_of kind (root_in kind b) r) (named_same (kind_row kind).object a b (group_told (has_root kind) a b s))
 
 collective_typed : (kind : Kind) (name : List ℕ) (a b : TextCall) → SameTold (looked_parameters (functions.Collective kind)) a b → typed_by (row (functions.Collective kind) name) a ≡ typed_by (row (functions.Collective kind) name) b
 unfolding read_by collective_call
@@ -464,12 +488,67 @@ collective_typed kind name a b s =
     typed_same (row (functions.Collective kind) name) a b (group_missing (has_root kind) a b s) refl s.exit
     (read_as {A = CollectiveCall} (λ value. calls.Collective value) (collective_in kind a) (collective_in kind b) a b (collective_same kind a b s) s.enter s.exit (λ value. refl))
 
+request_missing : (is : Bool) (a b : TextCall) → text_of Request a ≡ text_of Request b → first_missing (started_request is) a ≡ first_missing (started_request is) b
+request_missing true a b e = missing_same (Request ∷ []) a b (e, tt)
+request_missing false a b e = refl
+
+started_outcome : (is : Bool) (value : CollectiveCall) (a b : TextCall) → text_of Request a ≡ text_of Request b → outcome_in (started_call is value) a ≡ outcome_in (started_call is value) b
+started_outcome true value a b e = started_same (kind_row value.kind).is_communication a b e
+started_outcome false value a b e = refl
+
 icollective_typed : (kind : Kind) (name : List ℕ) (a b : TextCall) → SameTold (looked_parameters (functions.Icollective kind)) a b → typed_by (row (functions.Icollective kind) name) a ≡ typed_by (row (functions.Icollective kind) name) b
 unfolding read_by icollective_call
 icollective_typed kind name a b s =
     let group = told_beyond Request (collective_parameters kind) a b s in
-    typed_same (row (functions.Icollective kind) name) a b (group_missing (has_root kind) a b group) (missing_same (Request ∷ []) a b (s.texts Request refl, tt)) s.exit
-    (read_as {A = CollectiveCall} (λ value. calls.Icollective value) (collective_in kind a) (collective_in kind b) a b (collective_same kind a b group) s.enter s.exit (λ value. posted_same a b (s.texts Request refl)))
+    typed_same (row (functions.Icollective kind) name) a b (group_missing (has_root kind) a b group) (request_missing (is_started kind) a b (s.texts Request refl)) s.exit
+    (read_as {A = CollectiveCall} (λ value. started_call (is_started kind) value) (collective_in kind a) (collective_in kind b) a b (collective_same kind a b group) s.enter s.exit
+    (λ value. started_outcome (is_started kind) value a b (s.texts Request refl)))
+
+-- ---- collective calls on objects, and probes that don't wait
+
+same_of : (parameter : ObjectParameter) (a b : TextCall) → SameTold (object_parameters parameter) a b → AreSame (object_parameters parameter) a b
+same_of objects.Comm a b s = (s.texts Comm refl, tt)
+same_of objects.OldComm a b s = (s.texts OldComm refl, (s.texts Comm refl, tt))
+same_of objects.CommOld a b s = (s.texts OldComm refl, (s.texts CommOld refl, (s.texts Comm refl, tt)))
+same_of objects.LocalComm a b s = (s.texts LocalComm refl, tt)
+same_of objects.Win a b s = (s.texts Win refl, tt)
+same_of objects.File a b s = (s.texts Fh refl, (s.texts File refl, tt))
+
+object_same : (kind : Kind) (a b : TextCall) → SameTold (object_parameters (kind_row kind).parameter) a b → object_in kind a ≡ object_in kind b
+unfolding object_in
+object_same kind a b s = first_object_same (kind_row kind).object (object_parameters (kind_row kind).parameter) a b (same_of (kind_row kind).parameter a b s)
+
+made_outcome : (is_communication has nonblocking : Bool) (value : CollectiveCall) (a b : TextCall) → text_of Request a ≡ text_of Request b
+    → outcome_in (made_on is_communication has nonblocking value) a ≡ outcome_in (made_on is_communication has nonblocking value) b
+made_outcome true has nonblocking value a b e = refl
+made_outcome false has false value a b e = refl
+made_outcome false true true value a b e = started_same (kind_row value.kind).is_communication a b e
+made_outcome false false true value a b e = refl
+
+object_outcome : (kind : Kind) (nonblocking : Bool) (found : Option CommRef) (a b : TextCall) → text_of Request a ≡ text_of Request b
+    → outcome_in (object_or_local kind nonblocking found) a ≡ outcome_in (object_or_local kind nonblocking found) b
+object_outcome kind nonblocking None a b e = refl
+object_outcome kind nonblocking (Some comm) a b e = made_outcome (kind_row kind).is_communication (has_nonblocking kind) nonblocking (record { kind = kind; root = None; comm = comm }) a b e
+
+object_typed : (kind : Kind) (nonblocking : Bool) (name : List ℕ) (a b : TextCall) → SameTold (looked_parameters (functions.OnObject kind nonblocking)) a b
+    → typed_by (row (functions.OnObject kind nonblocking) name) a ≡ typed_by (row (functions.OnObject kind nonblocking) name) b
+unfolding read_by object_call
+object_typed kind nonblocking name a b s =
+    let named = told_beyond Request (object_parameters (kind_row kind).parameter) a b s in
+    typed_same (row (functions.OnObject kind nonblocking) name) a b refl refl s.exit
+    (ap (λ (found : Option CommRef). read_from (Ok (object_or_local kind nonblocking found)) a) (object_same kind a b named)
+    ∙ read_one (object_or_local kind nonblocking (object_in kind b)) a b s.enter s.exit (object_outcome kind nonblocking (object_in kind b) a b (s.texts Request refl)))
+
+iprobe_outcome : (said : Result Probed CallFault) (a b : TextCall) → text_of Flag a ≡ text_of Flag b → text_of Status a ≡ text_of Status b → outcome_in (probe_or_local said) a ≡ outcome_in (probe_or_local said) b
+iprobe_outcome (Err fault) a b f s = refl
+iprobe_outcome (Ok probed) a b f s = ap (λ (said : Result Outs CallFault). Ok (posted_or_nothing said)) (flag_same a b f s)
+
+iprobe_typed : (name : List ℕ) (a b : TextCall) → SameTold (looked_parameters functions.Iprobe) a b → typed_by (row functions.Iprobe name) a ≡ typed_by (row functions.Iprobe name) b
+unfolding read_by iprobe_call
+iprobe_typed name a b s =
+    typed_same (row functions.Iprobe name) a b refl refl s.exit
+    (ap (λ (said : Result Probed CallFault). read_from (Ok (probe_or_local said)) a) (probed_same a b (s.texts Source refl) (s.texts Tag refl) (s.texts Comm refl))
+    ∙ read_one (probe_or_local (probed_in b)) a b s.enter s.exit (iprobe_outcome (probed_in b) a b (s.texts Flag refl) (s.texts Status refl)))
 
 -- ---- calls without entry parameters
 
@@ -500,6 +579,7 @@ by_row functions.Irecv name a b s = irecv_typed name a b s
 by_row functions.Sendrecv name a b s = sendrecv_typed name a b s
 by_row functions.SendrecvReplace name a b s = replace_typed name a b s
 by_row functions.Probe name a b s = probe_typed name a b s
+by_row functions.Iprobe name a b s = iprobe_typed name a b s
 by_row functions.Wait name a b s = wait_typed name a b s
 by_row functions.Waitall name a b s = waitall_typed name a b s
 by_row functions.Waitany name a b s = waitany_typed name a b s
@@ -512,6 +592,7 @@ by_row functions.Cancel name a b s = cancel_typed name a b s
 by_row functions.Free name a b s = free_typed name a b s
 by_row (functions.Collective kind) name a b s = collective_typed kind name a b s
 by_row (functions.Icollective kind) name a b s = icollective_typed kind name a b s
+by_row (functions.OnObject kind nonblocking) name a b s = object_typed kind nonblocking name a b s
 by_row (functions.SendInit mode) name a b s = send_init_typed mode name a b s
 by_row functions.RecvInit name a b s = recv_init_typed name a b s
 by_row functions.Start name a b s = start_typed name a b s

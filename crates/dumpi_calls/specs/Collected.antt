@@ -6,7 +6,7 @@ use Rattle.mpi_model.specs.declared.event.Event.TheVariants.{Enter, Return}
 use Rattle.mpi_model.specs.declared.event.Exit.{Exit}
 use Rattle.trace_know.specs.Segment.{PlacedEvents, enter_place}
 use Rattle.trace_know.specs.declared.segment.TheConstants.{MOST_EVENTS}
-use Rattle.dumpi_calls.specs.Rows.{Callback, OnSend, OnIsend, OnRecv, OnIrecv, OnSendrecv, OnProbe, OnWait, OnWaitall, OnWaitany, OnWaitsome, OnTest, OnTestall, OnTestany, OnTestsome, OnCancel, OnRequestFree, OnCollective, OnIcollective, OnSendInit, OnRecvInit, OnStart, OnStartall, OnMprobe, OnImprobe, OnImrecv, OnUnread, OnOther}
+use Rattle.dumpi_calls.specs.Rows.{Callback, OnSend, OnIsend, OnRecv, OnIrecv, OnSendrecv, OnProbe, OnWait, OnWaitall, OnWaitany, OnWaitsome, OnTest, OnTestall, OnTestany, OnTestsome, OnCancel, OnRequestFree, OnCollective, OnIcollective, OnSendInit, OnRecvInit, OnStart, OnStartall, OnMprobe, OnImprobe, OnIprobe, OnImrecv, OnUnread, OnOther}
 use Rattle.dumpi_calls.specs.Seen.{Seen}
 use Rattle.dumpi_calls.specs.declared.parts.TheConstants.{MOST_CALLS}
 use Rattle.dumpi_calls.specs.declared.tally.Tally.{Tally}
@@ -92,6 +92,7 @@ none_tallied = record {
   on_startall = 0;
   on_mprobe = 0;
   on_improbe = 0;
+  on_iprobe = 0;
   on_imrecv = 0;
   on_unread = 0;
   on_other = 0;
@@ -123,6 +124,7 @@ tallied t OnStart = record t { on_start = one_more t.on_start }
 tallied t OnStartall = record t { on_startall = one_more t.on_startall }
 tallied t OnMprobe = record t { on_mprobe = one_more t.on_mprobe }
 tallied t OnImprobe = record t { on_improbe = one_more t.on_improbe }
+tallied t OnIprobe = record t { on_iprobe = one_more t.on_iprobe }
 tallied t OnImrecv = record t { on_imrecv = one_more t.on_imrecv }
 tallied t (OnUnread name) = record t { on_unread = one_more t.on_unread }
 tallied t (OnOther name) = record t { on_other = one_more t.on_other }

@@ -2,7 +2,8 @@
 use Rattle.std.specs.Prelude.{ℕ, Bool, false, ◌||◌, ◌&&◌, is_none, List, [], ◌∷◌, ◌++◌}
 use Rattle.std.specs.Str.{bytes_eq}
 use Rattle.dumpi_text.specs.Call.{Param, first_value}
-use Rattle.dumpi_calls.specs.Readings.{name_of}
+use Rattle.mpi_model.specs.Kinds.{row}
+use Rattle.dumpi_calls.specs.Readings.{name_of, object_parameters}
 use Rattle.dumpi_calls.specs.Rows.{collective_parameters, function_named, probe_parameters, receive_parameters, send_parameters, sendrecv_parameters, sendrecv_replace_parameters}
 use Rattle.dumpi_calls.specs.declared.function.Function.{Function}
 use Rattle.dumpi_calls.specs.declared.function.Function.TheVariants as functions
@@ -18,6 +19,7 @@ looked_parameters functions.Irecv = receive_parameters ++ Request ∷ []
 looked_parameters functions.Sendrecv = sendrecv_parameters ++ Status ∷ []
 looked_parameters functions.SendrecvReplace = sendrecv_replace_parameters ++ Status ∷ []
 looked_parameters functions.Probe = probe_parameters ++ Status ∷ []
+looked_parameters functions.Iprobe = probe_parameters ++ Flag ∷ Status ∷ []
 looked_parameters functions.Wait = Request ∷ Status ∷ []
 looked_parameters functions.Waitall = Requests ∷ Statuses ∷ []
 looked_parameters functions.Waitany = Requests ∷ Index ∷ Status ∷ []
@@ -30,6 +32,7 @@ looked_parameters functions.Cancel = Request ∷ []
 looked_parameters functions.Free = Request ∷ []
 looked_parameters (functions.Collective kind) = collective_parameters kind
 looked_parameters (functions.Icollective kind) = Request ∷ collective_parameters kind
+looked_parameters (functions.OnObject kind nonblocking) = Request ∷ object_parameters (row kind).parameter
 looked_parameters (functions.SendInit mode) = send_parameters ++ Request ∷ []
 looked_parameters functions.RecvInit = receive_parameters ++ Request ∷ []
 looked_parameters functions.Start = Request ∷ []

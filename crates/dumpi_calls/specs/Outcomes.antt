@@ -1,6 +1,7 @@
 -- What a returned call brings back, by its outcome parameters (MPI 4.0, 3.2.5 and 3.7).
 use Rattle.std.specs.Prelude.{ℕ, ◌+◌, ℤ, pos, negsuc, List, [], ◌∷◌, Option, Some, None, Result, Ok, Err, Bool, true, false, ◌==◌, ◌&&◌, not, codes, nat_lt, length, slice_get, if◌then◌else◌}
 use Rattle.std.specs.Str.{bytes_eq}
+use Rattle.mpi_model.specs.Kinds.{row}
 use Rattle.mpi_model.specs.declared.call.Call.{Call}
 use Rattle.mpi_model.specs.declared.call.Call.TheVariants as calls
 use Rattle.mpi_model.specs.declared.outcome.Outs.{Outs}
@@ -179,11 +180,24 @@ is_flagged (Err fault) = false
 abbrev pub index_where_set : TextCall → List Parameter
 index_where_set raw = if is_flagged (number_in Flag raw) then Index ∷ [] else []
 
+-- a request that a call on an object started, or nothing where it can't be read
+abbrev pub posted_or_nothing : Result Outs CallFault → Outs
+posted_or_nothing (Ok outs) = outs
+posted_or_nothing (Err fault) = outcomes.Nothing
+
+-- what a nonblocking collective call brings back: that of an object may lack its request
+abbrev pub started : Bool → TextCall → Result Outs CallFault
+started is_communication raw = if is_communication then posted raw else Ok (posted_or_nothing (posted raw))
+
+-- what an Iprobe brings back, or nothing where its flag can't be read
+abbrev pub flag_or_nothing : TextCall → Result Outs CallFault
+flag_or_nothing raw = Ok (posted_or_nothing (flag raw))
+
 -- the parameters that have to be there once a call has returned
 abbrev pub brought_by : Call → TextCall → List Parameter
 brought_by (calls.Isend mode envelope) raw = Request ∷ []
 brought_by (calls.Irecv envelope) raw = Request ∷ []
-brought_by (calls.Icollective collective) raw = Request ∷ []
+brought_by (calls.Icollective collective) raw = if (row collective.kind).is_communication then Request ∷ [] else []
 brought_by (calls.Waitany requests) raw = Index ∷ []
 brought_by (calls.Test request) raw = Flag ∷ []
 brought_by (calls.Testall requests) raw = Flag ∷ []
@@ -214,7 +228,7 @@ outcome_in (calls.Testsome requests) raw = Ok (several requests raw)
 outcome_in (calls.Cancel request) raw = Ok outcomes.Nothing
 outcome_in (calls.Free request) raw = Ok outcomes.Nothing
 outcome_in (calls.Collective collective) raw = Ok outcomes.Nothing
-outcome_in (calls.Icollective collective) raw = posted raw
+outcome_in (calls.Icollective collective) raw = started (row collective.kind).is_communication raw
 outcome_in (calls.Probe envelope) raw = Ok (status raw)
 outcome_in (calls.SendInit mode envelope) raw = posted raw
 outcome_in (calls.RecvInit envelope) raw = posted raw
@@ -222,5 +236,6 @@ outcome_in (calls.Start request) raw = Ok outcomes.Nothing
 outcome_in (calls.Startall requests) raw = Ok outcomes.Nothing
 outcome_in (calls.Mprobe envelope) raw = Ok (status raw)
 outcome_in (calls.Improbe envelope) raw = flag raw
+outcome_in (calls.Iprobe envelope) raw = flag_or_nothing raw
 outcome_in calls.Imrecv raw = posted raw
 outcome_in calls.Unread raw = Ok outcomes.Nothing

@@ -1,6 +1,10 @@
 -- What the parameters of a call say, one by one.
 use Rattle.std.specs.Prelude.{◌≡◌, ◌≢◌, ◌==◌, ℕ, ℤ, pos, negsuc, List, [], ◌∷◌, Option, Some, None, Result, Ok, Err, codes, nat_lt, option_map, IfErr, IfOk, IsSome, if◌then◌else◌}
-use Rattle.mpi_model.specs.Kinds.{has_root}
+use Rattle.mpi_model.specs.Kinds.{has_root, row}
+use Rattle.mpi_model.specs.declared.kind.ObjectParameter.{ObjectParameter}
+use Rattle.mpi_model.specs.declared.kind.ObjectParameter.TheVariants as objects
+use Rattle.mpi_model.specs.declared.object.Object.{Object}
+use Rattle.mpi_model.specs.declared.object.Object.TheVariants as sorts
 use Rattle.mpi_model.specs.Requests.{null_request}
 use Rattle.mpi_model.specs.declared.envelope.CommRef.{CommRef}
 use Rattle.mpi_model.specs.declared.envelope.CommRef.TheVariants.{World, Id}
@@ -37,6 +41,12 @@ name_of parameters.Dest = codes "dest"
 name_of parameters.Source = codes "source"
 name_of parameters.Tag = codes "tag"
 name_of parameters.Comm = codes "comm"
+name_of parameters.OldComm = codes "oldcomm"
+name_of parameters.CommOld = codes "comm_old"
+name_of parameters.LocalComm = codes "local_comm"
+name_of parameters.Win = codes "win"
+name_of parameters.Fh = codes "fh"
+name_of parameters.File = codes "file"
 name_of parameters.SendCount = codes "sendcount"
 name_of parameters.SendType = codes "sendtype"
 name_of parameters.SendTag = codes "sendtag"
@@ -203,6 +213,48 @@ unfoldable pub comm_in : TextCall → Result CommRef CallFault
 comm_in call = do
   number ← number_in parameters.Comm call
   or_wrong parameters.Comm (comm_by number.name number.value)
+
+-- ---- objects of collective calls that are no communications
+
+-- the parameters that may name an object
+abbrev pub object_parameters : ObjectParameter → List Parameter
+object_parameters objects.Comm = parameters.Comm ∷ []
+object_parameters objects.OldComm = parameters.OldComm ∷ parameters.Comm ∷ []
+object_parameters objects.CommOld = parameters.OldComm ∷ parameters.CommOld ∷ parameters.Comm ∷ []
+object_parameters objects.LocalComm = parameters.LocalComm ∷ []
+object_parameters objects.Win = parameters.Win ∷ []
+object_parameters objects.File = parameters.Fh ∷ parameters.File ∷ []
+
+-- an object of a sort, by a name and a number: a window and a file have a number alone
+abbrev pub object_by : Object → NumName → ℤ → Option CommRef
+object_by sorts.Communicator name value = comm_by name value
+object_by sorts.Window name value = option_map Id (non_negative value)
+object_by sorts.File name value = option_map Id (non_negative value)
+
+-- the object of a sort that `comm` names
+unfoldable pub named_in : Object → TextCall → Result CommRef CallFault
+named_in object call = do
+  number ← number_in parameters.Comm call
+  or_wrong parameters.Comm (object_by object number.name number.value)
+
+-- an object of a sort by a number that was read, where it could be
+abbrev pub object_from : Object → Result Num CallFault → Option CommRef
+object_from object (Err fault) = None
+object_from object (Ok number) = object_by object number.name number.value
+
+-- this parameter where it is there, or else what others say
+abbrev pub or_the_next : Object → Parameter → Option (List ℕ) → TextCall → Option CommRef → Option CommRef
+or_the_next object parameter None call others = others
+or_the_next object parameter (Some text) call others = object_from object (number_in parameter call)
+
+-- an object of a sort, by the first of these parameters that the call has: it decides also where it can't be read
+abbrev pub first_object : Object → List Parameter → TextCall → Option CommRef
+first_object object [] call = None
+first_object object (parameter ∷ parameters) call = or_the_next object parameter (text_of parameter call) call (first_object object parameters call)
+
+-- the object that a call of a kind names
+unfoldable pub object_in : Kind → TextCall → Option CommRef
+object_in kind call = first_object (row kind).object (object_parameters (row kind).parameter) call
 
 -- a request, by its name and its number: the null one by its name (MPI 4.0, 3.7.3)
 abbrev pub request_by : NumName → ℤ → ℤ

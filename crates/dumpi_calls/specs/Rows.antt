@@ -1,7 +1,7 @@
 -- The table of functions: its callback, its entry and outcome parameters, and how these are read.
-use Rattle.std.specs.Prelude.{ℕ, ◌-◌, List, [], ◌∷◌, length, take, drop, Option, Some, None, option_map, Result, Ok, Err, Bool, true, false, ◌||◌, ◌==◌, slice_get, codes, if◌then◌else◌}
+use Rattle.std.specs.Prelude.{ℕ, ◌-◌, List, [], ◌∷◌, length, take, drop, Option, Some, None, option_map, Result, Ok, Err, Bool, true, false, ◌||◌, ◌&&◌, codes, if◌then◌else◌}
 use Rattle.std.specs.Str.{bytes_eq}
-use Rattle.mpi_model.specs.Kinds.{all_kinds, function_name, has_root}
+use Rattle.mpi_model.specs.Kinds.{KindFunction, all_kinds, function_name, has_nonblocking, has_root, row as kind_row}
 use Rattle.mpi_model.specs.Ranges.{CollectiveCall, Probed}
 use Rattle.mpi_model.specs.declared.call.Call.{Call}
 use Rattle.mpi_model.specs.declared.call.Call.TheVariants as calls
@@ -13,7 +13,7 @@ use Rattle.mpi_model.specs.declared.envelope.Mode.TheVariants.{Standard, Synchro
 use Rattle.mpi_model.specs.declared.event.Exit.{Exit}
 use Rattle.mpi_model.specs.Times.{Times}
 use Rattle.dumpi_text.specs.Call.{TextCall}
-use Rattle.dumpi_calls.specs.Readings.{◌>>=◌, asked_tag_in, comm_in, dest_in, number_in, request_in, requests_in, non_negative_in, root_in, source_in, text_of}
+use Rattle.dumpi_calls.specs.Readings.{◌>>=◌, asked_tag_in, comm_in, dest_in, named_in, number_in, request_in, requests_in, non_negative_in, object_in, root_in, source_in, text_of}
 use Rattle.dumpi_calls.specs.Outcomes.{index_where_set, outcome_in}
 use Rattle.dumpi_calls.specs.declared.envelope.Part.{Part}
 use Rattle.dumpi_calls.specs.declared.function.Function.{Function}
@@ -52,6 +52,7 @@ receive_named name =
     else if bytes_eq name (codes "MPI_Sendrecv") then Some functions.Sendrecv
     else if bytes_eq name (codes "MPI_Sendrecv_replace") then Some functions.SendrecvReplace
     else if bytes_eq name (codes "MPI_Probe") then Some functions.Probe
+    else if bytes_eq name (codes "MPI_Iprobe") then Some functions.Iprobe
     else None
 
 -- calls that wait for requests (MPI 4.0, 3.7.3 and 3.7.5)
@@ -110,32 +111,52 @@ abbrev pub first_of : Option Function → Option Function → Option Function
 first_of (Some function) next = Some function
 first_of None next = next
 
--- the first of these kinds whose blocking function has this name, or whose nonblocking one
-abbrev pub first_named : Bool → List ℕ → List Kind → Option Kind
-first_named nonblocking name [] = None
-first_named nonblocking name (kind ∷ kinds) =
-    if bytes_eq name (function_name (record { kind = kind; nonblocking = nonblocking })) then Some kind
-    else first_named nonblocking name kinds
-
--- a name without a `_c` behind it: with that a collective function has counts of 64 bits, and its calls are the same (MPI 4.0, 6)
+-- a name without a `_c` behind it: with that a function has counts of 64 bits, and its calls are the same (MPI 4.0, 6, 8, 12 and 14)
 abbrev pub short_name : List ℕ → List ℕ
 short_name name = if bytes_eq (drop (length name - 2) name) (codes "_c") then take (length name - 2) name else name
 
--- whether an `I` stands behind the first four bytes of a name, as it does in `MPI_Ibcast`
-abbrev pub is_i : Option ℕ → Bool
-is_i None = false
-is_i (Some byte) = byte == 73
+-- The name is that of a collective function, where that has a form with counts of 64 bits also with a `_c` behind it.
+abbrev pub is_called : List ℕ → KindFunction → Bool
+is_called name f = bytes_eq (if (kind_row f.kind).has_long_form then short_name name else name) (function_name f)
 
--- The name has that `I`.
-abbrev pub has_i : List ℕ → Bool
-has_i name = is_i (slice_get name 4)
+-- the blocking function of a kind, and the nonblocking one
+abbrev pub blocking_of : Kind → KindFunction
+blocking_of kind = record { kind = kind; nonblocking = false }
+
+abbrev pub nonblocking_of : Kind → KindFunction
+nonblocking_of kind = record { kind = kind; nonblocking = true }
+
+-- the function, where it passes
+abbrev pub if_so : Bool → KindFunction → Option KindFunction
+if_so true f = Some f
+if_so false f = None
+
+-- the function of a kind that has this name
+abbrev pub called_of : List ℕ → Kind → Option KindFunction
+called_of name kind =
+    if is_called name (blocking_of kind) then Some (blocking_of kind)
+    else if has_nonblocking kind then if_so (is_called name (nonblocking_of kind)) (nonblocking_of kind)
+    else None
+
+-- the first of two that is there
+abbrev pub or_called : Option KindFunction → Option KindFunction → Option KindFunction
+or_called (Some f) next = Some f
+or_called None next = next
+
+-- the first function of these kinds that has this name
+abbrev pub first_called : List ℕ → List Kind → Option KindFunction
+first_called name [] = None
+first_called name (kind ∷ kinds) = or_called (called_of name kind) (first_called name kinds)
+
+-- a collective communication, or any other collective function
+abbrev pub function_of_called : KindFunction → Function
+function_of_called f =
+    if (kind_row f.kind).is_communication then (if f.nonblocking then functions.Icollective f.kind else functions.Collective f.kind)
+    else functions.OnObject f.kind f.nonblocking
 
 -- collective functions, by the table of their kinds; MPI has none that is named `MPI_Ibarrier_c`
 unfoldable pub collective_named : List ℕ → Option Function
-collective_named name =
-    if bytes_eq name (codes "MPI_Ibarrier_c") then None
-    else first_of (option_map functions.Collective (first_named false (short_name name) all_kinds))
-    (option_map functions.Icollective (first_named true (short_name name) all_kinds))
+collective_named name = if bytes_eq name (codes "MPI_Ibarrier_c") then None else option_map function_of_called (first_called name all_kinds)
 
 -- ---- functions that move messages and that no row reads: what follows a call of one isn't known
 
@@ -422,7 +443,7 @@ startall_call call = do
 unfoldable pub collective_in : Kind → TextCall → Result CollectiveCall CallFault
 collective_in kind call = do
   root ← root_in kind call
-  comm ← comm_in call
+  comm ← named_in (kind_row kind).object call
   Ok (record { kind = kind; root = root; comm = comm })
 
 -- a blocking collective call of a kind
@@ -431,11 +452,52 @@ collective_call kind call = do
   collective ← collective_in kind call
   Ok (calls.Collective collective)
 
+-- the kind is a communication with a nonblocking function, as that of each nonblocking communication by its name is
+abbrev pub is_started : Kind → Bool
+is_started kind = has_nonblocking kind && (kind_row kind).is_communication
+
+-- the call, where there is such a function
+abbrev pub started_call : Bool → CollectiveCall → Call
+started_call true collective = calls.Icollective collective
+started_call false collective = calls.Local
+
+-- its request
+abbrev pub started_request : Bool → List Parameter
+started_request true = Request ∷ []
+started_request false = []
+
 -- a nonblocking collective call of a kind
 unfoldable pub icollective_call : Kind → TextCall → Result Call CallFault
 icollective_call kind call = do
   collective ← collective_in kind call
-  Ok (calls.Icollective collective)
+  Ok (started_call (is_started kind) collective)
+
+-- A collective call on an object, by whether its kind is a communication and has a nonblocking function, and whether the call is
+-- nonblocking. No name is that of such a function of a communication, nor of a nonblocking one that isn't there.
+abbrev pub made_on : Bool → Bool → Bool → CollectiveCall → Call
+made_on true has_nonblocking nonblocking collective = calls.Local
+made_on false has_nonblocking false collective = calls.Collective collective
+made_on false true true collective = calls.Icollective collective
+made_on false false true collective = calls.Local
+
+-- a collective call whose object was read, or a local one
+abbrev pub object_or_local : Kind → Bool → Option CommRef → Call
+object_or_local kind nonblocking None = calls.Local
+object_or_local kind nonblocking (Some comm) =
+    made_on (kind_row kind).is_communication (has_nonblocking kind) nonblocking (record { kind = kind; root = None; comm = comm })
+
+-- a call of a collective function on an object: local where it doesn't name its object
+unfoldable pub object_call : Kind → Bool → TextCall → Result Call CallFault
+object_call kind nonblocking call = Ok (object_or_local kind nonblocking (object_in kind call))
+
+-- a probe that was read, or a local call
+abbrev pub probe_or_local : Result Probed CallFault → Call
+probe_or_local (Ok probed) = calls.Iprobe probed
+probe_or_local (Err fault) = calls.Local
+
+-- a probe that doesn't wait: local where it doesn't say what it looks for
+unfoldable pub iprobe_call : TextCall → Result Call CallFault
+iprobe_call call = Ok (probe_or_local (probed_in call))
 
 -- ---- the table
 
@@ -465,17 +527,33 @@ pub data Callback : Type 0 where
   OnStartall : Callback
   OnMprobe : Callback
   OnImprobe : Callback
+  OnIprobe : Callback
   OnImrecv : Callback
   OnUnread : (name : List ℕ) → Callback
   OnOther : (name : List ℕ) → Callback
 
--- A row: the callback; the parameters that have to be there, those of the outcome where the call returned, by what it says
+-- A row: the callback, by the call that was read; the parameters that have to be there, those of the outcome where the call returned, by what it says
 -- itself; and how the entry parameters are read. `status`, `statuses` and `indices` may be absent.
 pub record Row : Type 0 where
-  pub callback : Callback
+  pub callback : Call → Callback
   pub entry : List Parameter
   pub outcome : TextCall → List Parameter
   pub call : TextCall → Result Call CallFault
+
+-- the same callback whatever a call says
+abbrev pub always_told : Callback → Call → Callback
+always_told callback call = callback
+
+-- the callback of a collective call on an object: that of other functions where it is local
+abbrev pub object_told : List ℕ → Call → Callback
+object_told name calls.Local = OnOther name
+object_told name (calls.Icollective collective) = OnIcollective
+object_told name _ = OnCollective
+
+-- the callback of an Iprobe
+abbrev pub iprobe_told : List ℕ → Call → Callback
+iprobe_told name calls.Local = OnOther name
+iprobe_told name _ = OnIprobe
 
 -- the same outcome parameters whatever a call says
 abbrev pub always : List Parameter → TextCall → List Parameter
@@ -483,35 +561,37 @@ always parameters raw = parameters
 
 -- the row of a function; its name is told to the callbacks of those that aren't read and of all others
 abbrev pub row : Function → List ℕ → Row
-row (functions.Send mode) name = record { callback = OnSend; entry = send_parameters; outcome = always []; call = send_call mode }
-row (functions.Isend mode) name = record { callback = OnIsend; entry = send_parameters; outcome = always (Request ∷ []); call = isend_call mode }
-row functions.Recv name = record { callback = OnRecv; entry = receive_parameters; outcome = always []; call = recv_call }
-row functions.Irecv name = record { callback = OnIrecv; entry = receive_parameters; outcome = always (Request ∷ []); call = irecv_call }
-row functions.Sendrecv name = record { callback = OnSendrecv; entry = sendrecv_parameters; outcome = always []; call = sendrecv_call }
-row functions.SendrecvReplace name = record { callback = OnSendrecv; entry = sendrecv_replace_parameters; outcome = always []; call = sendrecv_replace_call }
-row functions.Probe name = record { callback = OnProbe; entry = probe_parameters; outcome = always []; call = probe_call }
-row functions.Wait name = record { callback = OnWait; entry = Request ∷ []; outcome = always []; call = wait_call }
-row functions.Waitall name = record { callback = OnWaitall; entry = Requests ∷ []; outcome = always []; call = waitall_call }
-row functions.Waitany name = record { callback = OnWaitany; entry = Requests ∷ []; outcome = always (Index ∷ []); call = waitany_call }
-row functions.Waitsome name = record { callback = OnWaitsome; entry = Requests ∷ []; outcome = always []; call = waitsome_call }
-row functions.Test name = record { callback = OnTest; entry = Request ∷ []; outcome = always (Flag ∷ []); call = test_call }
-row functions.Testall name = record { callback = OnTestall; entry = Requests ∷ []; outcome = always (Flag ∷ []); call = testall_call }
-row functions.Testany name = record { callback = OnTestany; entry = Requests ∷ []; outcome = λ raw. Flag ∷ index_where_set raw; call = testany_call }
-row functions.Testsome name = record { callback = OnTestsome; entry = Requests ∷ []; outcome = always []; call = testsome_call }
-row functions.Cancel name = record { callback = OnCancel; entry = Request ∷ []; outcome = always []; call = cancel_call }
-row functions.Free name = record { callback = OnRequestFree; entry = Request ∷ []; outcome = always []; call = free_call }
-row (functions.Collective kind) name = record { callback = OnCollective; entry = collective_parameters kind; outcome = always []; call = collective_call kind }
-row (functions.Icollective kind) name = record { callback = OnIcollective; entry = collective_parameters kind; outcome = always (Request ∷ []); call = icollective_call kind }
-row (functions.SendInit mode) name = record { callback = OnSendInit; entry = send_parameters; outcome = always (Request ∷ []); call = send_init_call mode }
-row functions.RecvInit name = record { callback = OnRecvInit; entry = receive_parameters; outcome = always (Request ∷ []); call = recv_init_call }
-row functions.Start name = record { callback = OnStart; entry = Request ∷ []; outcome = always []; call = start_call }
-row functions.Startall name = record { callback = OnStartall; entry = Requests ∷ []; outcome = always []; call = startall_call }
-row functions.Mprobe name = record { callback = OnMprobe; entry = probe_parameters; outcome = always []; call = mprobe_call }
-row functions.Improbe name = record { callback = OnImprobe; entry = probe_parameters; outcome = always (Flag ∷ []); call = improbe_call }
-row functions.Imrecv name = record { callback = OnImrecv; entry = []; outcome = always (Request ∷ []); call = λ raw. Ok calls.Imrecv }
-row functions.Unread name = record { callback = OnUnread name; entry = []; outcome = always []; call = λ raw. Ok calls.Unread }
-row functions.Finalize name = record { callback = OnOther name; entry = []; outcome = always []; call = λ raw. Ok calls.Finalize }
-row functions.Other name = record { callback = OnOther name; entry = []; outcome = always []; call = λ raw. Ok calls.Local }
+row (functions.Send mode) name = record { callback = always_told OnSend; entry = send_parameters; outcome = always []; call = send_call mode }
+row (functions.Isend mode) name = record { callback = always_told OnIsend; entry = send_parameters; outcome = always (Request ∷ []); call = isend_call mode }
+row functions.Recv name = record { callback = always_told OnRecv; entry = receive_parameters; outcome = always []; call = recv_call }
+row functions.Irecv name = record { callback = always_told OnIrecv; entry = receive_parameters; outcome = always (Request ∷ []); call = irecv_call }
+row functions.Sendrecv name = record { callback = always_told OnSendrecv; entry = sendrecv_parameters; outcome = always []; call = sendrecv_call }
+row functions.SendrecvReplace name = record { callback = always_told OnSendrecv; entry = sendrecv_replace_parameters; outcome = always []; call = sendrecv_replace_call }
+row functions.Probe name = record { callback = always_told OnProbe; entry = probe_parameters; outcome = always []; call = probe_call }
+row functions.Iprobe name = record { callback = iprobe_told name; entry = []; outcome = always []; call = iprobe_call }
+row functions.Wait name = record { callback = always_told OnWait; entry = Request ∷ []; outcome = always []; call = wait_call }
+row functions.Waitall name = record { callback = always_told OnWaitall; entry = Requests ∷ []; outcome = always []; call = waitall_call }
+row functions.Waitany name = record { callback = always_told OnWaitany; entry = Requests ∷ []; outcome = always (Index ∷ []); call = waitany_call }
+row functions.Waitsome name = record { callback = always_told OnWaitsome; entry = Requests ∷ []; outcome = always []; call = waitsome_call }
+row functions.Test name = record { callback = always_told OnTest; entry = Request ∷ []; outcome = always (Flag ∷ []); call = test_call }
+row functions.Testall name = record { callback = always_told OnTestall; entry = Requests ∷ []; outcome = always (Flag ∷ []); call = testall_call }
+row functions.Testany name = record { callback = always_told OnTestany; entry = Requests ∷ []; outcome = λ raw. Flag ∷ index_where_set raw; call = testany_call }
+row functions.Testsome name = record { callback = always_told OnTestsome; entry = Requests ∷ []; outcome = always []; call = testsome_call }
+row functions.Cancel name = record { callback = always_told OnCancel; entry = Request ∷ []; outcome = always []; call = cancel_call }
+row functions.Free name = record { callback = always_told OnRequestFree; entry = Request ∷ []; outcome = always []; call = free_call }
+row (functions.Collective kind) name = record { callback = always_told OnCollective; entry = collective_parameters kind; outcome = always []; call = collective_call kind }
+row (functions.Icollective kind) name = record { callback = always_told OnIcollective; entry = collective_parameters kind; outcome = always (started_request (is_started kind)); call = icollective_call kind }
+row (functions.OnObject kind nonblocking) name = record { callback = object_told name; entry = []; outcome = always []; call = object_call kind nonblocking }
+row (functions.SendInit mode) name = record { callback = always_told OnSendInit; entry = send_parameters; outcome = always (Request ∷ []); call = send_init_call mode }
+row functions.RecvInit name = record { callback = always_told OnRecvInit; entry = receive_parameters; outcome = always (Request ∷ []); call = recv_init_call }
+row functions.Start name = record { callback = always_told OnStart; entry = Request ∷ []; outcome = always []; call = start_call }
+row functions.Startall name = record { callback = always_told OnStartall; entry = Requests ∷ []; outcome = always []; call = startall_call }
+row functions.Mprobe name = record { callback = always_told OnMprobe; entry = probe_parameters; outcome = always []; call = mprobe_call }
+row functions.Improbe name = record { callback = always_told OnImprobe; entry = probe_parameters; outcome = always (Flag ∷ []); call = improbe_call }
+row functions.Imrecv name = record { callback = always_told OnImrecv; entry = []; outcome = always (Request ∷ []); call = λ raw. Ok calls.Imrecv }
+row functions.Unread name = record { callback = always_told (OnUnread name); entry = []; outcome = always []; call = λ raw. Ok calls.Unread }
+row functions.Finalize name = record { callback = always_told (OnOther name); entry = []; outcome = always []; call = λ raw. Ok calls.Finalize }
+row functions.Other name = record { callback = always_told (OnOther name); entry = []; outcome = always []; call = λ raw. Ok calls.Local }
 
 -- ---- calls
 

@@ -24,9 +24,9 @@ abbrev pub after : {S : Type 0} → (S → Seen → S) → S → List Seen → S
 after step state [] = state
 after step state (call ∷ calls) = after step (step state call) calls
 
--- what a sink sees of a call, by the row of its function
+-- what a sink sees of a call, by the row of its function and by what was read
 abbrev pub seen_by : Row → TypedCall → Seen
-seen_by row call = seen row.callback call.call call.enter call.exit
+seen_by row call = seen (row.callback call.call) call.call call.enter call.exit
 
 -- what a sink sees of calls, where each can be read
 abbrev pub with_seen : Row → Result TypedCall CallFault → Option (List Seen) → Option (List Seen)

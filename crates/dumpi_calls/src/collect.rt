@@ -294,6 +294,10 @@ impl CallSink for Collect {
         self.push(call, enter, exit)
     }
 
+    fn on_iprobe(&mut self, call: Call, enter: Stamp, exit: Option<Exit>) -> Result<(), Memory> {
+        self.push(call, enter, exit)
+    }
+
     fn on_imrecv(&mut self, call: Call, enter: Stamp, exit: Option<Exit>) -> Result<(), Memory> {
         self.push(call, enter, exit)
     }

@@ -2,11 +2,10 @@
 
 ghost use Rattle.std.specs.Prelude.{◌≡◌, true, false};
 ghost use Rattle.std.specs.Str.{bytes_eq};
-ghost use Rattle.dumpi_calls.specs.Rows.{collective_named, completion_named, ending_named, first_named, function_in, function_named, has_i, init_named, is_long_init, is_long_receive, is_long_send, is_unread_name, isend_named, matched_named, message_named, other_named, persistent_named, receive_named, send_named, short_name, start_named, test_named, unread_named};
-ghost use Rattle.mpi_model.specs.Kinds.{all_kinds};
+ghost use Rattle.dumpi_calls.specs.Rows.{called_of, collective_named, completion_named, ending_named, first_called, function_in, function_named, function_of_called, init_named, is_called, is_long_init, is_long_receive, is_long_send, is_unread_name, isend_named, matched_named, message_named, other_named, persistent_named, receive_named, send_named, short_name, start_named, test_named, unread_named};
 
 use dumpi_text::RawCall;
-use mpi_model::{Kind, Mode};
+use mpi_model::{CollectiveFunction, Kind, Mode};
 
 /// A function by its name.
 #[derive(Clone, Copy, Debug, PartialEq, Eq)]
@@ -21,6 +20,8 @@ pub enum Function {
     /// `MPI_Sendrecv_replace`: what is received takes the place of what is sent.
     SendrecvReplace,
     Probe,
+    /// `MPI_Iprobe`. A call of it that doesn't say what it looks for is local.
+    Iprobe,
     Wait,
     Waitall,
     Waitany,
@@ -32,10 +33,13 @@ pub enum Function {
     Cancel,
     /// `MPI_Request_free`.
     Free,
-    /// A blocking collective function.
+    /// A blocking function of collective communication (MPI 4.0, chapter 6).
     Collective(Kind),
     /// A nonblocking one (MPI 4.0, 6.12).
     Icollective(Kind),
+    /// Any other collective function, on a communicator, a window or a file (MPI 4.0, chapters 7, 8,
+    /// 11, 12 and 14): of a kind, and whether it is nonblocking. A call of it that doesn't name its object is local.
+    OnObject(Kind, bool),
     /// `MPI_Send_init`, `MPI_Ssend_init`, `MPI_Bsend_init`, `MPI_Rsend_init`.
     SendInit(Mode),
     RecvInit,
@@ -123,6 +127,8 @@ fn receive_of(name: &[u8]) -> Option<Function>
         Some(Function::SendrecvReplace)
     } else if is(name, "MPI_Probe") {
         Some(Function::Probe)
+    } else if is(name, "MPI_Iprobe") {
+        Some(Function::Iprobe)
     } else {
         None
     }
@@ -247,103 +253,64 @@ fn short_of(name: &[u8]) -> &[u8]
     }
 }
 
-/// The kind of a blocking collective function.
-fn kind_of(name: &[u8]) -> Option<Kind>
-    ensures { result ≡ first_named false name.now all_kinds }
+/// Whether a collective function has this name, of which `short` is what stands before a `_c`. That may stand behind the
+/// name of a function that has a form with counts of 64 bits.
+fn is_called(name: &[u8], short: &[u8], function: CollectiveFunction) -> bool
+    requires { short.now ≡ short_name name.now }
+    ensures { result ≡ is_called name.now function }
 {
-    if is(name, "MPI_Barrier") {
-        Some(Kind::Barrier)
-    } else if is(name, "MPI_Bcast") {
-        Some(Kind::Bcast)
-    } else if is(name, "MPI_Scatter") {
-        Some(Kind::Scatter)
-    } else if is(name, "MPI_Gather") {
-        Some(Kind::Gather)
-    } else if is(name, "MPI_Reduce") {
-        Some(Kind::Reduce)
-    } else if is(name, "MPI_Allreduce") {
-        Some(Kind::Allreduce)
-    } else if is(name, "MPI_Allgather") {
-        Some(Kind::Allgather)
-    } else if is(name, "MPI_Alltoall") {
-        Some(Kind::Alltoall)
-    } else if is(name, "MPI_Scan") {
-        Some(Kind::Scan)
-    } else if is(name, "MPI_Exscan") {
-        Some(Kind::Exscan)
-    } else if is(name, "MPI_Reduce_scatter_block") {
-        Some(Kind::ReduceScatterBlock)
-    } else if is(name, "MPI_Reduce_scatter") {
-        Some(Kind::ReduceScatter)
-    } else if is(name, "MPI_Allgatherv") {
-        Some(Kind::Allgatherv)
-    } else if is(name, "MPI_Alltoallv") {
-        Some(Kind::Alltoallv)
-    } else if is(name, "MPI_Alltoallw") {
-        Some(Kind::Alltoallw)
-    } else if is(name, "MPI_Gatherv") {
-        Some(Kind::Gatherv)
-    } else if is(name, "MPI_Scatterv") {
-        Some(Kind::Scatterv)
+    if function.kind().row().has_long_form {
+        same(short, function.name())
     } else {
-        None
+        same(name, function.name())
     }
 }
 
-/// The kind of a nonblocking collective function.
-fn nonblocking_kind_of(name: &[u8]) -> Option<Kind>
-    ensures { result ≡ first_named true name.now all_kinds }
+/// The function of a kind that has this name.
+fn called_of(name: &[u8], short: &[u8], kind: Kind) -> Option<CollectiveFunction>
+    requires { short.now ≡ short_name name.now }
+    ensures { result ≡ called_of name.now kind }
 {
-    if is(name, "MPI_Ibarrier") {
-        Some(Kind::Barrier)
-    } else if is(name, "MPI_Ibcast") {
-        Some(Kind::Bcast)
-    } else if is(name, "MPI_Iscatter") {
-        Some(Kind::Scatter)
-    } else if is(name, "MPI_Igather") {
-        Some(Kind::Gather)
-    } else if is(name, "MPI_Ireduce") {
-        Some(Kind::Reduce)
-    } else if is(name, "MPI_Iallreduce") {
-        Some(Kind::Allreduce)
-    } else if is(name, "MPI_Iallgather") {
-        Some(Kind::Allgather)
-    } else if is(name, "MPI_Ialltoall") {
-        Some(Kind::Alltoall)
-    } else if is(name, "MPI_Iscan") {
-        Some(Kind::Scan)
-    } else if is(name, "MPI_Iexscan") {
-        Some(Kind::Exscan)
-    } else if is(name, "MPI_Ireduce_scatter_block") {
-        Some(Kind::ReduceScatterBlock)
-    } else if is(name, "MPI_Ireduce_scatter") {
-        Some(Kind::ReduceScatter)
-    } else if is(name, "MPI_Iallgatherv") {
-        Some(Kind::Allgatherv)
-    } else if is(name, "MPI_Ialltoallv") {
-        Some(Kind::Alltoallv)
-    } else if is(name, "MPI_Ialltoallw") {
-        Some(Kind::Alltoallw)
-    } else if is(name, "MPI_Igatherv") {
-        Some(Kind::Gatherv)
-    } else if is(name, "MPI_Iscatterv") {
-        Some(Kind::Scatterv)
+    let blocking = CollectiveFunction::new(kind, false).unwrap();
+    if is_called(name, short, blocking) {
+        return Some(blocking);
+    }
+    match CollectiveFunction::new(kind, true) {
+        Some(nonblocking) => is_called(name, short, nonblocking).then_some(nonblocking),
+        None => None,
+    }
+}
+
+/// The first function of these kinds that has this name.
+fn first_called(name: &[u8], short: &[u8], kinds: &[Kind]) -> Option<CollectiveFunction>
+    requires { short.now ≡ short_name name.now }
+    ensures { result ≡ first_called name.now kinds.now }
+{
+    for kind in kinds {
+        if let Some(function) = called_of(name, short, *kind) {
+            return Some(function);
+        }
+    }
+    None
+}
+
+/// A collective communication, or a collective function on an object.
+fn function_of_called(function: CollectiveFunction) -> Function
+    ensures { result ≡ function_of_called function }
+{
+    let kind = function.kind();
+    if kind.row().is_communication {
+        if function.is_nonblocking() {
+            Function::Icollective(kind)
+        } else {
+            Function::Collective(kind)
+        }
     } else {
-        None
+        Function::OnObject(kind, function.is_nonblocking())
     }
 }
 
-/// Whether an `I` stands behind the first four bytes of a name.
-fn has_i(name: &[u8]) -> bool
-    ensures { result ≡ has_i name.now }
-{
-    match name.get(4) {
-        Some(byte) => *byte == b'I',
-        None => false,
-    }
-}
-
-/// A collective function: the nonblocking ones, and no others, have an `I` behind `MPI_`.
+/// A collective function.
 #[tactic(auto, unfolding(crate::specs::Rows::collective_named))]
 fn collective_of(name: &[u8]) -> Option<Function>
     ensures { result ≡ collective_named name.now }
@@ -351,17 +318,9 @@ fn collective_of(name: &[u8]) -> Option<Function>
     if is(name, "MPI_Ibarrier_c") {
         return None;
     }
-    let short = short_of(name);
-    if has_i(short) {
-        match nonblocking_kind_of(short) {
-            Some(kind) => Some(Function::Icollective(kind)),
-            None => None,
-        }
-    } else {
-        match kind_of(short) {
-            Some(kind) => Some(Function::Collective(kind)),
-            None => None,
-        }
+    match first_called(name, short_of(name), Kind::all()) {
+        Some(function) => Some(function_of_called(function)),
+        None => None,
     }
 }
 

@@ -2,7 +2,8 @@
 //! don't answer for is read line by line.
 
 ghost use Rattle.std.specs.Prelude.{◌≡◌, ◌≤◌, ◌<◌, ◌^◌, IfSome, true, false};
-ghost use Rattle.mpi_model.specs.Kinds.{has_root};
+ghost use Rattle.mpi_model.specs.Kinds.{has_root, row as kind_row};
+ghost use Rattle.mpi_model.specs.declared.object.Object.TheVariants.{Communicator};
 ghost use Rattle.mpi_model.specs.Ranges.{IsAskedTag, IsComm, IsSource, IsTarget};
 ghost use Rattle.dumpi_calls.specs.InPlace.{IsWhole, TellsCall, TellsReceive, TellsSend, usual_name};
 ghost use Rattle.dumpi_calls.specs.Readings.{request_by};
@@ -21,7 +22,8 @@ use crate::reading::{asked_tag_of, comm_of, dest_of, request_of, root_of, source
 use crate::typing::TypedCall;
 use dumpi_text::{Num, entering_front, returning_front};
 use mpi_model::{
-    Call, Collective, CommRef, Exit, Kind, Mode, Outs, Peer, ReceiveEnvelope, SendEnvelope, Stamp,
+    Call, Collective, CommRef, Exit, Kind, Mode, Object, Outs, Peer, ReceiveEnvelope, SendEnvelope,
+    Stamp,
 };
 use std::alloc::Global;
 
@@ -213,9 +215,10 @@ fn waitall_lines(alloc: Global, text: &[u8]) -> Option<(Call, Outs, u64, &[u8])>
     ))
 }
 
-/// A collective call without a root.
+/// A collective call without a root, on a communicator.
 fn group_lines(kind: Kind, text: &[u8]) -> Option<(Call, Outs, u64, &[u8])>
-    requires { has_root kind ≡ false }
+    requires root { has_root kind ≡ false }
+    requires object { (kind_row kind).object ≡ Communicator }
     ensures says { IfSome result (λ x. TellsCall (Function.Collective kind) x.0 x.1 x.2 text.now x.3.now) }
     ensures few { IfSome result (λ x. x.2 ≤ 14) }
 {
@@ -231,9 +234,10 @@ fn group_lines(kind: Kind, text: &[u8]) -> Option<(Call, Outs, u64, &[u8])>
     ))
 }
 
-/// A collective call with a root.
+/// A collective call with a root, on a communicator.
 fn rooted_lines(kind: Kind, text: &[u8]) -> Option<(Call, Outs, u64, &[u8])>
-    requires { has_root kind ≡ true }
+    requires root { has_root kind ≡ true }
+    requires object { (kind_row kind).object ≡ Communicator }
     ensures says { IfSome result (λ x. TellsCall (Function.Collective kind) x.0 x.1 x.2 text.now x.3.now) }
     ensures few { IfSome result (λ x. x.2 ≤ 14) }
 {
@@ -251,6 +255,23 @@ fn rooted_lines(kind: Kind, text: &[u8]) -> Option<(Call, Outs, u64, &[u8])>
     ))
 }
 
+/// A collective call on a communicator.
+fn collective_lines(kind: Kind, text: &[u8]) -> Option<(Call, Outs, u64, &[u8])>
+    ensures says { IfSome result (λ x. TellsCall (Function.Collective kind) x.0 x.1 x.2 text.now x.3.now) }
+    ensures few { IfSome result (λ x. x.2 ≤ 14) }
+{
+    match kind.row().object {
+        Object::Communicator => {
+            if kind.has_root() {
+                rooted_lines(kind, text)
+            } else {
+                group_lines(kind, text)
+            }
+        }
+        Object::Window | Object::File => None,
+    }
+}
+
 /// The same of any function whose calls are read in place.
 fn lines_front(alloc: Global, function: Function, text: &[u8]) -> Option<(Call, Outs, u64, &[u8])>
     ensures says { IfSome result (λ x. TellsCall function x.0 x.1 x.2 text.now x.3.now) }
@@ -263,8 +284,7 @@ fn lines_front(alloc: Global, function: Function, text: &[u8]) -> Option<(Call, 
         Function::Irecv => irecv_lines(text),
         Function::Wait => wait_lines(text),
         Function::Waitall => waitall_lines(alloc, text),
-        Function::Collective(kind) if kind.has_root() => rooted_lines(kind, text),
-        Function::Collective(kind) => group_lines(kind, text),
+        Function::Collective(kind) => collective_lines(kind, text),
         _ => None,
     }
 }
@@ -296,7 +316,7 @@ pub fn usual_name(function: Function) -> &'static str
 
 /// The function whose entering line may stand in front of a text, by a few bytes of its name: no other of those that are
 /// read in place has them.
-#[tactic(auto, unfolding(crate::specs::Rows::function_named, crate::specs::Rows::collective_named))]
+#[tactic(auto, using(crate::proofs::UsualNames::named_send, crate::proofs::UsualNames::named_ssend, crate::proofs::UsualNames::named_isend, crate::proofs::UsualNames::named_issend, crate::proofs::UsualNames::named_recv, crate::proofs::UsualNames::named_irecv, crate::proofs::UsualNames::named_wait, crate::proofs::UsualNames::named_waitall, crate::proofs::UsualNames::named_barrier, crate::proofs::UsualNames::named_bcast, crate::proofs::UsualNames::named_allreduce, crate::proofs::UsualNames::named_allgather, crate::proofs::UsualNames::named_alltoall, crate::proofs::UsualNames::named_scatter, crate::proofs::UsualNames::named_gather, crate::proofs::UsualNames::named_reduce))]
 fn likely_function(text: &[u8]) -> Option<Function>
     ensures word { IfSome result (λ function. is_word (usual_name function) ≡ true) }
     ensures named { IfSome result (λ function. function_named (usual_name function) ≡ function) }

@@ -1,16 +1,19 @@
 //! Which parameters a call is read by. No others are kept while a call is read that nothing but its function's row asks
 //! for, so a call with many lines takes no more memory than one with few.
 
-ghost use Rattle.std.specs.Prelude.{◌≡◌};
+ghost use Rattle.std.specs.Prelude.{◌≡◌, ◌∷◌};
+ghost use Rattle.dumpi_calls.specs.Readings.{object_parameters};
 ghost use Rattle.dumpi_calls.specs.Looked.{is_named_in, looked_parameters};
 
 use crate::function::{Function, function_of, is};
 use crate::parameter::Parameter;
 use crate::parameter::Parameter::{
-    Comm, Count, Datatype, Dest, Flag, Index, Indices, RecvCount, RecvTag, RecvType, Request,
-    Requests, Root, SendCount, SendTag, SendType, Source, Status, Statuses, Tag,
+    Comm, CommOld, Count, Datatype, Dest, Fh, File, Flag, Index, Indices, LocalComm, OldComm,
+    RecvCount, RecvTag, RecvType, Request, Requests, Root, SendCount, SendTag, SendType, Source,
+    Status, Statuses, Tag, Win,
 };
 use dumpi_text::{Keeping, RawCall};
+use mpi_model::ObjectParameter;
 
 /// Whether a name is of one of these parameters.
 fn is_one_of(name: &[u8], parameters: &[Parameter]) -> bool
@@ -22,6 +25,21 @@ fn is_one_of(name: &[u8], parameters: &[Parameter]) -> bool
         }
     }
     false
+}
+
+/// The parameters that a collective call on an object is read by: those that may name it, and the request of a nonblocking
+/// one.
+fn looked_on(parameter: ObjectParameter) -> &'static [Parameter]
+    ensures { result.now ≡ Parameter.Request ∷ object_parameters parameter }
+{
+    match parameter {
+        ObjectParameter::Comm => &[Request, Comm],
+        ObjectParameter::OldComm => &[Request, OldComm, Comm],
+        ObjectParameter::CommOld => &[Request, OldComm, CommOld, Comm],
+        ObjectParameter::LocalComm => &[Request, LocalComm],
+        ObjectParameter::Win => &[Request, Win],
+        ObjectParameter::File => &[Request, Fh, File],
+    }
 }
 
 /// The parameters that a call of a function is read by: those of its row, and those that tell how it returned.
@@ -41,6 +59,7 @@ fn looked_parameters(function: Function) -> &'static [Parameter]
         ],
         Function::Probe | Function::Mprobe => &[Source, Tag, Comm, Status],
         Function::Improbe => &[Source, Tag, Comm, Flag, Status],
+        Function::Iprobe => &[Source, Tag, Comm, Flag, Status],
         Function::Wait => &[Request, Status],
         Function::Waitall => &[Requests, Statuses],
         Function::Waitany => &[Requests, Index, Status],
@@ -54,6 +73,7 @@ fn looked_parameters(function: Function) -> &'static [Parameter]
         Function::Collective(_) => &[Comm],
         Function::Icollective(kind) if kind.has_root() => &[Request, Root, Comm],
         Function::Icollective(_) => &[Request, Comm],
+        Function::OnObject(kind, _) => looked_on(kind.row().parameter),
         Function::Unread | Function::Finalize | Function::Other => &[],
     }
 }

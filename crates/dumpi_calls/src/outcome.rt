@@ -5,9 +5,10 @@
 ghost use Rattle.std.specs.Prelude.{◌≡◌, ◌∷◌, ◌<◌, ◌^◌, [], IfOk, IfSome, OnOk, length};
 ghost use Rattle.std.specs.Option.{option_copied};
 ghost use Rattle.dumpi_calls.specs.Readings.{AreThere, Reads, number_in};
-ghost use Rattle.dumpi_calls.specs.Outcomes.{all_done, any_done, brought_by, elements_from, first_number, flag, groups_from, groups_in, index, index_where_set, indices_in, is_flagged, is_set, outcome_in, position_of, posted, several, source_told, status, statuses, told_at, told_by, told_from, told_of, tolds_from};
+ghost use Rattle.dumpi_calls.specs.Outcomes.{all_done, any_done, brought_by, elements_from, first_number, flag, groups_from, groups_in, index, index_where_set, indices_in, is_flagged, is_set, outcome_in, position_of, posted, posted_or_nothing, several, source_told, status, statuses, told_at, told_by, told_from, told_of, tolds_from};
 ghost use Rattle.dumpi_text.specs.Value.{value_of};
 ghost use Rattle.dumpi_calls.specs.declared.parameter.Parameter.TheVariants as parameters;
+ghost use Rattle.mpi_model.specs.declared.call.Call.TheVariants as calls;
 
 use crate::function::is;
 use crate::parameter::{CallFault, Parameter};
@@ -16,7 +17,7 @@ use crate::skim::{quick_status, quick_statuses};
 use dumpi_text::{
     Field, Group, Groups, Num, NumName, Nums, RawCall, Value, ValueFault, parse_value,
 };
-use mpi_model::{Call, Element, Elements, Outs, Sources, Told};
+use mpi_model::{Call, Element, Elements, NonblockingCollective, Outs, Sources, Told};
 use std::alloc::{AllocError, Global};
 
 /// The source that a number tells, unless its name says that it is none.
@@ -212,6 +213,29 @@ fn posted_in(alloc: Global, raw: &RawCall) -> Result<Outs, CallFault>
     Ok(Outs::Posted(request))
 }
 
+/// The request that a call on an object started, or nothing where it can't be read.
+fn posted_or_nothing(alloc: Global, raw: &RawCall) -> Result<Outs, AllocError>
+    ensures { IfOk result (λ o. o ≡ posted_or_nothing (posted raw.now)) }
+{
+    match posted_in(alloc, raw) {
+        Ok(outs) => Ok(outs),
+        Err(CallFault::Memory) => Err(AllocError),
+        Err(_) => Ok(Outs::Nothing),
+    }
+}
+
+/// What a nonblocking collective call brings back: that of an object may lack its request.
+fn started_in(alloc: Global, call: NonblockingCollective, raw: &RawCall) -> Result<Outs, CallFault>
+    ensures means { Reads result (outcome_in (calls.Icollective call) raw.now) }
+    ensures there { OnOk result (AreThere (brought_by (calls.Icollective call) raw.now) raw.now) }
+{
+    if call.kind().row().is_communication {
+        posted_in(alloc, raw)
+    } else {
+        Ok(posted_or_nothing(alloc, raw)?)
+    }
+}
+
 /// What the first group of `status` tells.
 fn status_in(alloc: Global, raw: &RawCall) -> Result<Outs, AllocError>
     ensures { IfOk result (λ o. o ≡ status raw.now) }
@@ -289,6 +313,17 @@ fn flag_in(alloc: Global, raw: &RawCall) -> Result<Outs, CallFault>
     Ok(Outs::Flag(is_true(number.value), told))
 }
 
+/// What an Iprobe brings back, or nothing where its flag can't be read.
+fn flag_or_nothing(alloc: Global, raw: &RawCall) -> Result<Outs, AllocError>
+    ensures { IfOk result (λ o. o ≡ posted_or_nothing (flag raw.now)) }
+{
+    match flag_in(alloc, raw) {
+        Ok(outs) => Ok(outs),
+        Err(CallFault::Memory) => Err(AllocError),
+        Err(_) => Ok(Outs::Nothing),
+    }
+}
+
 /// What `statuses` tells where all requests are done, and nothing where they are not (MPI 4.0, 3.7.5).
 #[tactic(auto, unfolding(crate::specs::Outcomes::all_done))]
 fn all_done_in(alloc: Global, requests: &[i64], raw: &RawCall) -> Result<Outs, CallFault>
@@ -337,7 +372,9 @@ pub fn outcome(alloc: Global, call: &Call, raw: &RawCall) -> Result<Outs, CallFa
         Call::Local | Call::Finalize | Call::Send(..) | Call::Collective(_) => Ok(Outs::Nothing),
         Call::Cancel(_) | Call::Free(_) | Call::Unread => Ok(Outs::Nothing),
         Call::Start(_) | Call::Startall(_) => Ok(Outs::Nothing),
-        Call::Isend(..) | Call::Irecv(_) | Call::Icollective(_) => posted_in(alloc, raw),
+        Call::Isend(..) | Call::Irecv(_) => posted_in(alloc, raw),
+        Call::Icollective(call) => started_in(alloc, *call, raw),
+        Call::Iprobe(_) => Ok(flag_or_nothing(alloc, raw)?),
         Call::SendInit(..) | Call::RecvInit(_) | Call::Imrecv => posted_in(alloc, raw),
         Call::Recv(_) | Call::Sendrecv(_) => Ok(status_in(alloc, raw)?),
         Call::Probe(_) | Call::Mprobe(_) | Call::Wait(_) => Ok(status_in(alloc, raw)?),

@@ -5,15 +5,15 @@
 
 ghost use Rattle.std.specs.Prelude.{◌≡◌, ◌∷◌, ◌<◌, ◌^◌, [], IfOk, IfSome, OnOk, true};
 ghost use Rattle.dumpi_text.specs.Value.{value_of};
-ghost use Rattle.mpi_model.specs.Ranges.{IsAskedTag, IsComm, IsRootOf, IsSource, IsTarget};
-ghost use Rattle.mpi_model.specs.Kinds.{has_root};
+ghost use Rattle.mpi_model.specs.Ranges.{IsAskedTag, IsComm, IsNamedAs, IsRootOf, IsSource, IsTarget};
+ghost use Rattle.mpi_model.specs.Kinds.{has_root, row};
 ghost use Rattle.std.specs.Option.{option_copied};
-ghost use Rattle.dumpi_calls.specs.Readings.{AreThere, Reads, all_numbers, asked_tag_by, asked_tag_in, comm_by, comm_in, dest_by, dest_in, number_in, numbers_in, one_number, or_wrong, requests_in, non_negative, non_negative_in, request_by, request_in, requests_of, root_by, root_in, root_named, source_by, source_in, text_of, value_in};
+ghost use Rattle.dumpi_calls.specs.Readings.{AreThere, Reads, all_numbers, asked_tag_by, asked_tag_in, comm_by, comm_in, dest_by, dest_in, first_object, named_in, number_in, object_by, object_from, object_in, object_parameters, numbers_in, one_number, or_wrong, requests_in, non_negative, non_negative_in, request_by, request_in, requests_of, root_by, root_in, root_named, source_by, source_in, text_of, value_in};
 
 use crate::parameter::{CallFault, Parameter};
 use crate::quick::quick_number;
 use dumpi_text::{Num, NumName, Nums, RawCall, Value, ValueFault, parse_value};
-use mpi_model::{CommRef, Kind, NULL_REQUEST, Peer, Requests};
+use mpi_model::{CommRef, Kind, NULL_REQUEST, Object, ObjectParameter, Peer, Requests};
 use std::alloc::{AllocError, Global};
 
 /// The text of a parameter.
@@ -181,6 +181,79 @@ pub fn comm(alloc: Global, raw: &RawCall) -> Result<CommRef, CallFault>
     }
 }
 
+/// The object of a sort that `comm` names.
+#[tactic(auto, unfolding(crate::specs::Readings::named_in))]
+pub fn named_object(alloc: Global, object: Object, raw: &RawCall) -> Result<CommRef, CallFault>
+    ensures means { Reads result (named_in object raw.now) }
+    ensures there { OnOk result (AreThere (Parameter.Comm ∷ []) raw.now) }
+    ensures range { IfOk result (λ comm. IsComm comm × IsNamedAs object comm) }
+{
+    let number = number(alloc, raw, Parameter::Comm)?;
+    match object_of(object, number) {
+        Some(comm) => Ok(comm),
+        None => Err(CallFault::Wrong(Parameter::Comm)),
+    }
+}
+
+/// The object of a sort that a parameter names, where it can be read.
+fn object_by(
+    alloc: Global,
+    object: Object,
+    parameter: Parameter,
+    raw: &RawCall,
+) -> Result<Option<CommRef>, AllocError>
+    ensures value { IfOk result (λ comm. comm ≡ object_from object (number_in parameter raw.now)) }
+    ensures range { IfOk result (λ found. IfSome found (λ comm. IsComm comm × IsNamedAs object comm)) }
+{
+    match number(alloc, raw, parameter) {
+        Ok(number) => Ok(object_of(object, number)),
+        Err(CallFault::Memory) => Err(AllocError),
+        Err(_) => Ok(None),
+    }
+}
+
+/// The object of a sort by the first of these parameters that the call has: it decides also where it can't be read.
+fn first_object(
+    alloc: Global,
+    object: Object,
+    parameters: &[Parameter],
+    raw: &RawCall,
+) -> Result<Option<CommRef>, AllocError>
+    ensures value { IfOk result (λ comm. comm ≡ first_object object parameters.now raw.now) }
+    ensures range { IfOk result (λ found. IfSome found (λ comm. IsComm comm × IsNamedAs object comm)) }
+{
+    for parameter in parameters {
+        if text_in(raw, *parameter).is_some() {
+            return object_by(alloc, object, *parameter, raw);
+        }
+    }
+    Ok(None)
+}
+
+/// The parameters that may name an object.
+fn object_parameters(parameter: ObjectParameter) -> &'static [Parameter]
+    ensures { result.now ≡ object_parameters parameter }
+{
+    match parameter {
+        ObjectParameter::Comm => &[Parameter::Comm],
+        ObjectParameter::OldComm => &[Parameter::OldComm, Parameter::Comm],
+        ObjectParameter::CommOld => &[Parameter::OldComm, Parameter::CommOld, Parameter::Comm],
+        ObjectParameter::LocalComm => &[Parameter::LocalComm],
+        ObjectParameter::Win => &[Parameter::Win],
+        ObjectParameter::File => &[Parameter::Fh, Parameter::File],
+    }
+}
+
+/// The object that a call of a kind names, where it can be read.
+#[tactic(auto, unfolding(crate::specs::Readings::object_in))]
+pub fn object(alloc: Global, kind: Kind, raw: &RawCall) -> Result<Option<CommRef>, AllocError>
+    ensures value { IfOk result (λ comm. comm ≡ object_in kind raw.now) }
+    ensures range { IfOk result (λ found. IfSome found (λ comm. IsComm comm × IsNamedAs (row kind).object comm)) }
+{
+    let row = kind.row();
+    first_object(alloc, row.object, object_parameters(row.parameter), raw)
+}
+
 /// The request that a number names: the null one by its name.
 pub fn request_of(number: Num) -> i64
     ensures { result ≡ request_by number.name number.value }
@@ -309,6 +382,17 @@ pub fn comm_of(number: Num) -> Option<CommRef>
         return Some(CommRef::World);
     }
     Some(CommRef::Id(non_negative_of(number.value)?))
+}
+
+/// An object of a sort that a number tells: a communicator by its name first, a window and a file by the number alone.
+pub fn object_of(object: Object, number: Num) -> Option<CommRef>
+    ensures value { result ≡ object_by object number.name number.value }
+    ensures range { IfSome result (λ comm. IsComm comm × IsNamedAs object comm) }
+{
+    match object {
+        Object::Communicator => comm_of(number),
+        Object::Window | Object::File => Some(CommRef::Id(non_negative_of(number.value)?)),
+    }
 }
 
 /// A number from 0 to 2^31 - 1, the non-negative values of an `int`.

@@ -1,7 +1,7 @@
 //! What calls are handed to.
 
 ghost use Rattle.std.specs.Prelude.{◌≡◌, OnErr, OnOk};
-ghost use Rattle.dumpi_calls.specs.Rows.{OnCancel, OnCollective, OnIcollective, OnImprobe, OnImrecv, OnIrecv, OnIsend, OnMprobe, OnOther, OnProbe, OnRecv, OnRecvInit, OnRequestFree, OnSend, OnSendInit, OnSendrecv, OnStart, OnStartall, OnTest, OnTestall, OnTestany, OnTestsome, OnUnread, OnWait, OnWaitall, OnWaitany, OnWaitsome, row};
+ghost use Rattle.dumpi_calls.specs.Rows.{OnCancel, OnCollective, OnIcollective, OnImprobe, OnImrecv, OnIprobe, OnIrecv, OnIsend, OnMprobe, OnOther, OnProbe, OnRecv, OnRecvInit, OnRequestFree, OnSend, OnSendInit, OnSendrecv, OnStart, OnStartall, OnTest, OnTestall, OnTestany, OnTestsome, OnUnread, OnWait, OnWaitall, OnWaitany, OnWaitsome, iprobe_told, object_told, row};
 ghost use Rattle.dumpi_calls.specs.Seen.{Seen, seen, seen_by};
 
 use crate::function::Function;
@@ -55,7 +55,7 @@ use mpi_model::{Call, Exit, Stamp};
 ///         Ok(())
 ///     }
 ///
-///     // and each of the other twenty-six likewise
+///     // and each of the other twenty-seven likewise
 /// }
 ///
 /// let mut sink = SentTo { rank: 1, elements: 0 };
@@ -191,7 +191,7 @@ pub trait CallSink {
         ensures ok { OnOk result (self.new ≡ step self.old (seen OnRequestFree call enter exit)) }
         ensures err { OnErr result (self.new ≡ self.old) };
 
-    /// A blocking collective call of a [`Kind`](mpi_model::Kind), also with `_c` behind its name.
+    /// A blocking collective call of a [`Kind`](mpi_model::Kind), where it names its object; also with `_c` behind its name.
     fn on_collective(
         &mut self,
         call: Call,
@@ -261,6 +261,11 @@ pub trait CallSink {
         ensures ok { OnOk result (self.new ≡ step self.old (seen OnImprobe call enter exit)) }
         ensures err { OnErr result (self.new ≡ self.old) };
 
+    /// `MPI_Iprobe`, where the call says what it looks for.
+    fn on_iprobe(&mut self, call: Call, enter: Stamp, exit: Option<Exit>) -> Result<(), Self::Fault>
+        ensures ok { OnOk result (self.new ≡ step self.old (seen OnIprobe call enter exit)) }
+        ensures err { OnErr result (self.new ≡ self.old) };
+
     /// `MPI_Imrecv`, also with `_c` behind its name.
     fn on_imrecv(&mut self, call: Call, enter: Stamp, exit: Option<Exit>) -> Result<(), Self::Fault>
         ensures ok { OnOk result (self.new ≡ step self.old (seen OnImrecv call enter exit)) }
@@ -278,7 +283,8 @@ pub trait CallSink {
         ensures ok { OnOk result (self.new ≡ step self.old (seen (OnUnread name.now) call enter exit)) }
         ensures err { OnErr result (self.new ≡ self.old) };
 
-    /// `MPI_Finalize` and every other function; its name comes first.
+    /// `MPI_Finalize` and every other function, and calls that are local since they lack what they are read by; the
+    /// function's name comes first.
     fn on_other(
         &mut self,
         name: &[u8],
@@ -288,6 +294,41 @@ pub trait CallSink {
     ) -> Result<(), Self::Fault>
         ensures ok { OnOk result (self.new ≡ step self.old (seen (OnOther name.now) call enter exit)) }
         ensures err { OnErr result (self.new ≡ self.old) };
+}
+
+/// Hands on a collective call on an object; where it is local, as a call of any other function.
+fn hand_on_object<S: CallSink>(
+    sink: &mut S,
+    name: &[u8],
+    call: Call,
+    enter: Stamp,
+    exit: Option<Exit>,
+) -> Result<(), S::Fault>
+    ensures ok { OnOk result (sink.new ≡ S.step sink.old (seen (object_told name.now call) call enter exit)) }
+    ensures err { OnErr result (sink.new ≡ sink.old) }
+{
+    match &call {
+        Call::Local => sink.on_other(name, call, enter, exit),
+        Call::Icollective(_) => sink.on_icollective(call, enter, exit),
+        _ => sink.on_collective(call, enter, exit),
+    }
+}
+
+/// Hands on an Iprobe; where it is local, as a call of any other function.
+fn hand_on_iprobe<S: CallSink>(
+    sink: &mut S,
+    name: &[u8],
+    call: Call,
+    enter: Stamp,
+    exit: Option<Exit>,
+) -> Result<(), S::Fault>
+    ensures ok { OnOk result (sink.new ≡ S.step sink.old (seen (iprobe_told name.now call) call enter exit)) }
+    ensures err { OnErr result (sink.new ≡ sink.old) }
+{
+    match &call {
+        Call::Local => sink.on_other(name, call, enter, exit),
+        _ => sink.on_iprobe(call, enter, exit),
+    }
 }
 
 /// Hands a call to its function's callback.
@@ -320,12 +361,14 @@ pub fn hand_on<S: CallSink>(
         Function::Free => sink.on_request_free(call, enter, exit),
         Function::Collective(_) => sink.on_collective(call, enter, exit),
         Function::Icollective(_) => sink.on_icollective(call, enter, exit),
+        Function::OnObject(_, _) => hand_on_object(sink, name, call, enter, exit),
         Function::SendInit(_) => sink.on_send_init(call, enter, exit),
         Function::RecvInit => sink.on_recv_init(call, enter, exit),
         Function::Start => sink.on_start(call, enter, exit),
         Function::Startall => sink.on_startall(call, enter, exit),
         Function::Mprobe => sink.on_mprobe(call, enter, exit),
         Function::Improbe => sink.on_improbe(call, enter, exit),
+        Function::Iprobe => hand_on_iprobe(sink, name, call, enter, exit),
         Function::Imrecv => sink.on_imrecv(call, enter, exit),
         Function::Unread => sink.on_unread(name, call, enter, exit),
         Function::Finalize => sink.on_other(name, call, enter, exit),

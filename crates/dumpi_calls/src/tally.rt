@@ -34,6 +34,7 @@ pub struct Tally {
     pub on_startall: u64,
     pub on_mprobe: u64,
     pub on_improbe: u64,
+    pub on_iprobe: u64,
     pub on_imrecv: u64,
     pub on_unread: u64,
     pub on_other: u64,
@@ -69,6 +70,7 @@ impl Tally {
             on_startall: 0,
             on_mprobe: 0,
             on_improbe: 0,
+            on_iprobe: 0,
             on_imrecv: 0,
             on_unread: 0,
             on_other: 0,
@@ -346,6 +348,18 @@ impl CallSink for Tally {
         exit: Option<Exit>,
     ) -> Result<(), Infallible> {
         self.on_improbe = self.on_improbe.saturating_add(1);
+        drop(call);
+        drop(exit);
+        Ok(())
+    }
+
+    fn on_iprobe(
+        &mut self,
+        call: Call,
+        _enter: Stamp,
+        exit: Option<Exit>,
+    ) -> Result<(), Infallible> {
+        self.on_iprobe = self.on_iprobe.saturating_add(1);
         drop(call);
         drop(exit);
         Ok(())

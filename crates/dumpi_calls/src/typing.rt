@@ -4,18 +4,23 @@
 //! for the first that is wrong. A sound call is read in one go, so that each parameter is looked up once; only for one
 //! that is refused it is asked what is missing.
 
-ghost use Rattle.std.specs.Prelude.{◌≡◌, ◌∷◌, [], IfOk, IsSome, None, OnOk};
+ghost use Rattle.std.specs.Prelude.{◌≡◌, ◌∷◌, [], IfOk, IsSome, None, OnOk, Some};
+ghost use Rattle.dumpi_text.specs.Call.{TextCall};
+ghost use Rattle.mpi_model.specs.Kinds.{row as kind_row};
+ghost use Rattle.mpi_model.specs.Ranges.{IsComm, IsNamedAs};
 ghost use Rattle.dumpi_calls.specs.Outcomes.{brought_by, index_where_set};
 ghost use Rattle.dumpi_calls.specs.Readings.{AreThere, Reads};
-ghost use Rattle.dumpi_calls.specs.Rows.{collective_call, collective_in, collective_parameters, exit_in, first_missing, icollective_call, improbe_call, isend_call, irecv_call, missing_in, mprobe_call, probe_call, probe_parameters, probed_in, read_by, receive_parameters, recv_call, recv_init_call, returned, row, send_call, send_init_call, send_parameters, start_call, startall_call, cancel_call, free_call, test_call, testall_call, testany_call, testsome_call, typed_by, wait_call, waitall_call, waitany_call, waitsome_call};
+ghost use Rattle.dumpi_calls.specs.Rows.{collective_call, collective_in, collective_parameters, exit_in, first_missing, icollective_call, improbe_call, iprobe_call, is_started, object_call, object_or_local, isend_call, irecv_call, missing_in, mprobe_call, probe_call, probe_parameters, probed_in, read_by, receive_parameters, recv_call, recv_init_call, returned, row, send_call, send_init_call, send_parameters, start_call, startall_call, started_request, cancel_call, free_call, test_call, testall_call, testany_call, testsome_call, typed_by, wait_call, waitall_call, waitany_call, waitsome_call};
 
 use crate::envelope::{receive_envelope_in, send_envelope_in, sendrecv_in, sendrecv_replace_in};
 use crate::function::Function;
 use crate::outcome::{is_flag_set, outcome};
 use crate::parameter::{CallFault, Parameter};
-use crate::reading::{asked_tag, comm, request, requests, root, source, text_in};
+use crate::reading::{
+    asked_tag, comm, named_object, object, request, requests, root, source, text_in,
+};
 use dumpi_text::RawCall;
-use mpi_model::{Call, Collective, Exit, Kind, Mode, ProbeEnvelope, Stamp};
+use mpi_model::{Call, Collective, CommRef, Exit, Kind, Mode, ProbeEnvelope, Stamp};
 use std::alloc::{AllocError, Global};
 
 /// A call with what it names, when it was entered, and how it returned, if it did.
@@ -46,6 +51,24 @@ fn collective_missing(kind: Kind, raw: &RawCall) -> Option<Parameter>
         first_of(raw, &[Parameter::Root, Parameter::Comm])
     } else {
         first_of(raw, &[Parameter::Comm])
+    }
+}
+
+/// Whether the kind is a communication with a nonblocking function.
+fn is_started(kind: Kind) -> bool
+    ensures { result ≡ is_started kind }
+{
+    kind.has_nonblocking() && kind.row().is_communication
+}
+
+/// The request of a nonblocking communication, where it isn't there.
+fn started_missing(kind: Kind, raw: &RawCall) -> Option<Parameter>
+    ensures { result ≡ first_missing (started_request (is_started kind)) raw.now }
+{
+    if is_started(kind) {
+        first_of(raw, &[Parameter::Request])
+    } else {
+        None
     }
 }
 
@@ -113,6 +136,7 @@ fn entry_missing(function: Function, raw: &RawCall) -> Option<Parameter>
             first_of(raw, &[Parameter::Requests])
         }
         Function::Collective(kind) | Function::Icollective(kind) => collective_missing(kind, raw),
+        Function::Iprobe | Function::OnObject(_, _) => None,
         Function::Imrecv | Function::Unread | Function::Finalize | Function::Other => None,
     }
 }
@@ -126,10 +150,8 @@ fn outcome_missing(
     ensures { IfOk result (λ missing. missing ≡ first_missing ((row function raw.now.name).outcome raw.now) raw.now) }
 {
     match function {
-        Function::Isend(_) | Function::Irecv | Function::Icollective(_) => Ok(first_of(
-            raw,
-            &[Parameter::Request],
-        )),
+        Function::Isend(_) | Function::Irecv => Ok(first_of(raw, &[Parameter::Request])),
+        Function::Icollective(kind) => Ok(started_missing(kind, raw)),
         Function::SendInit(_) | Function::RecvInit | Function::Imrecv => {
             Ok(first_of(raw, &[Parameter::Request]))
         }
@@ -149,7 +171,7 @@ fn outcome_missing(
         Function::Wait | Function::Waitall | Function::Waitsome | Function::Testsome => Ok(None),
         Function::Cancel | Function::Free | Function::Unread => Ok(None),
         Function::Start | Function::Startall => Ok(None),
-        Function::Collective(_) => Ok(None),
+        Function::Collective(_) | Function::OnObject(_, _) | Function::Iprobe => Ok(None),
         Function::Finalize | Function::Other => Ok(None),
     }
 }
@@ -419,9 +441,10 @@ fn startall(alloc: Global, raw: &RawCall) -> Result<Call, CallFault>
 fn collective_of(alloc: Global, kind: Kind, raw: &RawCall) -> Result<Collective, CallFault>
     ensures means { Reads result (collective_in kind raw.now) }
     ensures there { OnOk result (AreThere (collective_parameters kind) raw.now) }
+    ensures kind { IfOk result (λ c. c.kind ≡ kind) }
 {
     let root = root(alloc, kind, raw)?;
-    let comm = comm(alloc, raw)?;
+    let comm = named_object(alloc, kind.row().object, raw)?;
     Ok(Collective::new(kind, root, comm).unwrap())
 }
 
@@ -441,10 +464,63 @@ fn collective(alloc: Global, kind: Kind, raw: &RawCall) -> Result<Call, CallFaul
 fn icollective(alloc: Global, kind: Kind, raw: &RawCall) -> Result<Call, CallFault>
     ensures means { Reads result (icollective_call kind raw.now) }
     ensures there { OnOk result (AreThere (collective_parameters kind) raw.now) }
-    ensures brings { IfOk result (λ c. brought_by c raw.now ≡ Parameter.Request ∷ []) }
+    ensures brings { IfOk result (λ c. brought_by c raw.now ≡ started_request (is_started kind)) }
 {
     let collective = collective_of(alloc, kind, raw)?;
-    Ok(Call::Icollective(collective))
+    if is_started(kind) {
+        Ok(Call::Icollective(collective.nonblocking().unwrap()))
+    } else {
+        Ok(Call::Local)
+    }
+}
+
+/// A collective call on an object.
+fn made_on(kind: Kind, nonblocking: bool, comm: CommRef) -> Call
+    requires { IsComm comm × IsNamedAs (kind_row kind).object comm }
+    ensures value { result ≡ object_or_local kind nonblocking (Some comm) }
+    ensures brings { (raw : TextCall) → brought_by result raw ≡ [] }
+{
+    if kind.row().is_communication {
+        return Call::Local;
+    }
+    let call = Collective::new(kind, None, comm).unwrap();
+    if !nonblocking {
+        return Call::Collective(call);
+    }
+    match call.nonblocking() {
+        Some(call) => Call::Icollective(call),
+        None => Call::Local,
+    }
+}
+
+/// A call of a collective function on an object: local where it doesn't name its object.
+#[tactic(auto, unfolding(crate::specs::Rows::object_call))]
+fn object_call(
+    alloc: Global,
+    kind: Kind,
+    nonblocking: bool,
+    raw: &RawCall,
+) -> Result<Call, CallFault>
+    ensures means { Reads result (object_call kind nonblocking raw.now) }
+    ensures brings { IfOk result (λ c. brought_by c raw.now ≡ []) }
+{
+    match object(alloc, kind, raw)? {
+        Some(comm) => Ok(made_on(kind, nonblocking, comm)),
+        None => Ok(Call::Local),
+    }
+}
+
+/// A probe that doesn't wait: local where it doesn't say what it looks for.
+#[tactic(auto, unfolding(crate::specs::Rows::iprobe_call))]
+fn iprobe(alloc: Global, raw: &RawCall) -> Result<Call, CallFault>
+    ensures means { Reads result (iprobe_call raw.now) }
+    ensures brings { IfOk result (λ c. brought_by c raw.now ≡ []) }
+{
+    match probed(alloc, raw) {
+        Ok(envelope) => Ok(Call::Iprobe(envelope)),
+        Err(CallFault::Memory) => Err(CallFault::Memory),
+        Err(_) => Ok(Call::Local),
+    }
 }
 
 /// The call by the entry parameters of its row.
@@ -473,6 +549,8 @@ fn call_in(alloc: Global, function: Function, raw: &RawCall) -> Result<Call, Cal
         Function::Free => free(alloc, raw),
         Function::Collective(kind) => collective(alloc, kind, raw),
         Function::Icollective(kind) => icollective(alloc, kind, raw),
+        Function::OnObject(kind, nonblocking) => object_call(alloc, kind, nonblocking, raw),
+        Function::Iprobe => iprobe(alloc, raw),
         Function::SendInit(mode) => send_init(alloc, mode, raw),
         Function::RecvInit => recv_init(alloc, raw),
         Function::Start => start(alloc, raw),

@@ -5,8 +5,11 @@ use Rattle.std.proofs.lemmas.List.Elements.{All-from_recursion, All-head, All-ta
 use Rattle.std.proofs.lemmas.Map.Keys.{IsDistinct-cons}
 use Rattle.std.proofs.lemmas.Map.Steps.{length-le_from_distinct_below}
 use Rattle.std.specs.List.{All, AllByRecursion, IsDistinct, list_any, range_with_len}
+use Rattle.mpi_model.specs.declared.object.Object.{Object}
+use Rattle.mpi_model.specs.declared.object.Object.TheVariants.{Communicator as a_communicator, Window, File}
+use Rattle.mpi_model.specs.Kinds.{object_number}
 use Rattle.mpi_model.specs.Communicators.{Communicator, has_double, members_of}
-use Rattle.mpi_model.specs.Layouts.{IsGroup, counts_from, has_double_member, has_stranger, is_empty_group, is_some_whole, is_whole}
+use Rattle.mpi_model.specs.Layouts.{IsGroup, counts_from, has_double_member, has_stranger, is_empty_group, is_some_communicator, is_some_whole, is_whole}
 
 pub or_false : (a b : Bool) → (a || b) ≡ false → (a ≡ false) × (b ≡ false)
 or_false true b h = cc
@@ -103,6 +106,16 @@ all_ranks ranks members h =
 pub whole_world : (ranks : ℕ) (named : Option (List ℕ)) → is_some_whole ranks named ≡ true → named ≡ Some (range_with_len 0 ranks)
 whole_world ranks None h = cc
 whole_world ranks (Some members) h = ap Some (all_ranks ranks members h)
+
+-- a sort of the number of communicators is that of communicators
+communicator_is : (object : Object) → (object_number object == object_number a_communicator) ≡ true → object ≡ a_communicator
+communicator_is a_communicator h = refl
+communicator_is Window h = cc
+communicator_is File h = cc
+
+pub communicator_world : (named : Option Object) → is_some_communicator named ≡ true → named ≡ Some a_communicator
+communicator_world None h = cc
+communicator_world (Some object) h = ap Some (communicator_is object h)
 
 -- what holds of the value that is shown holds of what shows it
 pub under_map : {X Y : Type 0} (f : X → Y) (P : Y → Type 0) (o : Option X) (m : Option Y) → option_map f o ≡ m → IfSome m P → IfSome o (λ x. P (f x))

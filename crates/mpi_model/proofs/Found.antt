@@ -1,5 +1,5 @@
 -- What one list of names finds, another with the same names finds.
-use Rattle.std.proofs.Common.{◌≡◌, ℕ, ◌==◌, ◌&&◌, ◌||◌, ◌∙◌, Bool, true, false, List, [], ◌∷◌, refl, sym, ap, arith, Option, Some, None, option_map, All, cond}
+use Rattle.std.proofs.Common.{◌≡◌, ℕ, ◌==◌, ◌&&◌, ◌||◌, ◌∙◌, Bool, true, false, List, [], ◌∷◌, refl, sym, ap, subst, arith, Option, Some, None, option_map, All, cond}
 use Rattle.std.specs.Prelude.{find}
 use Rattle.std.proofs.lemmas.Grind.{common_steps}
 use Rattle.std.proofs.lemmas.Bool.Decides.{nat_tests}
@@ -12,6 +12,9 @@ use Rattle.mpi_model.specs.declared.layout.comm.Stretch.{Stretch}
 use Rattle.mpi_model.specs.declared.layout.names.Name.{Name}
 use Rattle.mpi_model.specs.Communicators.{Communicator, has_pair}
 use Rattle.mpi_model.specs.Names.{AreNames, AreOrdered, always, clashes, has_calls, is_name, name_by, names_by_id, names_by_numbers, names_in, names_of, names_with, numbered}
+use Rattle.mpi_model.specs.declared.object.Object.{Object}
+use Rattle.mpi_model.specs.Names.{is_of}
+use Rattle.mpi_model.specs.Starts.{AreNumbered, AreStarts}
 use Rattle.mpi_model.proofs.Communicators.{or_false}
 use Rattle.mpi_model.proofs.Names.{both_clash, flips}
 use Rattle.mpi_model.proofs.Pairs.{has_pair-IsPermutation}
@@ -89,30 +92,30 @@ passes_once p (x ∷ xs) y h = step (p x) refl (passes_once p xs y)
         rw e (later rest)
 
 -- a look-up in the names as they are kept
-pub found_alike : (gs : List Communicator) (names : List Name) → AreNames gs names → (rank call number : ℕ)
-    → option_map (λ x. x.comm) (find (is_name rank call number) names) ≡ numbered gs rank call number
-found_alike gs names are rank call number = step (find (is_name rank call number) (names_of gs)) refl
+pub found_alike : (object : Object) (gs : List Communicator) (names : List Name) → AreNames object gs names → (rank call number : ℕ)
+    → option_map (λ x. x.comm) (find (is_name rank call number) names) ≡ numbered object gs rank call number
+found_alike object gs names are rank call number = step (find (is_name rank call number) (names_of object gs)) refl
   where
-    step : (o : Option Name) → find (is_name rank call number) (names_of gs) ≡ o
-        → option_map (λ x. x.comm) (find (is_name rank call number) names) ≡ numbered gs rank call number
+    step : (o : Option Name) → find (is_name rank call number) (names_of object gs) ≡ o
+        → option_map (λ x. x.comm) (find (is_name rank call number) names) ≡ numbered object gs rank call number
     step None e =
-        let none : list_any (is_name rank call number) names ≡ false = are.same (is_name rank call number) ∙ none_passes (is_name rank call number) (names_of gs) e in
+        let none : list_any (is_name rank call number) names ≡ false = are.same (is_name rank call number) ∙ none_passes (is_name rank call number) (names_of object gs) e in
         ap (option_map (λ (x : Name). x.comm)) (nothing_found (is_name rank call number) names none ∙ sym e)
     step (Some y) e =
-        let any : list_any (wanted (is_name rank call number) y.comm) names ≡ true = are.same (wanted (is_name rank call number) y.comm) ∙ passes_once (is_name rank call number) (names_of gs) y e in
+        let any : list_any (wanted (is_name rank call number) y.comm) names ≡ true = are.same (wanted (is_name rank call number) y.comm) ∙ passes_once (is_name rank call number) (names_of object gs) y e in
         found_by (is_name rank call number) (both_clash rank call number) y.comm names are.apart any ∙ sym (ap (option_map (λ (x : Name). x.comm)) e)
 
-any_in : (test : Name → Bool) (gs : List Communicator) → list_any test (names_of gs) ≡ list_any (λ g. list_any test (names_in g)) gs
-any_in test [] = refl
-any_in test (g ∷ gs) = list_any-append test (names_in g) (names_of gs) ∙ ap (λ b. list_any test (names_in g) || b) (any_in test gs)
+any_in : (object : Object) (test : Name → Bool) (gs : List Communicator) → list_any test (names_of object gs) ≡ list_any (λ g. list_any test (names_in object g)) gs
+any_in object test [] = refl
+any_in object test (g ∷ gs) = list_any-append test (names_in object g) (names_of object gs) ∙ ap (λ b. list_any test (names_in object g) || b) (any_in object test gs)
 
 -- the names in order stay those of the communicators in order
-pub names_stay : (given sorted : List Communicator) (names : List Name) → IsPermutation given sorted → IsPermutation (names_of given) names → AreOrdered names
-    → has_pair clashes (names_of given) ≡ false → AreNames sorted names
-names_stay given sorted names same moved ordered free = record {
+pub names_stay : (object : Object) (given sorted : List Communicator) (names : List Name) → IsPermutation given sorted → IsPermutation (names_of object given) names → AreOrdered names
+    → has_pair clashes (names_of object given) ≡ false → AreNames object sorted names
+names_stay object given sorted names same moved ordered free = record {
   ordered = ordered;
-  apart = sym (has_pair-IsPermutation clashes flips (names_of given) names moved) ∙ free;
-  same = λ test. sym (list_any-IsPermutation test (names_of given) names moved) ∙ any_in test given ∙ list_any-IsPermutation (λ g. list_any test (names_in g)) given sorted same ∙ sym (any_in test sorted);
+  apart = sym (has_pair-IsPermutation clashes flips (names_of object given) names moved) ∙ free;
+  same = λ test. sym (list_any-IsPermutation test (names_of object given) names moved) ∙ any_in object test given ∙ list_any-IsPermutation (λ g. list_any test (names_in object g)) given sorted same ∙ sym (any_in object test sorted);
 }
 
 abbrev HaveCalls : List Name → Type 0
@@ -139,12 +142,27 @@ calls_with : (comm : ℕ) (members : List ℕ) (numbers : List (Option Stretch))
 calls_with comm members [] = calls_by_id comm members
 calls_with comm members (n ∷ ns) = calls_by_numbers comm members (n ∷ ns)
 
-all_calls : (gs : List Communicator) → HaveCalls (names_of gs)
-all_calls [] = All-nil (λ x. has_calls x.stretch ≡ true)
-all_calls (g ∷ gs) = All-append (λ x. has_calls x.stretch ≡ true) (names_in g) (names_of gs) (calls_with g.comm g.members g.numbers) (all_calls gs)
+calls_in : (object : Object) (g : Communicator) → HaveCalls (names_in object g)
+calls_in object g = step (is_of object g) refl
+  where
+    step : (b : Bool) → is_of object g ≡ b → HaveCalls (names_in object g)
+    step true e = rw e (calls_with g.comm g.members g.numbers)
+    step false e = rw e (All-nil (λ x. has_calls x.stretch ≡ true))
 
-pub have_calls : (gs : List Communicator) (names : List Name) → IsPermutation (names_of gs) names → HaveCalls names
-have_calls gs names same = All-permutation (λ x. has_calls x.stretch ≡ true) (names_of gs) names same (all_calls gs)
+all_calls : (object : Object) (gs : List Communicator) → HaveCalls (names_of object gs)
+all_calls object [] = All-nil (λ x. has_calls x.stretch ≡ true)
+all_calls object (g ∷ gs) = All-append (λ x. has_calls x.stretch ≡ true) (names_in object g) (names_of object gs) (calls_in object g) (all_calls object gs)
 
-pub clash_still : (gs : List Communicator) (names : List Name) → IsPermutation (names_of gs) names → has_pair clashes (names_of gs) ≡ has_pair clashes names
-clash_still gs names same = has_pair-IsPermutation clashes flips (names_of gs) names same
+pub have_calls : (object : Object) (gs : List Communicator) (names : List Name) → IsPermutation (names_of object gs) names → HaveCalls names
+have_calls object gs names same = All-permutation (λ x. has_calls x.stretch ≡ true) (names_of object gs) names same (all_calls object gs)
+
+pub clash_still : (object : Object) (gs : List Communicator) (names : List Name) → IsPermutation (names_of object gs) names → has_pair clashes (names_of object gs) ≡ has_pair clashes names
+clash_still object gs names same = has_pair-IsPermutation clashes flips (names_of object gs) names same
+
+-- names that are kept, with where each rank's begin
+pub numbered_again : (object : Object) (gs : List Communicator) (names kept : List Name) (starts : List ℕ) → kept ≡ names → AreNames object gs names → AreStarts names starts
+    → AreNumbered object gs kept starts
+numbered_again object gs names kept starts same are begin = record {
+  names_are = subst (λ (n : List Name). AreNames object gs n) (sym same) are;
+  starts_are = subst (λ (n : List Name). AreStarts n starts) (sym same) begin;
+}

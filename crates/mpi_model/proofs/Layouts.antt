@@ -1,5 +1,5 @@
 -- What the tests of a layout tell.
-use Rattle.std.proofs.Common.{◌≡◌, ◌≤◌, ◌<◌, ℕ, ◌==◌, ◌||◌, ◌∙◌, Bool, true, false, List, [], nat_lt, length, refl, arith, Some, None, if◌then◌else◌, eqb}
+use Rattle.std.proofs.Common.{◌≡◌, ◌≤◌, ◌<◌, ℕ, ◌==◌, ◌||◌, ◌∙◌, Bool, true, false, List, [], nat_lt, length, refl, ap, arith, Some, None, option_map, if◌then◌else◌, eqb}
 use Rattle.std.proofs.lemmas.Grind.{common_steps}
 use Rattle.std.proofs.lemmas.List.{get_or-map}
 use Rattle.std.proofs.lemmas.List.Sorted.{All-permutation, IsPermutation-map, length_permutation}
@@ -7,11 +7,14 @@ use Rattle.std.proofs.lemmas.Map.Keys.{IsDistinct-IsPermutation, IsStrictlyIncre
 use Rattle.std.specs.List.{list_any}
 use Rattle.std.specs.List.Sorted.{IsNonDecreasing, IsNonDecreasingBy, IsStrictlyIncreasing}
 use Rattle.mpi_model.specs.declared.layout.Sends.{Sends}
+use Rattle.mpi_model.specs.declared.object.Object.TheVariants.{Communicator as a_communicator}
 use Rattle.mpi_model.specs.declared.layout.fault.LayoutFault.TheVariants.{CommCount}
-use Rattle.mpi_model.specs.Communicators.{Communicator, InOrder, has_double, members_of, ids}
-use Rattle.mpi_model.specs.Layouts.{IsGroup, IsLayout, comm_fault, fault_of, has_double_member, has_stranger, has_world, has_wrong_numbers, is_empty_group}
-use Rattle.mpi_model.specs.Names.{has_clash}
-use Rattle.mpi_model.proofs.Communicators.{all_groups, distinct, whole_world}
+use Rattle.mpi_model.specs.Communicators.{Communicator, InOrder, has_double, members_of, object_of_comm, ids}
+use Rattle.mpi_model.specs.Layouts.{IsGroup, IsLayout, comm_fault, fault_of, has_double_member, has_stranger, has_world, has_wrong_numbers, is_empty_group, is_some_communicator, is_some_whole}
+use Rattle.mpi_model.specs.declared.object.Object.{Object}
+use Rattle.mpi_model.specs.declared.object.Object.TheVariants.{Window, File}
+use Rattle.mpi_model.specs.Names.{has_clash, has_clash_of}
+use Rattle.mpi_model.proofs.Communicators.{all_groups, and_true, communicator_world, distinct, or_false, whole_world}
 
 -- the numbers of ranks and of communicators are allowed
 pub within : (ranks world : ℕ) (gs : List Communicator) → 0 < ranks → ranks ≤ 1024 → length gs ≤ 65536 → fault_of ranks world gs ≡ comm_fault ranks world gs
@@ -33,7 +36,8 @@ record Passes (ranks world : ℕ) (gs : List Communicator) : Type 0 where
   pub full : list_any is_empty_group gs ≡ false
   pub in_range : list_any (λ g. has_stranger ranks g.members) gs ≡ false
   pub no_double : list_any has_double_member gs ≡ false
-  pub world_there : has_world ranks world gs ≡ true
+  pub world_there : is_some_whole ranks (members_of gs world) ≡ true
+  pub world_object : is_some_communicator (object_of_comm gs world) ≡ true
   pub clear : has_clash gs ≡ false
 
 passes_by : {F : Type 0} (a b c d e m n : Bool) (f g h i j k : F)
@@ -52,14 +56,15 @@ passes : (ranks world : ℕ) (gs : List Communicator) → comm_fault ranks world
 passes ranks world gs n =
     let all = passes_by (has_double (ids gs)) (list_any is_empty_group gs) (list_any (λ g. has_stranger ranks g.members) gs) (list_any has_double_member gs) (has_world ranks world gs)
     (list_any has_wrong_numbers gs) (has_clash gs) _ _ _ _ _ _ n in
-    record { single = all.0; full = all.1; in_range = all.2; no_double = all.3; world_there = all.4; clear = all.5 }
+    let of_world = and_true (is_some_communicator (object_of_comm gs world)) (is_some_whole ranks (members_of gs world)) all.4 in
+    record { single = all.0; full = all.1; in_range = all.2; no_double = all.3; world_there = of_world.1; world_object = of_world.0; clear = all.5 }
 
 flips : (x y : ℕ) → eqb x y ≡ eqb y x
 flips x y = grind (arith, common_steps)
 
 never_falls : (gs : List Communicator) → IsNonDecreasingBy (λ g. g.comm) gs → IsNonDecreasing (ids gs)
 never_falls gs up i j d le lt =
-    let none : Communicator = record { comm = 0; members = []; numbers = [] } in
+    let none : Communicator = record { comm = 0; object = a_communicator; members = []; numbers = [] } in
     let in_list : j < length gs = grind (arith, common_steps, lt) in
     rw (get_or-map (λ (g : Communicator). g.comm) gs i none d (omega (arith, le, in_list)), get_or-map (λ (g : Communicator). g.comm) gs j none d in_list) (up i j none le in_list)
 
@@ -78,8 +83,18 @@ layout_known ranks world sends given sorted some few short n o =
       few_comms = omega (arith, length_permutation given sorted o.same);
       rising = rising given sorted o p.single;
       groups = All-permutation (λ g. IsGroup ranks g.members) given sorted o.same (all_groups ranks given p.full p.in_range p.no_double);
-      world = o.members world ∙ whole_world ranks (members_of given world) p.world_there;
+      world = ap (option_map (λ (g : Communicator). g.members)) (o.found world) ∙ whole_world ranks (members_of given world) p.world_there;
+      world_object = ap (option_map (λ (g : Communicator). g.object)) (o.found world) ∙ communicator_world (object_of_comm given world) p.world_object;
     }
 
-pub clear : (ranks world : ℕ) (given : List Communicator) → comm_fault ranks world given ≡ None → has_clash given ≡ false
-clear ranks world given n = (passes ranks world given n).clear
+-- no two names of objects of one sort clash
+pub record Clear (given : List Communicator) : Type 0 where
+  pub communicators : has_clash_of a_communicator given ≡ false
+  pub windows : has_clash_of Window given ≡ false
+  pub files : has_clash_of File given ≡ false
+
+pub clear : (ranks world : ℕ) (given : List Communicator) → comm_fault ranks world given ≡ None → Clear given
+clear ranks world given n =
+    let last = or_false (has_clash_of a_communicator given || has_clash_of Window given) (has_clash_of File given) (passes ranks world given n).clear in
+    let others = or_false (has_clash_of a_communicator given) (has_clash_of Window given) last.0 in
+    record { communicators = others.0; windows = others.1; files = last.1 }

@@ -1,5 +1,6 @@
 mod Doubles
 mod Held
+mod EachKind
 mod Communicators
 mod Known
 mod Layouts

@@ -10,11 +10,12 @@ use Rattle.std.proofs.lemmas.Option.{slice_get-get_or, slice_get_past}
 use Rattle.std.specs.List.Sorted.{IsNonDecreasingBy, IsPartitionPoint, IsStrictlyIncreasing}
 use Rattle.std.specs.Ordering.{nat_cmp, ordering_index}
 use Rattle.std.specs.declared.cmp.Ordering.TheVariants.{Less, Equal, Greater}
-use Rattle.mpi_model.specs.Communicators.{Communicator, members_of, ids}
+use Rattle.mpi_model.specs.declared.object.Object.TheVariants.{Communicator as a_communicator}
+use Rattle.mpi_model.specs.Communicators.{Communicator, one_of, ids}
 use Rattle.mpi_model.proofs.Finds.{find_by, find_none}
 
 abbrev pub none : Communicator
-none = record { comm = 0; members = []; numbers = [] }
+none = record { comm = 0; object = a_communicator; members = []; numbers = [] }
 
 abbrev pub number_at : List Communicator → ℕ → ℕ
 number_at gs i = (get_or gs i none).comm
@@ -72,7 +73,7 @@ module _ (gs : List Communicator) (up : IsStrictlyIncreasing (ids gs)) where
       (λ j lt. below_differs (number_at gs j) n (omega (arith, rises j at lt low, same)))
 
   -- what a search by halves that succeeds tells
-  pub place_found : (n at : ℕ) → at < length gs → nat_cmp (number_at gs at) n ≡ Equal → option_map (λ (g : Communicator). g.members) (slice_get gs at) ≡ members_of gs n
+  pub place_found : (n at : ℕ) → at < length gs → nat_cmp (number_at gs at) n ≡ Equal → slice_get gs at ≡ one_of gs n
   place_found n at low equal =
       let here : slice_get gs at ≡ Some (get_or gs at none) = slice_get-get_or gs at none low in
       let same : number_at gs at ≡ n = ranked (number_at gs at) n Equal (sym equal) in
@@ -86,7 +87,7 @@ module _ (gs : List Communicator) (up : IsStrictlyIncreasing (ids gs)) where
 
   -- what a search by halves that fails tells
   pub place_missed : (n at : ℕ) → IsPartitionPoint (λ g. nat_cmp g.comm n ≡ Less) (λ g. nat_cmp g.comm n ≡ Greater) gs at
-      → option_map (λ (g : Communicator). g.members) (slice_get gs (length gs)) ≡ members_of gs n
+      → slice_get gs (length gs) ≡ one_of gs n
   place_missed n at parted =
       let missing : find (λ g. g.comm == n) gs ≡ None = find_none (λ g. g.comm == n) gs none (missed n at parted) in
       let past : slice_get gs (length gs) ≡ None = slice_get_past gs (length gs) (omega arith) in

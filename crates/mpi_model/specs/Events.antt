@@ -4,7 +4,7 @@ use Rattle.std.specs.Int.{w64}
 use Rattle.std.specs.Ordering.{nat_cmp, ordering_then}
 use Rattle.std.specs.declared.cmp.Ordering.{Ordering}
 use Rattle.mpi_model.specs.Times.{IsTimes}
-use Rattle.mpi_model.specs.Ranges.{IsTold, IsSend, IsReceive, IsProbe, IsCollective, BothEnvelopes, IsExchange}
+use Rattle.mpi_model.specs.Ranges.{IsTold, IsSend, IsReceive, IsProbe, IsCollective, IsIcollective, BothEnvelopes, IsExchange}
 use Rattle.mpi_model.specs.declared.envelope.Envelope.{Envelope}
 use Rattle.mpi_model.specs.declared.call.Call.{Call}
 use Rattle.mpi_model.specs.declared.call.Call.TheVariants as calls
@@ -51,7 +51,7 @@ IsCall (calls.Testsome requests) = All IsSigned requests
 IsCall (calls.Cancel request) = IsSigned request
 IsCall (calls.Free request) = IsSigned request
 IsCall (calls.Collective c) = IsCollective c
-IsCall (calls.Icollective c) = IsCollective c
+IsCall (calls.Icollective c) = IsIcollective c
 IsCall (calls.Probe e) = IsProbe e
 IsCall (calls.SendInit mode e) = IsSent e
 IsCall (calls.RecvInit e) = IsReceived e
@@ -59,6 +59,7 @@ IsCall (calls.Start request) = IsSigned request
 IsCall (calls.Startall requests) = All IsSigned requests
 IsCall (calls.Mprobe e) = IsProbe e
 IsCall (calls.Improbe e) = IsProbe e
+IsCall (calls.Iprobe e) = IsProbe e
 IsCall calls.Imrecv = Unit {0}
 IsCall calls.Unread = Unit {0}
 

@@ -8,8 +8,11 @@ use Rattle.mpi_model.specs.declared.layout.fault.LayoutFault.{LayoutFault}
 use Rattle.mpi_model.specs.declared.layout.fault.LayoutFault.TheVariants.{RankCount, CommCount, DoubleComm, EmptyComm, MemberRange, DoubleMember, World, Numbers}
 use Rattle.mpi_model.specs.declared.layout.comm.Stretch.{Stretch}
 use Rattle.mpi_model.specs.declared.envelope.CommRef.{CommRef}
+use Rattle.mpi_model.specs.declared.object.Object.{Object}
+use Rattle.mpi_model.specs.declared.object.Object.TheVariants.{Communicator as a_communicator}
+use Rattle.mpi_model.specs.Kinds.{object_number}
 use Rattle.mpi_model.specs.declared.envelope.CommRef.TheVariants as comms
-use Rattle.mpi_model.specs.Communicators.{Communicator, has_double, ids, members_of}
+use Rattle.mpi_model.specs.Communicators.{Communicator, has_double, ids, members_of, object_of_comm}
 use Rattle.mpi_model.specs.Names.{has_clash, numbered}
 
 -- what a layout holds
@@ -25,7 +28,7 @@ pub record IsGroup (ranks : ℕ) (members : List ℕ) : Type 0 where
   pub in_range : All (λ r. r < ranks) members
   pub distinct : IsDistinct eqb members
 
--- What holds of every layout. The world has all ranks, in their order (MPI 4.0, 11.2).
+-- What holds of every layout. The world is a communicator of all ranks, in their order (MPI 4.0, 11.2).
 pub record IsLayout (l : Parts) : Type 0 where
   pub some_rank : 0 < l.ranks
   pub few_ranks : l.ranks ≤ MOST_RANKS
@@ -33,6 +36,7 @@ pub record IsLayout (l : Parts) : Type 0 where
   pub rising : IsStrictlyIncreasing (ids l.comms)
   pub groups : All (λ g. IsGroup l.ranks g.members) l.comms
   pub world : members_of l.comms l.world ≡ Some (range_with_len 0 l.ranks)
+  pub world_object : object_of_comm l.comms l.world ≡ Some a_communicator
 
 -- The layout holds what was given: the same communicators, each with its members and numbers.
 pub record Holds (ranks world : ℕ) (sends : Sends) (given : List Communicator) (l : Parts) : Type 0 where
@@ -41,6 +45,7 @@ pub record Holds (ranks world : ℕ) (sends : Sends) (given : List Communicator)
   pub same_sends : l.sends ≡ sends
   pub same_comms : IsPermutation given l.comms
   pub members : (comm : ℕ) → members_of l.comms comm ≡ members_of given comm
+  pub objects : (comm : ℕ) → object_of_comm l.comms comm ≡ object_of_comm given comm
 
 -- a communicator without members
 abbrev pub is_empty_group : Communicator → Bool
@@ -68,9 +73,14 @@ abbrev pub is_some_whole : ℕ → Option (List ℕ) → Bool
 is_some_whole ranks None = false
 is_some_whole ranks (Some members) = is_whole ranks members
 
--- the world is there, and has all ranks in order
+-- there is an object, and it is a communicator
+abbrev pub is_some_communicator : Option Object → Bool
+is_some_communicator None = false
+is_some_communicator (Some object) = object_number object == object_number a_communicator
+
+-- the world is there, is a communicator, and has all ranks in order
 abbrev pub has_world : ℕ → ℕ → List Communicator → Bool
-has_world ranks world gs = is_some_whole ranks (members_of gs world)
+has_world ranks world gs = is_some_communicator (object_of_comm gs world) && is_some_whole ranks (members_of gs world)
 
 -- there is an end, and it comes before a call
 abbrev pub ends_before : Option ℕ → ℕ → Bool
@@ -107,8 +117,8 @@ fault_of ranks world gs =
     else if nat_lt MOST_COMMS (length gs) then Some CommCount
     else comm_fault ranks world gs
 
--- The communicator that a call of a rank names: the world for every rank of the run, or the one that the rank names so in
--- this call.
-abbrev pub named : Parts → ℕ → ℕ → CommRef → Option ℕ
-named l rank call comms.World = if nat_lt rank l.ranks then Some l.world else None
-named l rank call (comms.Id number) = numbered l.comms rank call number
+-- The object that a call of a rank names: the world for every rank of the run, or the one of this sort that the rank names so
+-- in this call.
+abbrev pub named : Parts → ℕ → ℕ → Object → CommRef → Option ℕ
+named l rank call object comms.World = if nat_lt rank l.ranks then Some l.world else None
+named l rank call object (comms.Id number) = numbered object l.comms rank call number

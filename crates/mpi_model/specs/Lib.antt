@@ -4,6 +4,7 @@ pub mod Times
 pub mod Tells
 pub mod Requests
 pub mod Kinds
+pub mod AllKinds
 pub mod Ranges
 pub mod Whole
 pub mod Communicators

@@ -1,10 +1,13 @@
--- Which communicator a call of a rank names. Each rank numbers communicators for itself, and a number comes back once its
--- communicator is freed (MPI 4.0, 7.4.3). So a number names a communicator for one rank, over a stretch of its calls.
+-- Which object a call of a rank names. Each rank numbers communicators, windows and files for itself, each sort apart, and a
+-- number comes back once its object is freed (MPI 4.0, 7.4.3). So a number names an object for one rank, over a stretch of its calls.
 use Rattle.std.specs.Prelude.{◌≡◌, ℕ, ◌==◌, ◌&&◌, ◌||◌, Bool, true, false, List, [], ◌∷◌, ◌++◌, Option, Some, None, option_map, find, length, nat_le, nat_lt, slice_index_or, ◌<◌, ◌≤◌, if◌then◌else◌}
 use Rattle.std.specs.List.{flat_map, list_any}
 use Rattle.std.specs.List.Sorted.{IsPartitionPoint}
 use Rattle.mpi_model.specs.declared.layout.comm.Stretch.{Stretch}
 use Rattle.mpi_model.specs.declared.layout.names.Name.{Name}
+use Rattle.mpi_model.specs.declared.object.Object.{Object}
+use Rattle.mpi_model.specs.declared.object.Object.TheVariants.{Communicator as a_communicator, Window, File}
+use Rattle.mpi_model.specs.Kinds.{object_number}
 use Rattle.mpi_model.specs.Communicators.{Communicator, has_pair}
 
 -- a call comes before the end, where there is one
@@ -49,29 +52,37 @@ abbrev pub names_with : ℕ → List ℕ → List (Option Stretch) → List Name
 names_with comm members [] = names_by_id comm members
 names_with comm members (number ∷ numbers) = names_by_numbers comm members (number ∷ numbers)
 
--- by which numbers, and in which calls, the members of a communicator name it
-abbrev pub names_in : Communicator → List Name
-names_in g = names_with g.comm g.members g.numbers
+-- the object is of this sort
+abbrev pub is_of : Object → Communicator → Bool
+is_of object g = object_number g.object == object_number object
 
--- all names of these communicators
-abbrev pub names_of : List Communicator → List Name
-names_of gs = flat_map names_in gs
+-- by which numbers, and in which calls, the members of an object of this sort name it
+abbrev pub names_in : Object → Communicator → List Name
+names_in object g = if is_of object g then names_with g.comm g.members g.numbers else []
+
+-- all names of the objects of a sort
+abbrev pub names_of : Object → List Communicator → List Name
+names_of object gs = flat_map (names_in object) gs
 
 -- two names of one rank share a call, so that its number has two meanings
 abbrev pub clashes : Name → Name → Bool
 clashes x y = (x.rank == y.rank) && shares x.stretch y.stretch
 
--- two names of theirs clash
+-- two names of objects of this sort clash
+abbrev pub has_clash_of : Object → List Communicator → Bool
+has_clash_of object gs = has_pair clashes (names_of object gs)
+
+-- two names of objects of one sort clash
 abbrev pub has_clash : List Communicator → Bool
-has_clash gs = has_pair clashes (names_of gs)
+has_clash gs = has_clash_of a_communicator gs || has_clash_of Window gs || has_clash_of File gs
 
 -- the name is that of a number in a call of a rank
 abbrev pub is_name : ℕ → ℕ → ℕ → Name → Bool
 is_name rank call number x = (x.rank == rank) && ((x.stretch.number == number) && holds x.stretch call)
 
--- the communicator that a number names in a call of a rank
-abbrev pub numbered : List Communicator → ℕ → ℕ → ℕ → Option ℕ
-numbered gs rank call number = option_map (λ x. x.comm) (find (is_name rank call number) (names_of gs))
+-- the object of a sort that a number names in a call of a rank
+abbrev pub numbered : Object → List Communicator → ℕ → ℕ → ℕ → Option ℕ
+numbered object gs rank call number = option_map (λ x. x.comm) (find (is_name rank call number) (names_of object gs))
 
 -- In an order of names by rank, then number, then first call: the name isn't behind this place.
 abbrev pub precedes : ℕ → ℕ → ℕ → Name → Bool
@@ -86,8 +97,8 @@ AreOrdered names = (i j : ℕ) (d : Name) → i ≤ j → j < length names
 abbrev pub PrecedeUpTo : ℕ → ℕ → ℕ → List Name → ℕ → Type 0
 PrecedeUpTo rank number call names n = IsPartitionPoint (λ x. precedes rank number call x ≡ true) (λ x. precedes rank number call x ≡ false) names n
 
--- The names of these communicators in their order, of which no two clash.
-pub record AreNames (gs : List Communicator) (names : List Name) : Type 0 where
+-- The names of the objects of a sort in their order, of which no two clash.
+pub record AreNames (object : Object) (gs : List Communicator) (names : List Name) : Type 0 where
   pub ordered : AreOrdered names
   pub apart : has_pair clashes names ≡ false
-  pub same : (test : Name → Bool) → list_any test names ≡ list_any test (names_of gs)
+  pub same : (test : Name → Bool) → list_any test names ≡ list_any test (names_of object gs)

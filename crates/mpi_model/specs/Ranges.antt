@@ -8,7 +8,9 @@ use Rattle.mpi_model.specs.declared.envelope.CommRef.{CommRef}
 use Rattle.mpi_model.specs.declared.envelope.CommRef.TheVariants as comms
 use Rattle.mpi_model.specs.declared.envelope.Envelope.{Envelope}
 use Rattle.mpi_model.specs.declared.kind.Kind.{Kind}
-use Rattle.mpi_model.specs.Kinds.{has_root}
+use Rattle.mpi_model.specs.declared.object.Object.{Object}
+use Rattle.mpi_model.specs.declared.object.Object.TheVariants.{Communicator}
+use Rattle.mpi_model.specs.Kinds.{has_nonblocking, has_root, row}
 
 -- what an outcome tells of a source
 abbrev pub IsTold : Told → Type 0
@@ -69,7 +71,7 @@ pub record BothEnvelopes : Type 0 where
 abbrev pub IsExchange : BothEnvelopes → Type 0
 IsExchange e = IsSend e.send × IsReceive e.receive × (e.send.comm ≡ e.receive.comm)
 
--- a collective call
+-- a collective call; where a window or a file is its object, that one's number stands in the place of a communicator's
 pub record CollectiveCall : Type 0 where
   pub kind : Kind
   pub root : Option ℕ
@@ -81,6 +83,15 @@ abbrev pub IsRootOf : Kind → Option ℕ → Type 0
 IsRootOf kind None = Unit {0}
 IsRootOf kind (Some root) = (has_root kind ≡ true) × (root < 2 ^ 31)
 
+-- Only a communicator is named as the world.
+abbrev pub IsNamedAs : Object → CommRef → Type 0
+IsNamedAs object comms.World = object ≡ Communicator
+IsNamedAs object (comms.Id n) = Unit {0}
+
 -- the values of a collective call
 abbrev pub IsCollective : CollectiveCall → Type 0
-IsCollective c = IsRootOf c.kind c.root × IsComm c.comm
+IsCollective c = IsRootOf c.kind c.root × IsComm c.comm × IsNamedAs (row c.kind).object c.comm
+
+-- those of a nonblocking one: its kind has such a function
+abbrev pub IsIcollective : CollectiveCall → Type 0
+IsIcollective c = IsCollective c × (has_nonblocking c.kind ≡ true)

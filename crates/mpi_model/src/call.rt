@@ -1,12 +1,13 @@
 //! Calls of MPI, with what they name.
 
 ghost use Rattle.std.specs.Prelude.{◌≡◌, ◌↔◌, IsTrue, IfOk};
-ghost use Rattle.mpi_model.specs.Calls.{comm_of};
+ghost use Rattle.mpi_model.specs.Calls.{comm_of, object_of};
 ghost use Rattle.mpi_model.specs.Events.{IsCall};
 
-use crate::collective::Collective;
+use crate::collective::{Collective, NonblockingCollective};
 use crate::envelope::{CommRef, Exchange, Mode, ProbeEnvelope, ReceiveEnvelope, SendEnvelope};
 use crate::list::Requests;
+use crate::object::Object;
 use std::alloc::AllocError;
 
 /// A call, as it was entered. A request is named by the trace's number of it.
@@ -39,7 +40,7 @@ pub enum Call {
     /// A blocking collective call.
     Collective(Collective),
     /// A collective call whose end its request tells (MPI 4.0, 6.12).
-    Icollective(Collective),
+    Icollective(NonblockingCollective),
     /// It waits for a message and leaves it where it is (MPI 4.0, 3.8.1).
     Probe(ProbeEnvelope),
     /// `MPI_Send_init` and its modes: its request holds a send, which each start of it makes anew
@@ -55,6 +56,8 @@ pub enum Call {
     Mprobe(ProbeEnvelope),
     /// It takes a message where its outcome's flag is set, and doesn't wait (MPI 4.0, 3.8.2).
     Improbe(ProbeEnvelope),
+    /// It asks for a message, leaves it where it is, and doesn't wait (MPI 4.0, 3.8.1).
+    Iprobe(ProbeEnvelope),
     /// It receives a message that a matched probe took (MPI 4.0, 3.8.3).
     Imrecv,
     /// A function that moves messages and isn't read: what follows it isn't known.
@@ -92,12 +95,14 @@ impl Call {
             Call::Startall(requests) => Call::Startall(requests.try_clone()?),
             Call::Mprobe(envelope) => Call::Mprobe(*envelope),
             Call::Improbe(envelope) => Call::Improbe(*envelope),
+            Call::Iprobe(envelope) => Call::Iprobe(*envelope),
             Call::Imrecv => Call::Imrecv,
             Call::Unread => Call::Unread,
         })
     }
 
-    /// The communicator that the call names, where it names one: both sides of a Sendrecv name one (MPI 4.0, 3.10).
+    /// The object that the call names, where it names one: a communicator, or the window or file of a collective call.
+    /// Both sides of a Sendrecv name one (MPI 4.0, 3.10).
     pub fn comm(&self) -> Option<CommRef>
         ensures { result ≡ comm_of self.now }
     {
@@ -105,8 +110,9 @@ impl Call {
             Call::Send(_, e) | Call::Isend(_, e) | Call::SendInit(_, e) => Some(e.envelope().comm),
             Call::Recv(e) | Call::Irecv(e) | Call::RecvInit(e) => Some(e.envelope().comm),
             Call::Sendrecv(both) => Some(both.send().comm),
-            Call::Collective(c) | Call::Icollective(c) => Some(c.comm()),
-            Call::Probe(e) | Call::Mprobe(e) | Call::Improbe(e) => Some(e.comm()),
+            Call::Collective(c) => Some(c.comm()),
+            Call::Icollective(c) => Some(c.comm()),
+            Call::Probe(e) | Call::Mprobe(e) | Call::Improbe(e) | Call::Iprobe(e) => Some(e.comm()),
             Call::Local
             | Call::Finalize
             | Call::Wait(_)
@@ -123,6 +129,17 @@ impl Call {
             | Call::Startall(_)
             | Call::Imrecv
             | Call::Unread => None,
+        }
+    }
+
+    /// The sort of the object that the call names.
+    pub fn object(&self) -> Object
+        ensures { result ≡ object_of self.now }
+    {
+        match self {
+            Call::Collective(c) => c.object(),
+            Call::Icollective(c) => c.call().object(),
+            _ => Object::Communicator,
         }
     }
 
@@ -153,10 +170,12 @@ impl Call {
             | Call::Testany(requests)
             | Call::Testsome(requests)
             | Call::Startall(requests) => requests.known(),
-            Call::Collective(collective) | Call::Icollective(collective) => collective.known(),
-            Call::Probe(envelope) | Call::Mprobe(envelope) | Call::Improbe(envelope) => {
-                envelope.known()
-            }
+            Call::Collective(collective) => collective.known(),
+            Call::Icollective(collective) => collective.known(),
+            Call::Probe(envelope)
+            | Call::Mprobe(envelope)
+            | Call::Improbe(envelope)
+            | Call::Iprobe(envelope) => envelope.known(),
         }
     }
 
@@ -193,6 +212,7 @@ impl Call {
             (Call::Startall(r), Call::Startall(s)) => r.same(s),
             (Call::Mprobe(e), Call::Mprobe(f)) => e.same(*f),
             (Call::Improbe(e), Call::Improbe(f)) => e.same(*f),
+            (Call::Iprobe(e), Call::Iprobe(f)) => e.same(*f),
             (Call::Imrecv, Call::Imrecv) => true,
             (Call::Unread, Call::Unread) => true,
             _ => false,

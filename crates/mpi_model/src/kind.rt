@@ -1,7 +1,19 @@
 //! The kinds of collective calls: one table, which all crates read.
 
-ghost use Rattle.std.specs.Prelude.{◌≡◌};
-ghost use Rattle.mpi_model.specs.Kinds.{row, has_root, kind_number, function_name};
+ghost use Rattle.std.specs.Prelude.{◌≡◌, ◌↔◌, IsTrue, SomeIff, nat_eq, option_map, true};
+ghost use Rattle.std.proofs.Common.{rules};
+ghost use Rattle.std.specs.Cmp.Rules.{comparing};
+ghost use Rattle.std.specs.Ordering.{on};
+ghost use Rattle.mpi_model.specs.Kinds.{all_kinds, row, has_nonblocking, has_root, is_function, kind_number, kind_of, function_name, short_name};
+
+use crate::kind::table::{KINDS, ROWS};
+use crate::object::Object;
+use std::marker::Model;
+
+mod laws;
+mod table;
+
+pub use laws::each_kind;
 
 /// From which members of its group a collective call brings data to which (MPI 4.0, 6.2.2).
 #[derive(Clone, Copy, Debug, PartialEq, Eq)]
@@ -15,10 +27,11 @@ pub enum Category {
     Scan,
 }
 
-/// The kind of a collective call. Its blocking and its nonblocking call do the same (MPI 4.0,
-/// 6.12).
-#[derive(Clone, Copy, Debug, PartialEq, Eq)]
+/// The kind of a collective call: MPI forbids a member of its group to leave one out, whatever it
+/// is for. Its blocking and its nonblocking call do the same (MPI 4.0, 6.12).
+#[derive(Clone, Copy, Debug)]
 pub enum Kind {
+    // (MPI 4.0, chapter 6)
     Barrier,
     Bcast,
     Scatter,
@@ -36,178 +49,171 @@ pub enum Kind {
     Alltoallw,
     Gatherv,
     Scatterv,
+    // communicators (MPI 4.0, chapters 7 and 8)
+    CommSplit,
+    CommSplitType,
+    DistGraphCreate,
+    CommDup,
+    CommDupWithInfo,
+    CommCreate,
+    CommFree,
+    CommDisconnect,
+    CartCreate,
+    GraphCreate,
+    DistGraphCreateAdjacent,
+    CartSub,
+    // (MPI 4.0, 7.6 and chapter 11)
+    IntercommCreate,
+    CommSpawn,
+    CommSpawnMultiple,
+    CommAccept,
+    CommConnect,
+    // windows and files of a communicator (MPI 4.0, chapters 12 and 14)
+    WinCreate,
+    WinAllocate,
+    WinAllocateShared,
+    WinCreateDynamic,
+    FileOpen,
+    // neighbourhoods (MPI 4.0, 8.6)
+    NeighborAllgather,
+    NeighborAllgatherv,
+    NeighborAlltoall,
+    NeighborAlltoallv,
+    NeighborAlltoallw,
+    // windows
+    WinFence,
+    WinFree,
+    // files
+    FileClose,
+    FileSetView,
+    FileSetSize,
+    FilePreallocate,
+    FileSync,
+    FileSetAtomicity,
+    FileSeekShared,
+    FileReadAll,
+    FileReadAtAll,
+    FileReadOrdered,
+    FileWriteAll,
+    FileWriteAtAll,
+    FileWriteOrdered,
+    FileReadAllBegin,
+    FileReadAtAllBegin,
+    FileReadOrderedBegin,
+    FileWriteAllBegin,
+    FileWriteAtAllBegin,
+    FileWriteOrderedBegin,
+    FileReadAllEnd,
+    FileReadAtAllEnd,
+    FileReadOrderedEnd,
+    FileWriteAllEnd,
+    FileWriteAtAllEnd,
+    FileWriteOrderedEnd,
+    // hints
+    CommSetInfo,
+    WinSetInfo,
+    FileSetInfo,
+}
+
+/// Which parameters may name the object of a call: the first of them that the call has does.
+#[derive(Clone, Copy, Debug, PartialEq, Eq)]
+pub enum ObjectParameter {
+    /// `comm`
+    Comm,
+    /// `oldcomm`, `comm`
+    OldComm,
+    /// `oldcomm`, `comm_old`, `comm`
+    CommOld,
+    /// `local_comm`
+    LocalComm,
+    /// `win`
+    Win,
+    /// `fh`, `file`
+    File,
 }
 
 /// What is to be known of a kind.
 #[derive(Clone, Copy, Debug)]
 pub struct KindRow {
-    /// Its name in small letters.
-    pub word: &'static [u8],
     /// The name of its blocking function.
     pub function: &'static [u8],
-    pub nonblocking_function: &'static [u8],
+    /// The name of its nonblocking function, where there is one.
+    pub nonblocking: Option<&'static [u8]>,
     pub category: Category,
-    /// Whether each rank has a count of its own, which may be 0.
-    pub has_counts: bool,
+    /// Whether the others may owe a member nothing, so that its call need not wait for them where
+    /// sends are buffered: each rank has a count of its own, which may be 0, or the standard lets
+    /// each member wait for the others and promises it of none.
+    pub may_be_owed_nothing: bool,
+    /// Whether it is a collective communication (MPI 4.0, chapter 6).
+    pub is_communication: bool,
+    /// The sort of the object over whose group its calls are collective.
+    pub object: Object,
+    pub parameter: ObjectParameter,
+    /// Whether its functions have a form with counts of 64 bits, with `_c` behind the name.
+    pub has_long_form: bool,
+}
+
+impl PartialEq for Kind {
+    ghost eq = { on kind_number nat_eq };
+
+    ghost laws = { Prim.search (comparing, rules) };
+
+    fn eq(&self, other: &Kind) -> bool {
+        self.number() == other.number()
+    }
+}
+
+impl Eq for Kind {
+    ghost laws = { Prim.search (comparing, rules) };
 }
 
 impl Kind {
     /// The row of the kind in the table.
-    pub fn row(self) -> KindRow
+    #[tactic(auto, unfolding(crate::specs::Kinds::row))]
+    pub fn row(self) -> &'static KindRow
         ensures { record {
-          word = result.word.now;
-          function = result.function.now;
-          nonblocking_function = result.nonblocking_function.now;
-          category = result.category;
-          has_counts = result.has_counts;
+          function = result.now.function.now;
+          nonblocking = option_map (λ name. name.now) result.now.nonblocking;
+          category = result.now.category;
+          may_be_owed_nothing = result.now.may_be_owed_nothing;
+          is_communication = result.now.is_communication;
+          object = result.now.object;
+          parameter = result.now.parameter;
+          has_long_form = result.now.has_long_form;
         } ≡ row self }
     {
-        match self {
-            Kind::Barrier => KindRow {
-                word: b"barrier",
-                function: b"MPI_Barrier",
-                nonblocking_function: b"MPI_Ibarrier",
-                category: Category::AllToAll,
-                has_counts: false,
-            },
-            Kind::Bcast => KindRow {
-                word: b"bcast",
-                function: b"MPI_Bcast",
-                nonblocking_function: b"MPI_Ibcast",
-                category: Category::OneToAll,
-                has_counts: false,
-            },
-            Kind::Scatter => KindRow {
-                word: b"scatter",
-                function: b"MPI_Scatter",
-                nonblocking_function: b"MPI_Iscatter",
-                category: Category::OneToAll,
-                has_counts: false,
-            },
-            Kind::Gather => KindRow {
-                word: b"gather",
-                function: b"MPI_Gather",
-                nonblocking_function: b"MPI_Igather",
-                category: Category::AllToOne,
-                has_counts: false,
-            },
-            Kind::Reduce => KindRow {
-                word: b"reduce",
-                function: b"MPI_Reduce",
-                nonblocking_function: b"MPI_Ireduce",
-                category: Category::AllToOne,
-                has_counts: false,
-            },
-            Kind::Allreduce => KindRow {
-                word: b"allreduce",
-                function: b"MPI_Allreduce",
-                nonblocking_function: b"MPI_Iallreduce",
-                category: Category::AllToAll,
-                has_counts: false,
-            },
-            Kind::Allgather => KindRow {
-                word: b"allgather",
-                function: b"MPI_Allgather",
-                nonblocking_function: b"MPI_Iallgather",
-                category: Category::AllToAll,
-                has_counts: false,
-            },
-            Kind::Alltoall => KindRow {
-                word: b"alltoall",
-                function: b"MPI_Alltoall",
-                nonblocking_function: b"MPI_Ialltoall",
-                category: Category::AllToAll,
-                has_counts: false,
-            },
-            Kind::Scan => KindRow {
-                word: b"scan",
-                function: b"MPI_Scan",
-                nonblocking_function: b"MPI_Iscan",
-                category: Category::Scan,
-                has_counts: false,
-            },
-            Kind::Exscan => KindRow {
-                word: b"exscan",
-                function: b"MPI_Exscan",
-                nonblocking_function: b"MPI_Iexscan",
-                category: Category::Scan,
-                has_counts: false,
-            },
-            Kind::ReduceScatterBlock => KindRow {
-                word: b"reduce_scatter_block",
-                function: b"MPI_Reduce_scatter_block",
-                nonblocking_function: b"MPI_Ireduce_scatter_block",
-                category: Category::AllToAll,
-                has_counts: false,
-            },
-            Kind::ReduceScatter => KindRow {
-                word: b"reduce_scatter",
-                function: b"MPI_Reduce_scatter",
-                nonblocking_function: b"MPI_Ireduce_scatter",
-                category: Category::AllToAll,
-                has_counts: true,
-            },
-            Kind::Allgatherv => KindRow {
-                word: b"allgatherv",
-                function: b"MPI_Allgatherv",
-                nonblocking_function: b"MPI_Iallgatherv",
-                category: Category::AllToAll,
-                has_counts: true,
-            },
-            Kind::Alltoallv => KindRow {
-                word: b"alltoallv",
-                function: b"MPI_Alltoallv",
-                nonblocking_function: b"MPI_Ialltoallv",
-                category: Category::AllToAll,
-                has_counts: true,
-            },
-            Kind::Alltoallw => KindRow {
-                word: b"alltoallw",
-                function: b"MPI_Alltoallw",
-                nonblocking_function: b"MPI_Ialltoallw",
-                category: Category::AllToAll,
-                has_counts: true,
-            },
-            Kind::Gatherv => KindRow {
-                word: b"gatherv",
-                function: b"MPI_Gatherv",
-                nonblocking_function: b"MPI_Igatherv",
-                category: Category::AllToOne,
-                has_counts: true,
-            },
-            Kind::Scatterv => KindRow {
-                word: b"scatterv",
-                function: b"MPI_Scatterv",
-                nonblocking_function: b"MPI_Iscatterv",
-                category: Category::OneToAll,
-                has_counts: true,
-            },
-        }
+        &ROWS[self as usize]
+    }
+
+    /// All kinds, in the order of their numbers.
+    #[tactic(auto, unfolding(crate::specs::Kinds::all_kinds))]
+    pub fn all() -> &'static [Kind]
+        ensures { result.now ≡ all_kinds }
+    {
+        &KINDS
     }
 
     /// The number of the kind, each its own: its code in a frame.
+    #[tactic(auto, unfolding(crate::specs::Kinds::kind_number))]
     pub fn number(self) -> u8
         ensures { result ≡ kind_number self }
     {
-        match self {
-            Kind::Barrier => 0,
-            Kind::Bcast => 1,
-            Kind::Scatter => 2,
-            Kind::Gather => 3,
-            Kind::Reduce => 4,
-            Kind::Allreduce => 5,
-            Kind::Allgather => 6,
-            Kind::Alltoall => 7,
-            Kind::Scan => 8,
-            Kind::Exscan => 9,
-            Kind::ReduceScatterBlock => 10,
-            Kind::ReduceScatter => 11,
-            Kind::Allgatherv => 12,
-            Kind::Alltoallv => 13,
-            Kind::Alltoallw => 14,
-            Kind::Gatherv => 15,
-            Kind::Scatterv => 16,
-        }
+        self as u8
+    }
+
+    /// The kind of a number, where it is one's.
+    #[tactic(auto, unfolding(crate::specs::Kinds::kind_of))]
+    pub fn of_number(number: u8) -> Option<Kind>
+        ensures { result ≡ kind_of number }
+    {
+        Some(*Kind::all().get(usize::from(number))?)
+    }
+
+    /// Whether the two kinds are one.
+    pub fn same(self, other: Kind) -> bool
+        ensures { IsTrue result ↔ (self ≡ other) }
+    {
+        self.number() == other.number()
     }
 
     /// Whether a call of this kind names a root.
@@ -216,25 +222,91 @@ impl Kind {
     {
         matches!(self.row().category, Category::OneToAll | Category::AllToOne)
     }
+
+    /// Whether the kind has a nonblocking function.
+    pub fn has_nonblocking(self) -> bool
+        ensures { result ≡ has_nonblocking self }
+    {
+        self.row().nonblocking.is_some()
+    }
 }
 
-/// A collective function: of a kind, and blocking or not.
+/// A collective function: of a kind, and blocking or not. Not every kind has a nonblocking one.
 #[derive(Clone, Copy, Debug, PartialEq, Eq)]
 pub struct CollectiveFunction {
-    pub kind: Kind,
-    pub nonblocking: bool,
+    kind: Kind,
+    nonblocking: bool,
+}
+
+impl Model for CollectiveFunction {
+    ghost use Rattle.std.specs.Prelude.{◌≡◌, true};
+    ghost use Rattle.mpi_model.specs.Kinds.{KindFunction, is_function};
+
+    ghost Value = { KindFunction };
+
+    ghost view = { λ f. record { kind = f.kind; nonblocking = f.nonblocking } };
+
+    ghost invariant = { λ f. is_function (record { kind = f.kind; nonblocking = f.nonblocking }) ≡ true };
+
+    ghost inverse = { λ f. record { kind = f.kind; nonblocking = f.nonblocking } };
 }
 
 impl CollectiveFunction {
+    /// The function, or none where the kind has no nonblocking one.
+    pub fn new(kind: Kind, nonblocking: bool) -> Option<CollectiveFunction>
+        ensures { SomeIff result (is_function (record { kind = kind; nonblocking = nonblocking }) ≡ true) (record { kind = kind; nonblocking = nonblocking }) }
+    {
+        if nonblocking && !kind.has_nonblocking() {
+            return None;
+        }
+        Some(CollectiveFunction { kind, nonblocking })
+    }
+
+    /// Tells that there is such a function. It does nothing: it is for proofs.
+    pub fn known(self)
+        ensures { is_function self ≡ true }
+    {
+        let _kind = self.kind;
+    }
+
+    pub fn kind(self) -> Kind
+        ensures { result ≡ self.kind }
+    {
+        self.kind
+    }
+
+    pub fn is_nonblocking(self) -> bool
+        ensures { result ≡ self.nonblocking }
+    {
+        self.nonblocking
+    }
+
     /// Its name, as `MPI_Bcast` or `MPI_Ibcast`.
     pub fn name(self) -> &'static [u8]
         ensures { result.now ≡ function_name self }
     {
         let row = self.kind.row();
         if self.nonblocking {
-            row.nonblocking_function
+            row.nonblocking.unwrap_or(b"")
         } else {
             row.function
         }
+    }
+
+    /// Its name without `MPI_`: in small letters it is its word in a report.
+    pub fn short_name(self) -> &'static [u8]
+        ensures { result.now ≡ short_name self }
+    {
+        match self.name().get(4..) {
+            Some(short) => short,
+            None => b"",
+        }
+    }
+
+    /// Whether the two functions are one.
+    pub fn same(self, other: CollectiveFunction) -> bool
+        ensures { IsTrue result ↔ (self ≡ other) }
+    {
+        self.kind.same(other.kind) && self.nonblocking == other.nonblocking
     }
 }

@@ -1,20 +1,21 @@
-//! The layout of a run: its ranks, its communicators, and how its sends complete.
+//! The layout of a run: its ranks, its communicators, windows and files, and how its sends complete.
 
 ghost use Rattle.std.specs.Prelude.{◌≡◌, ◌≢◌, ◌==◌, ◌<◌, ◌≤◌, IfOk, IfErr, IfSome, OnOk, Some, None, nat_lt, option_and_then, option_map, slice_get};
 ghost use Rattle.std.specs.List.{position_from};
-ghost use Rattle.mpi_model.specs.Communicators.{communicators, ids_with, members_of};
+ghost use Rattle.mpi_model.specs.Communicators.{communicators, ids_with, members_of, object_of_comm};
+ghost use Rattle.mpi_model.specs.Names.{numbered};
 ghost use Rattle.mpi_model.specs.Layouts.{Holds, IsGroup, IsLayout, fault_of, named};
 ghost use Rattle.mpi_model.specs.declared.layout.TheConstants.{MOST_RANKS};
 ghost use Rattle.mpi_model.specs.declared.layout.fault.LayoutFault.TheVariants.{Memory};
 
 use crate::envelope::CommRef;
-use crate::layout::comm::{Comm, comms_of, copies, in_order, members_in, place_of};
+use crate::layout::comm::{Comm, comms_of, copies, in_order, members_in, object_in, place_of};
 use crate::layout::fault::LayoutFault;
 use crate::layout::held::{held_by, held_copied, held_in};
-use crate::layout::names::{
-    Name, names_copied, numbered_in, ordered_names, starts_copied, starts_of,
-};
-use crate::layout::rules::fault_in;
+use crate::layout::names::ordered_names;
+use crate::layout::numbering::Numbering;
+use crate::layout::rules::{SortedNames, fault_in};
+use crate::object::Object;
 use std::alloc::{AllocError, Global};
 use std::marker::Model;
 
@@ -22,12 +23,13 @@ pub(crate) mod comm;
 pub(crate) mod fault;
 mod held;
 mod names;
+mod numbering;
 mod rules;
 
 /// The most ranks of a layout.
 pub const MOST_RANKS: u32 = 1024;
 
-/// The most communicators of a layout.
+/// The most communicators, windows and files of a layout.
 pub const MOST_COMMS: usize = 65_536;
 
 /// How sends of standard mode complete (MPI 4.0, 3.4: a program can't tell which it gets).
@@ -39,24 +41,26 @@ pub enum Sends {
     Buffer,
 }
 
-/// The ranks of a run, its communicators (MPI 4.0, chapter 7), and how its sends complete.
+/// The ranks of a run, its communicators, windows and files (MPI 4.0, chapters 7, 12 and 14), and
+/// how its sends complete.
 #[derive(Debug, Drop)]
 pub struct Layout {
     ranks: u32,
     world: u32,
     sends: Sends,
     comms: Vec<Comm>,
-    names: Vec<Name>,
-    // where the names of each rank begin
-    starts: Vec<usize>,
-    // the communicators that hold each rank
+    // by which numbers ranks name the objects of each sort
+    communicators: Numbering,
+    windows: Numbering,
+    files: Numbering,
+    // the objects that hold each rank
     held: Vec<Vec<u32>>,
 }
 
 impl Model for Layout {
     ghost use Rattle.mpi_model.specs.Layouts.{Parts, IsLayout};
-    ghost use Rattle.mpi_model.specs.Names.{AreNames};
-    ghost use Rattle.mpi_model.specs.Starts.{AreStarts};
+    ghost use Rattle.mpi_model.specs.Starts.{AreNumbered};
+    ghost use Rattle.mpi_model.specs.declared.object.Object.TheVariants.{Communicator, Window, File};
     ghost use Rattle.mpi_model.specs.Held.{AreHeld};
 
     ghost Value = { Parts };
@@ -64,13 +68,17 @@ impl Model for Layout {
     ghost view = { λ l. record { ranks = l.ranks; world = l.world; sends = l.sends; comms = l.comms.items } };
 
     ghost invariant = { λ l. IsLayout (record { ranks = l.ranks; world = l.world; sends = l.sends; comms = l.comms.items })
-        × AreNames l.comms.items l.names.items × AreStarts l.names.items l.starts.items × AreHeld l.comms.items l.held.items };
+        × AreNumbered Communicator l.comms.items l.communicators.names.items l.communicators.starts.items
+        × AreNumbered Window l.comms.items l.windows.names.items l.windows.starts.items
+        × AreNumbered File l.comms.items l.files.names.items l.files.starts.items
+        × AreHeld l.comms.items l.held.items };
 }
 
 impl Layout {
     /// A layout of these parts, or the first of the faults in the order of their numbers, each
     /// tried over the whole layout. `world` is the id of `MPI_COMM_WORLD`; each communicator is
-    /// its id and its members in the order of their ranks in it, who all name it by its id.
+    /// its id and its members in the order of their ranks in it, who all name it by its id. It has
+    /// no windows and no files.
     pub fn new(
         alloc: Global,
         ranks: u32,
@@ -86,7 +94,8 @@ impl Layout {
         Layout::of_comms(alloc, ranks, world, comms_of(alloc, comms)?, sends)
     }
 
-    /// As [`Layout::new`], of communicators that may say by which numbers their members name them.
+    /// As [`Layout::new`], of communicators, windows and files that may say by which numbers their
+    /// members name them.
     pub fn of_comms(
         alloc: Global,
         ranks: u32,
@@ -105,11 +114,25 @@ impl Layout {
         if comms.len() > MOST_COMMS {
             return Err(LayoutFault::CommCount);
         }
-        let names = ordered_names(alloc, &comms)?;
-        if let Some(fault) = fault_in(alloc, &comms, &names, ranks, world)? {
+        let communicators = ordered_names(alloc, Object::Communicator, &comms)?;
+        let windows = ordered_names(alloc, Object::Window, &comms)?;
+        let files = ordered_names(alloc, Object::File, &comms)?;
+        if let Some(fault) = fault_in(
+            alloc,
+            &comms,
+            &SortedNames {
+                communicators: &communicators,
+                windows: &windows,
+                files: &files,
+            },
+            ranks,
+            world,
+        )? {
             return Err(fault);
         }
-        let starts = starts_of(alloc, &names, ranks)?;
+        let communicators = Numbering::of_names(alloc, communicators, ranks)?;
+        let windows = Numbering::of_names(alloc, windows, ranks)?;
+        let files = Numbering::of_names(alloc, files, ranks)?;
         let comms = in_order(comms)?;
         let held = held_in(alloc, &comms, ranks)?;
         Ok(Layout {
@@ -117,8 +140,9 @@ impl Layout {
             world,
             sends,
             comms,
-            names,
-            starts,
+            communicators,
+            windows,
+            files,
             held,
         })
     }
@@ -128,16 +152,18 @@ impl Layout {
         ensures { IfOk result (λ l. l ≡ record self.now { sends = sends }) }
     {
         let comms = copies(alloc, &self.comms)?;
-        let names = names_copied(alloc, &self.names)?;
-        let starts = starts_copied(alloc, &self.starts)?;
+        let communicators = self.communicators.copied(alloc)?;
+        let windows = self.windows.copied(alloc)?;
+        let files = self.files.copied(alloc)?;
         let held = held_copied(alloc, &self.held)?;
         Ok(Layout {
             ranks: self.ranks,
             world: self.world,
             sends,
             comms,
-            names,
-            starts,
+            communicators,
+            windows,
+            files,
             held,
         })
     }
@@ -163,15 +189,15 @@ impl Layout {
         self.sends
     }
 
-    /// The id of the i-th communicator, from 0, in rising order.
+    /// The id of the i-th communicator, window or file, from 0, in rising order.
     pub fn comm_at(&self, i: usize) -> Option<u32>
         ensures { result ≡ option_map (λ g. g.comm) (slice_get self.now.comms i) }
     {
         Some(self.comms.get(i)?.id())
     }
 
-    /// The members of a communicator, ranks of the run in the order of their ranks in it. It
-    /// halves the communicators: where many questions are asked of one, keep the slice.
+    /// The members of a communicator, window or file, ranks of the run in the order of their ranks
+    /// in it. It halves the objects: where many questions are asked of one, keep the slice.
     pub fn members(&self, comm: u32) -> Option<&[u32]>
         ensures value { option_map (λ m. m.now) result ≡ members_of self.now.comms comm }
         ensures group { IfSome result (λ m. IsGroup self.now.ranks m.now) }
@@ -179,14 +205,33 @@ impl Layout {
         members_in(&self.comms, comm)
     }
 
-    /// The communicator that a call of a rank names: the world for each rank of the run, or the one
-    /// that the rank names by this number in this call. It halves the names that the rank gives.
-    pub fn named(&self, rank: u32, call: u64, comm: CommRef) -> Option<u32>
-        ensures { result ≡ named self.now rank call comm }
+    /// The sort of the object of this id.
+    pub fn object(&self, comm: u32) -> Option<Object>
+        ensures { result ≡ object_of_comm self.now.comms comm }
+    {
+        object_in(&self.comms, comm)
+    }
+
+    /// The object that a call of a rank names: the world for each rank of the run, or the one of
+    /// this sort that the rank names by this number in this call. It halves the names that the rank
+    /// gives.
+    pub fn named(&self, rank: u32, call: u64, object: Object, comm: CommRef) -> Option<u32>
+        ensures { result ≡ named self.now rank call object comm }
     {
         match comm {
             CommRef::World => self.has_rank(rank).then_some(self.world),
-            CommRef::Id(number) => { numbered_in(&self.names, &self.starts, rank, call, number) },
+            CommRef::Id(number) => self.numbered(object, rank, call, number),
+        }
+    }
+
+    /// The object of this sort that a number names in a call of a rank.
+    fn numbered(&self, object: Object, rank: u32, call: u64, number: u32) -> Option<u32>
+        ensures { result ≡ numbered object self.now.comms rank call number }
+    {
+        match object {
+            Object::Communicator => self.communicators.named(rank, call, number),
+            Object::Window => self.windows.named(rank, call, number),
+            Object::File => self.files.named(rank, call, number),
         }
     }
 
@@ -204,7 +249,7 @@ impl Layout {
         place_of(members_in(&self.comms, comm)?, rank)
     }
 
-    /// The ids of the communicators that hold the rank, in rising order.
+    /// The ids of the communicators, windows and files that hold the rank, in rising order.
     pub fn comms_with(&self, alloc: Global, rank: u32) -> Result<Vec<u32>, AllocError>
         ensures { IfOk result (λ v. v.items ≡ ids_with rank self.now.comms) }
     {

@@ -188,6 +188,10 @@ impl CallSink for SentTo {
         self.add(call)
     }
 
+    fn on_iprobe(&mut self, call: Call, _enter: Stamp, _exit: Option<Exit>) -> Result<(), Full> {
+        self.add(call)
+    }
+
     fn on_imrecv(&mut self, call: Call, _enter: Stamp, _exit: Option<Exit>) -> Result<(), Full> {
         self.add(call)
     }

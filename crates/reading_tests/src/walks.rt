@@ -9,7 +9,7 @@ use std::fmt::Write;
 use std::test::Fail;
 
 /// A function for each callback, in the order of `Tally`.
-static FUNCTIONS: [&str; 27] = [
+static FUNCTIONS: [&str; 28] = [
     "MPI_Ssend",
     "MPI_Ibsend",
     "MPI_Recv",
@@ -34,9 +34,10 @@ static FUNCTIONS: [&str; 27] = [
     "MPI_Startall",
     "MPI_Mprobe",
     "MPI_Improbe",
+    "MPI_Iprobe",
     "MPI_Imrecv_c",
     "MPI_Isendrecv",
-    "MPI_Iprobe",
+    "MPI_Mrecv",
 ];
 
 /// The parameters of all functions of the profile.
@@ -53,7 +54,7 @@ fn put_call(text: &mut String, function: &str, parameters: &str) -> Result<(), F
 }
 
 /// How often each callback was called, in the order of `FUNCTIONS`.
-fn counts(tally: Tally) -> [u64; 27] {
+fn counts(tally: Tally) -> [u64; 28] {
     [
         tally.on_send,
         tally.on_isend,
@@ -79,6 +80,7 @@ fn counts(tally: Tally) -> [u64; 27] {
         tally.on_startall,
         tally.on_mprobe,
         tally.on_improbe,
+        tally.on_iprobe,
         tally.on_imrecv,
         tally.on_unread,
         tally.on_other,
@@ -86,7 +88,7 @@ fn counts(tally: Tally) -> [u64; 27] {
 }
 
 /// What a walk over two calls of a function counts.
-fn counted(alloc: Global, function: &str) -> Result<[u64; 27], Fail> {
+fn counted(alloc: Global, function: &str) -> Result<[u64; 28], Fail> {
     let mut text = String::new(alloc);
     put_call(&mut text, function, PARAMETERS)?;
     put_call(&mut text, function, PARAMETERS)?;
@@ -98,7 +100,7 @@ fn counted(alloc: Global, function: &str) -> Result<[u64; 27], Fail> {
 #[test]
 fn each_callback_is_counted(rt: HostRuntime) -> Result<(), Fail> {
     for (i, function) in FUNCTIONS.iter().enumerate() {
-        let mut want = [0; 27];
+        let mut want = [0; 28];
         want[i] = 2;
         let found = counted(rt.alloc(), function)?;
         assert!(rt; found == want, "{function}: {found:?}");

@@ -1,6 +1,7 @@
-pub mod Told
 pub mod Adding
 pub mod Lines
-pub mod Refused
-pub mod Places
 pub mod Orders
+pub mod Places
+pub mod Refused
+pub mod Texts
+pub mod Told

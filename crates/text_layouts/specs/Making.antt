@@ -1,23 +1,33 @@
--- Why no layout is made of the calls of all ranks.
-use Rattle.std.specs.Prelude.{◌≡◌, ◌<◌, ◌≤◌, ◌⊎◌, ℕ, List, Some, None, length}
+-- What is made of the calls of all ranks, and why nothing is.
+use Rattle.std.specs.Prelude.{◌≡◌, ◌<◌, ◌≤◌, ◌⊎◌, ◌+◌, ℕ, List, [], ◌∷◌, Some, None, length}
 use Rattle.json.specs.Json.{Json}
 use Rattle.mpi_model.specs.Communicators.{Communicator}
 use Rattle.mpi_model.specs.Layouts.{fault_of}
-use Rattle.mpi_model.specs.declared.layout.Sends.{Sends}
+use Rattle.mpi_model.specs.declared.layout.TheConstants.{MOST_RANKS}
+use Rattle.mpi_model.specs.declared.layout.fault.LayoutFault.{LayoutFault}
+use Rattle.mpi_model.specs.declared.layout.fault.LayoutFault.TheVariants.{RankCount}
+use Rattle.comm_makings.specs.Derived.{IsSound}
 use Rattle.comm_makings.specs.World.{world_fault, world_of}
 use Rattle.comm_makings.specs.declared.answer.DeriveFault.TheVariants as derives
-use Rattle.comm_makings.specs.declared.answer.Derived.{Derived}
 use Rattle.comm_makings.specs.declared.calls.RankCalls.{RankCalls}
-use Rattle.layout_files.specs.Values.{layout_value, line_of, manifest_value, parts_of}
+use Rattle.run_files.specs.Manifests.{ManifestParts, PieceParts, manifest_of_texts, whole_text}
+use Rattle.run_files.specs.Values.{layout_value, line_of, parts_of}
+use Rattle.run_files.specs.declared.input.TheConstants.{LONGEST_FILE}
 use Rattle.text_layouts.specs.Sizes.{size_fault}
-use Rattle.text_layouts.specs.declared.made.TheConstants.{LONGEST_FILE}
 use Rattle.text_layouts.specs.declared.fault.MadeFault.{MadeFault}
 use Rattle.text_layouts.specs.declared.fault.MadeFault.TheVariants as faults
+use Rattle.text_layouts.specs.declared.made.Made.{Made}
 
--- The file of this value: its line, which isn't too long.
-pub record IsFile (value : Json) (file : List ℕ) : Type 0 where
-  pub bytes : file ≡ line_of value
-  pub short : length file ≤ LONGEST_FILE
+-- the whole texts of this rank and of those behind it
+abbrev pub texts_from : ℕ → List (List ℕ) → List PieceParts
+texts_from rank [] = []
+texts_from rank (file ∷ files) = whole_text rank file ∷ texts_from (rank + 1) files
+
+-- the manifest of the whole texts of the ranks 0, 1 and so on
+abbrev pub whole_texts : List (List ℕ) → ManifestParts
+whole_texts files = manifest_of_texts (texts_from 0 files)
+
+-- ---- why nothing is made
 
 -- the number of MPI_COMM_WORLD is refused, unless memory was wanting
 abbrev pub RefusesWorld : List RankCalls → MadeFault → Type 0
@@ -31,9 +41,39 @@ RefusesLayout ranks world comms faults.Memory = Unit {0}
 RefusesLayout ranks world comms (faults.Layout fault) = fault_of ranks world comms ≡ Some fault
 RefusesLayout ranks world comms _ = ⊥
 
--- the value of the layout of so many ranks, with the communicators that were derived
-abbrev pub made_layout : ℕ → Sends → Derived → Json
-made_layout ranks sends derived = layout_value (parts_of ranks derived.world sends derived.comms.items)
+-- there is no rank, or there are more than a layout can have
+abbrev pub AreMiscounted : List RankCalls → Type 0
+AreMiscounted ranks = (length ranks ≡ 0) ⊎ (MOST_RANKS < length ranks)
+
+-- A rule of layouts refuses the communicators that these ranks make.
+pub record RefusesComms (ranks : List RankCalls) (fault : LayoutFault) : Type 0 where
+  pub comms : List Communicator
+  pub sound : IsSound (world_of ranks) ranks comms
+  pub rule : fault_of (length ranks) (world_of ranks) comms ≡ Some fault
+
+-- No two ranks tell different things of MPI_COMM_WORLD: neither of its size nor of its number.
+abbrev pub TellsOneWorld : List RankCalls → Type 0
+TellsOneWorld ranks = (size_fault ranks ≡ None) × (world_fault ranks ≡ None)
+
+-- Why nothing is made: the number of ranks, then the size of the world, then its number, and then the communicators.
+abbrev pub RefusesMaking : List RankCalls → MadeFault → Type 0
+RefusesMaking ranks faults.Memory = Unit {0}
+RefusesMaking ranks (faults.Size rank size) = size_fault ranks ≡ Some (rank, size)
+RefusesMaking ranks (faults.World first second) = (size_fault ranks ≡ None) × (world_fault ranks ≡ Some (derives.World first second))
+RefusesMaking ranks (faults.Layout fault) = ((fault ≡ RankCount) × AreMiscounted ranks) ⊎ (TellsOneWorld ranks × RefusesComms ranks fault)
+RefusesMaking ranks faults.LayoutFile = ⊥
+RefusesMaking ranks faults.ManifestFile = ⊥
+
+-- ---- both files
+
+-- The file of this value: its line, which isn't too long.
+pub record IsFile (value : Json) (file : List ℕ) : Type 0 where
+  pub bytes : file ≡ line_of value
+  pub short : length file ≤ LONGEST_FILE
+
+-- the value of the layout's file, with the communicators in the order in which they were derived
+abbrev pub made_layout : Made → Json
+made_layout made = layout_value (parts_of made.input.layout.ranks made.derived.world made.input.layout.sends made.derived.comms.items)
 
 -- why the file of the layout isn't made: it is too long
 abbrev pub RefusesLayoutFile : Json → MadeFault → Type 0
@@ -46,21 +86,3 @@ abbrev pub RefusesManifestFile : Json → MadeFault → Type 0
 RefusesManifestFile value faults.Memory = Unit {0}
 RefusesManifestFile value faults.ManifestFile = LONGEST_FILE < length (line_of value)
 RefusesManifestFile value _ = ⊥
-
--- Some communicators of these ranks make no layout, by a rule of layouts or since its file is too long.
-pub record RefusesComms (sends : Sends) (ranks : List RankCalls) (fault : MadeFault) : Type 0 where
-  pub comms : List Communicator
-  pub why : RefusesLayout (length ranks) (world_of ranks) comms fault ⊎ RefusesLayoutFile (layout_value (parts_of (length ranks) (world_of ranks) sends comms)) fault
-
--- No two ranks tell different things of MPI_COMM_WORLD: neither of its size nor of its number.
-abbrev pub TellsOneWorld : List RankCalls → Type 0
-TellsOneWorld ranks = (size_fault ranks ≡ None) × (world_fault ranks ≡ None)
-
--- Why no layout is made: the size of the world, then its number, then the communicators, and then the manifest.
-abbrev pub RefusesMaking : Sends → List (List ℕ) → List RankCalls → MadeFault → Type 0
-RefusesMaking sends files ranks faults.Memory = Unit {0}
-RefusesMaking sends files ranks (faults.Size rank size) = size_fault ranks ≡ Some (rank, size)
-RefusesMaking sends files ranks (faults.World first second) = (size_fault ranks ≡ None) × (world_fault ranks ≡ Some (derives.World first second))
-RefusesMaking sends files ranks (faults.Layout fault) = RefusesComms sends ranks (faults.Layout fault)
-RefusesMaking sends files ranks faults.LayoutFile = TellsOneWorld ranks × RefusesComms sends ranks faults.LayoutFile
-RefusesMaking sends files ranks faults.ManifestFile = TellsOneWorld ranks × (LONGEST_FILE < length (line_of (manifest_value files)))

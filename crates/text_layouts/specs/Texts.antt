@@ -1,4 +1,4 @@
--- What a whole text says of communicators.
+-- What a whole text says of communicators, windows and files.
 use Rattle.std.specs.Prelude.{◌≡◌, ℕ, List, Option, length}
 use Rattle.dumpi_text.specs.Call.{TextCall}
 use Rattle.dumpi_text.specs.Grammar.{Complete}
@@ -18,7 +18,9 @@ pub record AreOfRank (read : ReadCalls) (rank : RankCalls) : Type 0 where
   pub own : rank.own ≡ read.own
   pub size : rank.size ≡ read.size
   pub calls : rank.calls.items ≡ read.calls
-  pub uses : rank.uses.items ≡ read.uses
+  pub uses : rank.uses.items ≡ read.uses.groups
+  pub windows : rank.windows.items ≡ read.windows.groups
+  pub files : rank.files.items ≡ read.files.groups
 
 -- All calls that the text means were read, where it is told, and they say this of communicators.
 pub record IsReadFrom (text : Option (List ℕ)) (rank : RankCalls) (walked : Walked) : Type 0 where

@@ -4,6 +4,8 @@ use Rattle.std.specs.List.{flat_map}
 use Rattle.call_words.specs.More.{more_text}
 use Rattle.call_words.specs.Ranges.{named_ranks_text}
 use Rattle.mpi_model.specs.Communicators.{Communicator}
+use Rattle.mpi_model.specs.declared.object.Object.{Object}
+use Rattle.mpi_model.specs.declared.object.Object.TheVariants as objects
 use Rattle.comm_makings.specs.declared.answer.LeftOut.{LeftOut}
 use Rattle.comm_makings.specs.declared.answer.MadeBy.{MadeBy}
 use Rattle.comm_makings.specs.declared.answer.MadeBy.TheVariants as makers
@@ -15,11 +17,17 @@ use Rattle.text_layouts.specs.declared.words.TheConstants.{MOST_SHOWN}
 abbrev pub counts_text : ℕ → ℕ → List ℕ
 counts_text ranks calls = codes "ranks: " ++ decimal ranks ++ codes ", calls: " ++ decimal calls ++ codes "\n"
 
--- `  5: ranks 0, 2`, the members in their order
-abbrev pub comm_text : Communicator → List ℕ
-comm_text g = codes "  " ++ decimal g.comm ++ codes ": " ++ named_ranks_text g.members ++ codes "\n"
+-- the sort of object; nothing of a communicator
+abbrev pub sort_text : Object → List ℕ
+sort_text objects.Communicator = []
+sort_text objects.Window = codes "window "
+sort_text objects.File = codes "file "
 
--- how many communicators there are, and the first twenty of them
+-- `  5: ranks 0, 2`, the members in their order, or `  window 9: ranks 0, 1`
+abbrev pub comm_text : Communicator → List ℕ
+comm_text g = codes "  " ++ sort_text g.object ++ decimal g.comm ++ codes ": " ++ named_ranks_text g.members ++ codes "\n"
+
+-- how many communicators, windows and files there are, and the first twenty of them
 abbrev pub comms_text : List Communicator → List ℕ
 comms_text comms = codes "communicators: " ++ decimal (length comms) ++ codes "\n"
     ++ flat_map comm_text (take MOST_SHOWN comms) ++ more_text (length comms - MOST_SHOWN)

@@ -20,7 +20,7 @@ pub enum MadeFault {
     /// The layout would break a rule of layouts.
     #[error("{0}")]
     Layout(LayoutFault),
-    /// The layout's file would have more than [`LONGEST_FILE`](crate::LONGEST_FILE) bytes.
+    /// The layout's file would have more than [`LONGEST_FILE`](run_files::LONGEST_FILE) bytes.
     #[error("the layout has more than 16777216 bytes")]
     LayoutFile,
     /// The manifest's file would have more than that.

@@ -1,14 +1,16 @@
-//! From the texts of all ranks to the files of a layout and a manifest.
+//! From the texts of all ranks to the input of a run: a layout and a manifest.
 //!
-//! It opens no file: a text is any reader, and what is written is bytes in memory.
+//! It opens no file: a text is any reader, and the bytes of both files, which only `init` asks for, are in memory.
 //!
 //! - [`text`]: what one text says of communicators; [`order`]: which text is of which rank, by the files' names
 //! - [`size`]: whether the texts are those of all ranks, by the size of the world that they tell
-//! - [`made`]: from what all texts say to the layout and both files; [`fault`]: why there are none
+//! - [`made`]: from what all texts say to the input of a run; [`fault`]: why there is none
+//! - [`files`]: the bytes of its two files
 //! - [`words`]: what is said of them to a person
 #![tactic(auto)]
 
 mod fault;
+mod files;
 mod made;
 mod order;
 mod size;
@@ -16,7 +18,8 @@ mod text;
 mod words;
 
 pub use fault::MadeFault;
-pub use made::{LONGEST_FILE, Made, made_of};
+pub use files::{layout_file_of, manifest_file_of};
+pub use made::{Made, made_of};
 pub use order::{Order, order_of};
 pub use text::rank_calls_of;
 pub use words::{MOST_SHOWN, put_notes};

@@ -1,32 +1,26 @@
-//! From what all texts say to a layout and a manifest, and the bytes of their files.
+//! From what all texts say to a layout and a manifest.
 
 ghost use Rattle.std.specs.Prelude.{◌≡◌, ◌<◌, ◌^◌, IfErr, IfOk, None, OnOk, length, map, string_bytes};
 ghost use Rattle.mpi_model.specs.Layouts.{Holds, fault_of};
+ghost use Rattle.comm_makings.specs.Derived.{IsSound};
 ghost use Rattle.comm_makings.specs.World.{world_fault, world_of};
-ghost use Rattle.layout_files.specs.Values.{line_of, manifest_value};
-ghost use Rattle.text_layouts.specs.Sizes.{other_size, size_fault};
-ghost use Rattle.text_layouts.specs.Making.{IsFile, RefusesLayout, RefusesLayoutFile, RefusesMaking, RefusesManifestFile, RefusesWorld, made_layout};
+ghost use Rattle.text_layouts.specs.Sizes.{size_fault};
+ghost use Rattle.text_layouts.specs.Making.{RefusesLayout, RefusesMaking, RefusesWorld, texts_from, whole_texts};
 
 use crate::fault::MadeFault;
 use crate::size::other_size;
 use comm_makings::{DeriveFault, Derived, RankCalls, derive};
-use layout_files::{layout_bytes, manifest_bytes};
 use mpi_model::{Comm, Layout, LayoutFault, MOST_RANKS, Sends, Stretch};
+use run_files::{Manifest, Piece, RunInput};
 use std::alloc::{AllocError, Global};
-
-/// The most bytes of a layout's or a manifest's file.
-pub const LONGEST_FILE: usize = 16_777_216;
 
 /// What is made of the texts of all ranks.
 #[derive(Drop)]
 pub struct Made {
+    /// What a run over the texts reads.
+    pub input: RunInput,
     /// The communicators, and what is left out.
     pub derived: Derived,
-    pub layout: Layout,
-    /// The bytes of the layout's file.
-    pub layout_file: Vec<u8>,
-    /// The bytes of the manifest's file.
-    pub manifest_file: Vec<u8>,
 }
 
 fn copy_of_members(alloc: Global, members: &[u32]) -> Result<Vec<u32>, AllocError>
@@ -57,6 +51,7 @@ fn copy_of(alloc: Global, comm: &Comm) -> Result<Comm, AllocError>
     let numbers = copy_of_numbers(alloc, &comm.numbers)?;
     Ok(Comm {
         id: comm.id,
+        object: comm.object,
         members,
         numbers,
     })
@@ -78,6 +73,7 @@ fn derived_of(alloc: Global, ranks: &[RankCalls]) -> Result<Derived, MadeFault>
     requires { length ranks.now < 2 ^ 32 }
     ensures world { IfOk result (λ d. d.world ≡ world_of ranks.now) }
     ensures none { OnOk result (world_fault ranks.now ≡ None) }
+    ensures sound { IfOk result (λ d. IsSound (world_of ranks.now) ranks.now d.comms.items) }
     ensures fault { IfErr result (λ e. RefusesWorld ranks.now e) }
 {
     match derive(alloc, ranks) {
@@ -106,53 +102,40 @@ fn layout_of(
     }
 }
 
-/// The bytes of the layout's file, where it isn't too long.
-fn layout_file_of(
-    alloc: Global,
-    ranks: u32,
-    sends: Sends,
-    derived: &Derived,
-) -> Result<Vec<u8>, MadeFault>
-    ensures ok { IfOk result (λ file. IsFile (made_layout ranks sends derived.now) file.items) }
-    ensures fault { IfErr result (λ e. RefusesLayoutFile (made_layout ranks sends derived.now) e) }
+/// The whole texts of the ranks 0, 1 and so on, by the names of their files.
+#[tactic(auto, using(crate::proofs::Texts::one_text_more, crate::proofs::Texts::all_texts))]
+fn texts_of(alloc: Global, files: &[String]) -> Result<Vec<Piece>, AllocError>
+    requires { length files.now < 2 ^ 32 }
+    ensures { IfOk result (λ pieces. pieces.items ≡ texts_from 0 (map string_bytes files.now)) }
 {
-    let file = layout_bytes(alloc, ranks, derived.world, sends, &derived.comms)?;
-    if file.len() > LONGEST_FILE {
-        return Err(MadeFault::LayoutFile);
+    let mut texts = Vec::with_capacity(alloc, files.len())?;
+    let mut rank = 0u32;
+    for file in files {
+        texts.push(Piece::whole(rank, file.as_str().to_string(alloc)?))?;
+        rank += 1;
     }
-    Ok(file)
-}
-
-/// The bytes of the manifest's file, where it isn't too long.
-fn manifest_file_of(alloc: Global, files: &[String]) -> Result<Vec<u8>, MadeFault>
-    ensures ok { IfOk result (λ file. IsFile (manifest_value (map string_bytes files.now)) file.items) }
-    ensures fault { IfErr result (λ e. RefusesManifestFile (manifest_value (map string_bytes files.now)) e) }
-{
-    let file = manifest_bytes(alloc, files)?;
-    if file.len() > LONGEST_FILE {
-        return Err(MadeFault::ManifestFile);
-    }
-    Ok(file)
+    Ok(texts)
 }
 
 /// The layout of the ranks whose calls these are, with the communicators that they make, and the manifest of their texts'
 /// files, by rank. Nothing is made of no rank, of more than a layout can have, or where a rank tells another size of
 /// MPI_COMM_WORLD (MPI 4.0, 7.4.1).
-#[tactic(auto, using(crate::proofs::Refused::by_count, crate::proofs::Refused::by_world, crate::proofs::Refused::by_layout, crate::proofs::Refused::by_file, crate::proofs::Refused::by_manifest))]
+#[tactic(auto, using(crate::proofs::Refused::by_count, crate::proofs::Refused::by_world, crate::proofs::Refused::by_layout))]
 pub fn made_of(
     alloc: Global,
     sends: Sends,
     files: &[String],
     ranks: &[RankCalls],
 ) -> Result<Made, MadeFault>
+    requires { length files.now < 2 ^ 32 }
     ensures world { IfOk result (λ m. m.derived.world ≡ world_of ranks.now) }
     ensures told { OnOk result (world_fault ranks.now ≡ None) }
     ensures sizes { OnOk result (size_fault ranks.now ≡ None) }
-    ensures layout { IfOk result (λ m. Holds (length ranks.now) m.derived.world sends m.derived.comms.items m.layout) }
+    ensures sound { IfOk result (λ m. IsSound (world_of ranks.now) ranks.now m.derived.comms.items) }
+    ensures layout { IfOk result (λ m. Holds (length ranks.now) m.derived.world sends m.derived.comms.items m.input.layout) }
     ensures rules { IfOk result (λ m. fault_of (length ranks.now) m.derived.world m.derived.comms.items ≡ None) }
-    ensures layout_file { IfOk result (λ m. IsFile (made_layout (length ranks.now) sends m.derived) m.layout_file.items) }
-    ensures manifest_file { IfOk result (λ m. IsFile (manifest_value (map string_bytes files.now)) m.manifest_file.items) }
-    ensures fault { IfErr result (RefusesMaking sends (map string_bytes files.now) ranks.now) }
+    ensures manifest { IfOk result (λ m. m.input.manifest ≡ whole_texts (map string_bytes files.now)) }
+    ensures fault { IfErr result (RefusesMaking ranks.now) }
 {
     if ranks.is_empty() || ranks.len() > MOST_RANKS as usize {
         return Err(MadeFault::Layout(LayoutFault::RankCount));
@@ -163,12 +146,8 @@ pub fn made_of(
     }
     let derived = derived_of(alloc, ranks)?;
     let layout = layout_of(alloc, count, sends, &derived)?;
-    let layout_file = layout_file_of(alloc, count, sends, &derived)?;
-    let manifest_file = manifest_file_of(alloc, files)?;
-    Ok(Made {
-        derived,
-        layout,
-        layout_file,
-        manifest_file,
-    })
+    let texts = texts_of(alloc, files)?;
+    let manifest = Manifest::of_texts(alloc, texts);
+    let input = RunInput { layout, manifest };
+    Ok(Made { input, derived })
 }

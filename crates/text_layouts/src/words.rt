@@ -4,11 +4,11 @@ ghost use Rattle.std.specs.Prelude.{◌≡◌, ◌-◌, length, take};
 ghost use Rattle.std.specs.List.{flat_map};
 ghost use Rattle.call_words.specs.Texts.{Adds};
 ghost use Rattle.text_layouts.specs.declared.words.TheConstants.{MOST_SHOWN};
-ghost use Rattle.text_layouts.specs.Words.{comm_text, comms_text, counts_text, function_text, given_text, left_out_text, left_text, notes_text, some_left_text, why_text};
+ghost use Rattle.text_layouts.specs.Words.{comm_text, comms_text, counts_text, function_text, given_text, left_out_text, left_text, notes_text, some_left_text, sort_text, why_text};
 
 use call_words::{Text, put_more, put_named_ranks};
 use comm_makings::{Derived, LeftOut, MadeBy, Why};
-use mpi_model::Comm;
+use mpi_model::{Comm, Object};
 
 /// How many lines of a kind are written.
 pub const MOST_SHOWN: usize = 20;
@@ -24,18 +24,30 @@ fn shown<T>(items: &[T]) -> &[T]
     }
 }
 
-/// `  5: ranks 0, 2`, the members in their order.
+/// Which sort of object it is; nothing of a communicator.
+fn put_sort(out: &mut Text, object: Object)
+    ensures { Adds out.old out.new (sort_text object) }
+{
+    match object {
+        Object::Communicator => out.put(b""),
+        Object::Window => out.put(b"window "),
+        Object::File => out.put(b"file "),
+    }
+}
+
+/// `  5: ranks 0, 2`, the members in their order, or `  window 9: ranks 0, 1`.
 fn put_comm(out: &mut Text, comm: &Comm)
     ensures { Adds out.old out.new (comm_text comm.now) }
 {
     out.put(b"  ");
+    put_sort(out, comm.object);
     out.put_number(comm.id as u64);
     out.put(b": ");
     put_named_ranks(out, &comm.members);
     out.put(b"\n");
 }
 
-/// The line of each communicator.
+/// The line of each communicator, window and file.
 fn put_each_comm(out: &mut Text, comms: &[Comm])
     ensures { Adds out.old out.new (flat_map comm_text comms.now) }
 {
@@ -44,7 +56,7 @@ fn put_each_comm(out: &mut Text, comms: &[Comm])
     }
 }
 
-/// How many communicators there are, and the first twenty of them.
+/// How many communicators, windows and files there are, and the first twenty of them.
 fn put_comms(out: &mut Text, comms: &[Comm])
     ensures { Adds out.old out.new (comms_text comms.now) }
 {

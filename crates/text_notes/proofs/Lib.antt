@@ -4,5 +4,5 @@ pub mod Fronts
 pub mod Lines
 pub mod NotedMore
 pub mod Walking
-pub mod Said
 pub mod Values
+pub mod Looked

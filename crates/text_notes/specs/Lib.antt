@@ -5,3 +5,5 @@ pub mod Starts
 pub mod Words
 pub mod Whole
 pub mod Values
+pub mod Sites
+pub mod Looks

@@ -204,7 +204,7 @@ kind_text kind notes = flat_map (line_text kind) (take MOST_SHOWN (of_kind kind 
 abbrev pub notes_text : List NoteParts → List ℕ
 notes_text notes = functions_text (totals_of notes) ++ kind_text Unread notes ++ kind_text Callless notes ++ kind_text Skipped notes
 
--- ---- where stuck calls stand
+-- ---- where calls stand
 
 -- the text has the call of this number of a rank
 abbrev pub has_call : ℕ → ℕ → NoteParts → Bool
@@ -217,24 +217,3 @@ note_of rank call notes = first_where (has_call rank call) notes
 -- the line where a call of this number of the text begins, where it is told: the last call's, unless it has returned
 abbrev pub line_in_note : ℕ → NoteParts → Option ℕ
 line_in_note number note = if number + 1 == note.calls then note.unfinished else None
-
--- a call of a rank in a file, and the line where it begins, where that is told
-pub record PlaceParts : Type 0 where
-  pub rank : ℕ
-  pub call : ℕ
-  pub file : List ℕ
-  pub line : Option ℕ
-
--- at which line a call stands, where that is known
-abbrev pub at_line_text : Option ℕ → List ℕ
-at_line_text None = []
-at_line_text (Some line) = codes ":" ++ decimal line
-
--- `  rank 1, call 1: r1.txt:4711`
-abbrev pub place_text : PlaceParts → List ℕ
-place_text p = codes "  rank " ++ decimal p.rank ++ codes ", call " ++ decimal p.call ++ codes ": " ++ p.file ++ at_line_text p.line ++ codes "\n"
-
--- the places that are shown, and how many more stuck calls there are
-abbrev pub places_text : List PlaceParts → ℕ → List ℕ
-places_text [] more = []
-places_text (p ∷ places) more = codes "\nThe stuck calls in the texts:\n" ++ flat_map place_text (p ∷ places) ++ more_text more

@@ -5,18 +5,21 @@
 //!
 //! - [`function`]: a function whose calls aren't read; [`noting`]: the sink; [`note`]: what was noted of one text;
 //!   [`start`]: what a text without calls is taken for
-//! - [`totals`]: the functions of all texts; [`pieceless`]: the ranks without a text; [`place`]: where a call stands
-//! - [`value`]: a second look at a text, at what it has for a parameter of a call
+//! - [`totals`]: the functions of all texts; [`pieceless`]: the ranks without a text
+//! - [`value`]: a second look at a text, at what it has for a parameter of a call; [`look`]: one at many calls, by a sink
+//!   ([`looking`]) that keeps from where in the program they were made ([`site`])
 //! - [`words`]: what is said of it
 //! - [`laws`]: that a walk into the sink collects what one without notes does
 #![tactic(auto)]
 
 mod function;
 mod laws;
+mod look;
+mod looking;
 mod note;
 mod noting;
 mod pieceless;
-mod place;
+mod site;
 mod start;
 mod totals;
 mod value;
@@ -24,11 +27,12 @@ mod words;
 
 pub use function::UnreadFunction;
 pub use laws::noted_texts;
+pub use look::{Look, look_at};
 pub use note::{TextNote, note_of};
 pub use noting::Noting;
 pub use pieceless::put_pieceless;
-pub use place::CallPlace;
+pub use site::CallSite;
 pub use start::{LONGEST_FRONT, Start, start_of};
 pub use totals::MOST_SHOWN;
 pub use value::{LookFault, value_at};
-pub use words::{put_notes, put_places};
+pub use words::put_notes;

@@ -220,6 +220,12 @@ impl CallSink for Noting {
         Ok(())
     }
 
+    fn on_iprobe(&mut self, call: Call, enter: Stamp, exit: Option<Exit>) -> Result<(), Memory> {
+        self.collect.on_iprobe(call, enter, exit)?;
+        self.calls = self.calls.saturating_add(1);
+        Ok(())
+    }
+
     fn on_imrecv(&mut self, call: Call, enter: Stamp, exit: Option<Exit>) -> Result<(), Memory> {
         self.collect.on_imrecv(call, enter, exit)?;
         self.calls = self.calls.saturating_add(1);

@@ -18,6 +18,8 @@ pub enum LookFault {
     Memory,
     /// Its reader failed.
     Read,
+    /// One of its lines or calls is refused: it isn't as it was when it was read.
+    Refused,
 }
 
 impl From<AllocError> for LookFault {
@@ -52,7 +54,7 @@ fn next_call<R: Read>(texts: &mut Texts<R>, raw: &mut RawCall) -> Result<bool, L
 }
 
 /// A copy of a value, where there is one.
-fn copied(alloc: Global, value: Option<&[u8]>) -> Result<Option<Vec<u8>>, AllocError>
+pub(crate) fn copied(alloc: Global, value: Option<&[u8]>) -> Result<Option<Vec<u8>>, AllocError>
     ensures { IfOk result (λ copy. option_map (λ v. v.items) copy ≡ option_copied value.entry) }
 {
     match value {

@@ -3,12 +3,11 @@
 ghost use Rattle.std.specs.Prelude.{◌≡◌, IfOk, if◌then◌else◌, nat_lt, [], ◌∷◌};
 ghost use Rattle.std.specs.List.{flat_map};
 ghost use Rattle.call_words.specs.Texts.{Adds};
-ghost use Rattle.text_notes.specs.Words.{at_line_text, byte_text, callless_text, count_text, first_skipped_text, functions_text, guess_text, has_kind, has_unread, kind_text, line_text, name_text, next_text, notes_text, others_text, place_text, places_text, skipped_text, start_text, totals_of, totals_text, unread_text};
+ghost use Rattle.text_notes.specs.Words.{byte_text, callless_text, count_text, first_skipped_text, functions_text, guess_text, has_kind, has_unread, kind_text, line_text, name_text, next_text, notes_text, others_text, skipped_text, start_text, totals_of, totals_text, unread_text};
 ghost use Rattle.text_notes.specs.declared.totals.TheConstants.{MOST_SHOWN};
 
 use crate::function::UnreadFunction;
 use crate::note::TextNote;
-use crate::place::CallPlace;
 use crate::start::Start;
 use crate::totals::{MOST_SHOWN, Totals, totals_of};
 use call_words::{Text, put_more};
@@ -245,49 +244,4 @@ pub fn put_notes(alloc: Global, out: &mut Text, notes: &[TextNote])
     put_kind(out, Kind::Unread, notes);
     put_kind(out, Kind::Callless, notes);
     put_kind(out, Kind::Skipped, notes);
-}
-
-/// At which line a call stands, where that is known.
-fn put_at_line(out: &mut Text, line: Option<u64>)
-    ensures { Adds out.old out.new (at_line_text line) }
-{
-    if let Some(line) = line {
-        out.put(b":");
-        out.put_number(line);
-    }
-}
-
-/// `  rank 1, call 1: r1.txt:4711`.
-fn put_place(out: &mut Text, place: &CallPlace)
-    ensures { Adds out.old out.new (place_text place.now) }
-{
-    out.put(b"  rank ");
-    out.put_number(place.rank() as u64);
-    out.put(b", call ");
-    out.put_number(place.call());
-    out.put(b": ");
-    out.put(place.file());
-    put_at_line(out, place.line());
-    out.put(b"\n");
-}
-
-/// The line of each place.
-fn put_each_place(out: &mut Text, places: &[CallPlace])
-    ensures { Adds out.old out.new (flat_map place_text places.now) }
-{
-    for place in places {
-        put_place(out, place);
-    }
-}
-
-/// Says where calls stand in the texts, below a head, and how many more there are that are not named. Nothing is said of
-/// no call.
-pub fn put_places(out: &mut Text, places: &[CallPlace], more: usize)
-    ensures { Adds out.old out.new (places_text places.now more) }
-{
-    if !places.is_empty() {
-        out.put(b"\nThe stuck calls in the texts:\n");
-        put_each_place(out, places);
-        put_more(out, more);
-    }
 }

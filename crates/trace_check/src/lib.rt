@@ -23,3 +23,4 @@ mod tables;
 mod verdict;
 
 pub use checker::Checker;
+pub use lines::check_lines;

@@ -15,7 +15,7 @@ use trace_stuck::{Condition, Verdict};
 /// The two lines of a check: whether both tables are the same, and whether the verdict is right for these
 /// states and conditions; the counts are those of the first table and of the verdict. With them comes
 /// whether both say so.
-pub(crate) fn check_lines(
+pub fn check_lines(
     alloc: Global,
     first: &PairTable,
     second: &PairTable,

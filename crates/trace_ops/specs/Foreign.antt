@@ -1,10 +1,11 @@
--- The communicators that calls name, and the calls that the layout doesn't know.
+-- The objects that calls name: communicators, windows and files; and the calls that the layout doesn't know.
 use Rattle.std.specs.Prelude.{ℕ, Bool, true, ◌&&◌, ◌||◌, not, nat_lt, if◌then◌else◌, Option, Some, None, is_some, is_none, List, length}
 use Rattle.std.specs.Option.{option_map, option_and_then}
 use Rattle.mpi_model.specs.declared.envelope.Peer.{Peer}
 use Rattle.mpi_model.specs.declared.envelope.Peer.TheVariants as peers
 use Rattle.mpi_model.specs.declared.envelope.CommRef.{CommRef}
-use Rattle.mpi_model.specs.Calls.{comm_of}
+use Rattle.mpi_model.specs.Calls.{comm_of, object_of}
+use Rattle.mpi_model.specs.declared.object.Object.{Object}
 use Rattle.mpi_model.specs.declared.call.Call.{Call}
 use Rattle.mpi_model.specs.declared.call.Call.TheVariants as calls
 use Rattle.mpi_model.specs.Kinds.{has_root}
@@ -12,20 +13,20 @@ use Rattle.mpi_model.specs.Ranges.{CollectiveCall}
 use Rattle.mpi_model.specs.Communicators.{members_of}
 use Rattle.mpi_model.specs.Layouts.{Parts, named}
 
--- The group of a communicator, and the communicator's id in the layout: ranks of the trace in the order of their ranks in
--- the group (MPI 4.0, 7.2.1).
+-- The group of an object, and the object's id in the layout: ranks of the trace in the order of their ranks in the group (MPI
+-- 4.0, 7.2.1).
 pub record Group : Type 0 where
   pub comm : ℕ
   pub members : List ℕ
 
--- the group of the communicator that has this id in the layout
+-- the group of the object that has this id in the layout
 abbrev pub group_at : Parts → ℕ → Option Group
 group_at layout comm = option_map (λ members. record { comm = comm; members = members }) (members_of layout.comms comm)
 
--- The group of the communicator that call n of a rank names. It has one just where the layout says that the rank, which is
--- then a member, names a communicator so in that call.
-abbrev pub group_named : Parts → ℕ → ℕ → CommRef → Option Group
-group_named layout rank n comm = option_and_then (group_at layout) (named layout rank n comm)
+-- The group of the object of this sort that call n of a rank names. It has one just where the layout says that the rank, which
+-- is then a member, names an object of the sort so in that call.
+abbrev pub group_named : Parts → ℕ → ℕ → Object → CommRef → Option Group
+group_named layout rank n object comm = option_and_then (group_at layout) (named layout rank n object comm)
 
 -- the rank in the group that a peer names
 abbrev pub peer_rank : Peer → Option ℕ
@@ -57,18 +58,19 @@ are_within members (calls.SendInit mode e) = is_within members (peer_rank e.peer
 are_within members (calls.RecvInit e) = is_within members (peer_rank e.peer)
 are_within members (calls.Mprobe e) = is_within members (peer_rank e.source)
 are_within members (calls.Improbe e) = is_within members (peer_rank e.source)
+are_within members (calls.Iprobe e) = is_within members (peer_rank e.source)
 are_within members call = true
 
 -- the group, where the ranks that the call names are within it
 abbrev pub group_with : Call → Group → Option Group
 group_with call g = if are_within g.members call then Some g else None
 
--- The group in which a call takes part: that of the communicator which it names, where its peers or its root are within.
+-- The group in which a call takes part: that of the object which it names, where its peers or its root are within.
 abbrev pub group_of : Parts → ℕ → ℕ → Call → Option Group
-group_of layout rank n call = option_and_then (group_with call) (option_and_then (group_named layout rank n) (comm_of call))
+group_of layout rank n call = option_and_then (group_with call) (option_and_then (group_named layout rank n (object_of call)) (comm_of call))
 
--- A foreign call: it names a communicator, and takes part in no group. The layout gives its rank no such communicator, or
--- its peer or root is outside. A Sendrecv is foreign as a whole.
+-- A foreign call: it names an object, and takes part in no group. The layout gives its rank no such communicator, window or
+-- file, or its peer or root is outside. A Sendrecv is foreign as a whole.
 abbrev pub is_foreign_in : Option Group → Call → Bool
 is_foreign_in g call = is_some (comm_of call) && is_none g
 

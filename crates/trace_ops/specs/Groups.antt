@@ -3,6 +3,7 @@ use Rattle.std.specs.Prelude.{◌≡◌, ℕ, Option}
 use Rattle.std.specs.Option.{option_map}
 use Rattle.trace_ops.specs.declared.group.Group.{Group as Lent}
 use Rattle.mpi_model.specs.declared.envelope.CommRef.TheVariants.{World}
+use Rattle.mpi_model.specs.declared.object.Object.TheVariants.{Communicator}
 use Rattle.mpi_model.specs.Layouts.{Parts}
 use Rattle.trace_ops.specs.Foreign.{Group, group_named}
 
@@ -16,4 +17,4 @@ plain_group g = option_map plain g
 
 -- the group of the world, as all calls of a rank name it
 abbrev pub IsWorldOf : Parts → ℕ → Option Lent → Type 0
-IsWorldOf layout rank world = plain_group world ≡ group_named layout rank 0 World
+IsWorldOf layout rank world = plain_group world ≡ group_named layout rank 0 Communicator World

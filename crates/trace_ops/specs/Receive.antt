@@ -13,6 +13,7 @@ use Rattle.mpi_model.specs.declared.message.Trust.{Trust}
 use Rattle.mpi_model.specs.declared.message.Trust.TheVariants.{Sure}
 use Rattle.mpi_model.specs.declared.outcome.Outs.{Outs}
 use Rattle.mpi_model.specs.declared.outcome.Outs.TheVariants.{Flag}
+use Rattle.mpi_model.specs.declared.object.Object.TheVariants.{Communicator}
 use Rattle.mpi_model.specs.Layouts.{Parts}
 use Rattle.mpi_model.specs.Ranges.{Probed}
 use Rattle.trace_ops.specs.Ended.{ended_of_own, ended_of_post}
@@ -56,7 +57,7 @@ probed_in rank n e g = taken_with g (record { rank = rank; call = n; part = 0 })
 
 -- The receive as which a probe looks for a message: with its source, or untold where it names any. It takes nothing.
 abbrev pub probed : Parts → ℕ → ℕ → Probed → Option Receive
-probed layout rank n e = option_and_then (probed_in rank n e) (group_named layout rank n e.comm)
+probed layout rank n e = option_and_then (probed_in rank n e) (group_named layout rank n Communicator e.comm)
 
 -- the most elements that an `int` counts; a matched probe names no count, and takes a message of any (MPI 4.0, 3.8.2)
 abbrev pub any_count : ℕ

@@ -5,13 +5,14 @@ use Rattle.mpi_model.specs.declared.call.Call.{Call}
 use Rattle.mpi_model.specs.declared.call.Call.TheVariants.{Collective, Icollective}
 use Rattle.mpi_model.specs.declared.kind.Kind.{Kind}
 use Rattle.mpi_model.specs.declared.kind.Kind.TheVariants.{Barrier}
+use Rattle.mpi_model.specs.Kinds.{row}
 use Rattle.mpi_model.specs.Ranges.{CollectiveCall}
 use Rattle.mpi_model.specs.Layouts.{Parts}
 use Rattle.trace_ops.specs.declared.entered.Entered.{Entered}
 use Rattle.trace_ops.specs.Foreign.{Group, group_of}
 use Rattle.trace_ops.specs.Steps.{Step}
 
--- the entry of a collective call into a round of its communicator
+-- the entry of a collective call into a round of its object
 abbrev pub entry_of : Group → ℕ → CollectiveCall → Bool → Entered
 entry_of g n c nonblocking = record { comm = g.comm; function = record { kind = c.kind; nonblocking = nonblocking }; root = c.root; call = n }
 
@@ -42,3 +43,7 @@ is_barrier_kind kind = false
 -- A Barrier, which no member leaves before all have entered it (MPI 4.0, 6.3). An Ibarrier may return at once (6.12.1).
 abbrev pub is_barrier : Entered → Bool
 is_barrier x = is_barrier_kind x.function.kind && not x.function.nonblocking
+
+-- a collective communication, blocking or not (MPI 4.0, 6)
+abbrev pub is_communication : Entered → Bool
+is_communication x = (row x.function.kind).is_communication

@@ -1,31 +1,32 @@
-//! The communicators that calls name, and the calls that the layout doesn't know.
+//! The objects that calls name, communicators, windows and files, and the calls that the layout doesn't know.
 
 ghost use Rattle.std.specs.Prelude.{◌≡◌};
 ghost use Rattle.trace_ops.specs.Foreign.{are_within, group_named, group_of, is_foreign, is_foreign_in, is_root_within, is_within, peer_rank};
 ghost use Rattle.trace_ops.specs.Groups.{IsWorldOf, plain_group};
 
-use mpi_model::{Call, Collective, CommRef, Layout, Peer};
+use mpi_model::{Call, Collective, CommRef, Layout, Object, Peer};
 
-/// The group of a communicator: ranks of the trace in the order of their ranks in it (MPI 4.0,
+/// The group of an object: ranks of the trace in the order of their ranks in it (MPI 4.0,
 /// 7.2.1).
 #[derive(Clone, Copy, Debug)]
 pub(crate) struct Group<'a> {
-    /// The communicator's id in the layout.
+    /// The object's id in the layout.
     pub comm: u32,
     pub members: &'a [u32],
 }
 
-/// The group of the communicator that call `n` of the rank names, where the layout has one.
+/// The group of the object of this sort that call `n` of the rank names, where the layout has one.
 #[inline(always)]
 pub(crate) fn group_named<'a>(
     layout: &'a Layout,
     rank: u32,
     n: u64,
+    object: Object,
     comm: CommRef,
 ) -> Option<Group<'a>>
-    ensures { plain_group result ≡ group_named layout.now rank n comm }
+    ensures { plain_group result ≡ group_named layout.now rank n object comm }
 {
-    let comm = layout.named(rank, n, comm)?;
+    let comm = layout.named(rank, n, object, comm)?;
     let members = layout.members(comm)?;
     Some(Group { comm, members })
 }
@@ -73,8 +74,9 @@ fn are_within(members: &[u32], call: &Call) -> bool
             is_within(members, peer_rank(both.send().peer))
                 && is_within(members, peer_rank(both.receive().peer))
         }
-        Call::Collective(c) | Call::Icollective(c) => is_root_within(members, *c),
-        Call::Probe(e) | Call::Mprobe(e) | Call::Improbe(e) => {
+        Call::Collective(c) => is_root_within(members, *c),
+        Call::Icollective(c) => is_root_within(members, c.call()),
+        Call::Probe(e) | Call::Mprobe(e) | Call::Improbe(e) | Call::Iprobe(e) => {
             is_within(members, peer_rank(e.source()))
         }
         _ => true,
@@ -85,24 +87,25 @@ fn are_within(members: &[u32], call: &Call) -> bool
 pub(crate) fn world_of<'a>(layout: &'a Layout, rank: u32) -> Option<Group<'a>>
     ensures { IsWorldOf layout.now rank result }
 {
-    group_named(layout, rank, 0, CommRef::World)
+    group_named(layout, rank, 0, Object::Communicator, CommRef::World)
 }
 
-/// The group of the communicator that call `n` of the rank names, where the group of the world is at hand.
+/// The group of the object of this sort that call `n` of the rank names, where the group of the world is at hand.
 #[inline(always)]
 fn named_given_world<'a>(
     layout: &'a Layout,
     rank: u32,
     n: u64,
+    object: Object,
     comm: CommRef,
     world: Option<Group<'a>>,
 ) -> Option<Group<'a>>
     requires { IsWorldOf layout.now rank world }
-    ensures { plain_group result ≡ group_named layout.now rank n comm }
+    ensures { plain_group result ≡ group_named layout.now rank n object comm }
 {
     match comm {
         CommRef::World => world,
-        CommRef::Id(_) => group_named(layout, rank, n, comm),
+        CommRef::Id(_) => group_named(layout, rank, n, object, comm),
     }
 }
 
@@ -119,7 +122,7 @@ pub(crate) fn group_given_world<'a>(
     requires { IsWorldOf layout.now rank world }
     ensures { plain_group result ≡ group_of layout.now rank n call.now }
 {
-    let group = named_given_world(layout, rank, n, call.comm()?, world)?;
+    let group = named_given_world(layout, rank, n, call.object(), call.comm()?, world)?;
     if are_within(group.members, call) {
         Some(group)
     } else {
@@ -136,7 +139,7 @@ fn group_of<'a>(layout: &'a Layout, rank: u32, n: u64, call: &Call) -> Option<Gr
 }
 
 /// Whether the call, which takes part in this group, if in any, is foreign: the layout gives its
-/// rank no communicator as the call names it, or its peer or root is outside the group.
+/// rank no object as the call names it, or its peer or root is outside the group.
 pub(crate) fn is_foreign_in(group: Option<Group<'_>>, call: &Call) -> bool
     ensures { result ≡ is_foreign_in (plain_group group.entry) call.now }
 {

@@ -1,6 +1,6 @@
 //! The messages of a rank, and its entries into collective calls.
 
-ghost use Rattle.std.specs.Prelude.{◌≡◌};
+ghost use Rattle.std.specs.Prelude.{◌≡◌, true, false};
 ghost use Rattle.trace_ops.specs.Fate.{OfPost};
 ghost use Rattle.trace_ops.specs.Groups.{plain, plain_group};
 ghost use Rattle.trace_ops.specs.Message.{message_in, message_to, sent_by, sent_with, tag_of};
@@ -11,7 +11,7 @@ use crate::entered::Entered;
 use crate::fate::Fate;
 use crate::group::{Group, peer_rank};
 use crate::trust::trust_of_post;
-use mpi_model::{Call, Collective, CollectiveFunction, Envelope, Message, Mode, OpName, Trust};
+use mpi_model::{Call, Collective, Envelope, Message, Mode, NonblockingCollective, OpName, Trust};
 
 /// The tag of a send, which always names one.
 fn tag_of(tag: Option<u32>) -> u32
@@ -95,18 +95,26 @@ pub(crate) fn message_in(
     sent_by(group?, name, call, fate)
 }
 
-/// The entry of a collective call into a round of its communicator.
-fn entry_of(group: Group<'_>, n: u64, c: Collective, nonblocking: bool) -> Entered
-    ensures { result ≡ entry_of (plain group.entry) n c nonblocking }
+/// The entry of a blocking collective call into a round of its object.
+fn entry_of_blocking(group: Group<'_>, n: u64, c: Collective) -> Entered
+    ensures { result ≡ entry_of (plain group.entry) n c false }
 {
-    let function = CollectiveFunction {
-        kind: c.kind(),
-        nonblocking,
-    };
     Entered {
         comm: group.comm,
-        function,
+        function: c.function(),
         root: c.root(),
+        call: n,
+    }
+}
+
+/// The entry of one that doesn't block.
+fn entry_of_nonblocking(group: Group<'_>, n: u64, c: NonblockingCollective) -> Entered
+    ensures { result ≡ entry_of (plain group.entry) n c true }
+{
+    Entered {
+        comm: group.comm,
+        function: c.function(),
+        root: c.call().root(),
         call: n,
     }
 }
@@ -116,8 +124,8 @@ fn entered_by(group: Group<'_>, n: u64, call: &Call) -> Option<Entered>
     ensures { result ≡ entered_by (plain group.entry) n call.now }
 {
     match call {
-        Call::Collective(c) => Some(entry_of(group, n, *c, false)),
-        Call::Icollective(c) => Some(entry_of(group, n, *c, true)),
+        Call::Collective(c) => Some(entry_of_blocking(group, n, *c)),
+        Call::Icollective(c) => Some(entry_of_nonblocking(group, n, *c)),
         _ => None,
     }
 }

@@ -32,7 +32,7 @@ fn may_block(call: &Call) -> bool
         Call::Test(_) | Call::Testall(_) | Call::Testany(_) | Call::Testsome(_) => false,
         Call::Cancel(_) | Call::Free(_) => false,
         Call::SendInit(_, _) | Call::RecvInit(_) | Call::Start(_) | Call::Startall(_) => false,
-        Call::Improbe(_) | Call::Imrecv => false,
+        Call::Improbe(_) | Call::Iprobe(_) | Call::Imrecv => false,
     }
 }
 

@@ -13,7 +13,9 @@ ghost use Rattle.trace_ops.specs.Trust.{trust_by};
 use crate::fate::{Fate, end_of_post, source_in};
 use crate::group::{Group, group_named};
 use crate::trust::{trust_of_post, trust_of_probe};
-use mpi_model::{Call, Envelope, Layout, OpName, Outs, Peer, ProbeEnvelope, Receive, Trust};
+use mpi_model::{
+    Call, Envelope, Layout, Object, OpName, Outs, Peer, ProbeEnvelope, Receive, Trust,
+};
 
 /// The most elements that an `int` counts: a matched probe takes a message of any count.
 const ANY_COUNT: u32 = 2_147_483_647;
@@ -84,7 +86,7 @@ pub fn probed(layout: &Layout, rank: u32, n: u64, envelope: ProbeEnvelope) -> Op
     ensures { result ≡ probed layout.now rank n envelope }
 {
     let asked = probe_envelope(0, envelope);
-    let group = group_named(layout, rank, n, asked.comm)?;
+    let group = group_named(layout, rank, n, Object::Communicator, asked.comm)?;
     let name = OpName {
         rank,
         call: n,

@@ -13,9 +13,10 @@ use Rattle.trace_ops.specs.declared.entered.Entered.{Entered}
 use Rattle.trace_ops.specs.Ops.{Ops, no_ops, IsOwn, AreOwn, Grows, SameSend, TellsMore}
 use Rattle.trace_ops.specs.Order.{Has, AreEntered}
 use Rattle.trace_ops.specs.Round.{is_barrier}
-use Rattle.trace_pair.specs.After.{entered_before, is_left, is_own, is_after, comes_after}
+use Rattle.trace_pair.specs.After.{communicating, communications, entered_before, is_left, is_own, is_after, comes_after}
 use Rattle.trace_pair.specs.Ends.{IsLastFor, NoneHides, SomeHides, ends_by}
 use Rattle.trace_pair.specs.Table.{sends_of, receives_of}
+use Rattle.trace_pair.proofs.Communicating.{grows_kept, kept_rise}
 use Rattle.trace_pair.proofs.Fitting.{envelopes_at}
 use Rattle.trace_pair.proofs.Obeyed.{and_true, any_found, any_of, both, either, or_left, or_right}
 use Rattle.trace_pair.proofs.Ranks.{has_left, has_right, has_either}
@@ -52,7 +53,8 @@ pub no_receiver : (held : List Ops) (m : Message) (at e : ℕ) → length held �
 no_receiver held m at e le own =
     let s = get_or held m.from no_ops in
     let r = get_or_past held at no_ops le in
-    sym (ap (λ v. v || list_any (is_left s (get_or held at no_ops) m e) s.rounds) own ∙ ap (λ (o : Ops). list_any (is_left s o m e) s.rounds) r ∙ none_left s m e s.rounds)
+    let t = communicating s in
+    sym (ap (λ v. v || list_any (is_left t (communicating (get_or held at no_ops)) m e) t.rounds) own ∙ ap (λ (o : Ops). list_any (is_left t (communicating o) m e) t.rounds) r ∙ none_left t m e t.rounds)
 
 -- before a call no more were entered than before a later one
 entered_fewer : (comm x y : ℕ) (xs : List Entered) → x ≤ y → entered_before comm x xs ≤ entered_before comm y xs
@@ -77,24 +79,24 @@ sooner sender receiver m at a None h g = absurd (cc)
 sooner sender receiver m at None (Some y) h g = absurd (cc)
 sooner sender receiver m at (Some x) (Some y) h g =
     let le : x ≤ y = grind (arith, nat_tests) in
-    let behind = list_any (is_left sender receiver m x) sender.rounds in
+    let behind = list_any (is_left (communicating sender) (communicating receiver) m x) (communications sender.rounds) in
     ⊎_elim
     (λ (o : is_own m at y ≡ true).
     let p = both (eqb m.from at) (ltb y m.name.call) o in
     let lt : ltb x m.name.call ≡ true = let t = p.1 in grind (arith, nat_tests) in
     or_left (is_own m at x) behind (and_true (eqb m.from at) (ltb x m.name.call) p.0 lt))
-    (λ (l : list_any (is_left sender receiver m y) sender.rounds ≡ true).
-    let w = any_found (is_left sender receiver m y) sender.rounds l in
+    (λ (l : list_any (is_left (communicating sender) (communicating receiver) m y) (communications sender.rounds) ≡ true).
+    let w = any_found (is_left (communicating sender) (communicating receiver) m y) (communications sender.rounds) l in
     let q = w.0 in
     let a1 = is_barrier q in let a2 = ltb q.call m.name.call in
     let a3 = list_any (λ c. eqb c q.comm) sender.comms in let a4 = list_any (λ c. eqb c q.comm) receiver.comms in
-    let few = both (a1 && a2 && a3 && a4) (nat_le (entered_before q.comm y receiver.rounds) (entered_before q.comm q.call sender.rounds)) w.2 in
+    let few = both (a1 && a2 && a3 && a4) (nat_le (entered_before q.comm y (communications receiver.rounds)) (entered_before q.comm q.call (communications sender.rounds))) w.2 in
     let t = few.1 in
-    let fewer = entered_fewer q.comm x y receiver.rounds le in
-    let still : nat_le (entered_before q.comm x receiver.rounds) (entered_before q.comm q.call sender.rounds) ≡ true = grind (arith, nat_tests) in
+    let fewer = entered_fewer q.comm x y (communications receiver.rounds) le in
+    let still : nat_le (entered_before q.comm x (communications receiver.rounds)) (entered_before q.comm q.call (communications sender.rounds)) ≡ true = grind (arith, nat_tests) in
     or_right (is_own m at x) behind
-    (any_of (is_left sender receiver m x) sender.rounds q w.1 (and_true (a1 && a2 && a3 && a4) (nat_le (entered_before q.comm x receiver.rounds) (entered_before q.comm q.call sender.rounds)) few.0 still)))
-    (either (is_own m at y) (list_any (is_left sender receiver m y) sender.rounds) g)
+    (any_of (is_left (communicating sender) (communicating receiver) m x) (communications sender.rounds) q w.1 (and_true (a1 && a2 && a3 && a4) (nat_le (entered_before q.comm x (communications receiver.rounds)) (entered_before q.comm q.call (communications sender.rounds))) few.0 still)))
+    (either (is_own m at y) (list_any (is_left (communicating sender) (communicating receiver) m y) (communications sender.rounds)) g)
 
 entered_across : (xs ys : List Entered) (x y : Entered) → AreEntered (xs ++ ys) → Has xs x → Has ys y → ltb x.call y.call ≡ true
 entered_across [] ys x y o i j = absurd i
@@ -211,16 +213,16 @@ module _ (held more : List Ops) (own : AreOwn 0 held) (own_more : AreOwn 0 more)
         | Some e ↦ λ is h.
             let a = held_at (λ o. o.sends) (λ m. m.from) (λ r o m w. w.sent_from m) held m own i in
             let b = held_at (λ o. o.receives) (λ q. q.at) (λ r o q w. w.posted_at q) held q own j in
-            let g = AllZip-get_or Grows held more m.from no_ops no_ops grows a.0 in
-            let g' = AllZip-get_or Grows held more q.at no_ops no_ops grows b.0 in
+            let g = grows_kept (get_or held m.from no_ops) (get_or more m.from no_ops) (AllZip-get_or Grows held more m.from no_ops no_ops grows a.0) in
+            let g' = grows_kept (get_or held q.at no_ops) (get_or more q.at no_ops) (AllZip-get_or Grows held more q.at no_ops no_ops grows b.0) in
             let len = length_zip Grows held more grows in
-            let u = own_at more 0 m.from (subst (λ n. m.from < n) len a.0) own_more in
-            let before = list_any (is_left (get_or held m.from no_ops) (get_or held q.at no_ops) m e) (get_or held m.from no_ops).rounds in
-            let now = list_any (is_left (get_or more m.from no_ops) (get_or more q.at no_ops) n e) (get_or more m.from no_ops).rounds in
+            let u = kept_rise (get_or more m.from no_ops).rounds (own_at more 0 m.from (subst (λ n. m.from < n) len a.0) own_more) in
+            let before = list_any (is_left (communicating (get_or held m.from no_ops)) (communicating (get_or held q.at no_ops)) m e) (communications (get_or held m.from no_ops).rounds) in
+            let now = list_any (is_left (communicating (get_or more m.from no_ops)) (communicating (get_or more q.at no_ops)) n e) (communications (get_or more m.from no_ops).rounds) in
             let k : is_after (get_or more m.from no_ops) (get_or more q.at no_ops) n q.at (Some e) ≡ true = ⊎_elim
             (λ (x : is_own m q.at e ≡ true). or_left (is_own n q.at e) now (own_same m n q.at e s ∙ x))
             (λ (x : before ≡ true). or_right (is_own n q.at e) now
-            (after_still (get_or held m.from no_ops) (get_or more m.from no_ops) (get_or held q.at no_ops) (get_or more q.at no_ops) g g' u m n s e (λ x y. let lt = g'.behind_ends q e x b.1 is y in omega arith) x))
+            (after_still (communicating (get_or held m.from no_ops)) (communicating (get_or more m.from no_ops)) (communicating (get_or held q.at no_ops)) (communicating (get_or more q.at no_ops)) g g' u m n s e (λ x y. let lt = g'.behind_ends q e x b.1 is y in omega arith) x))
             (either (is_own m q.at e) before h) in
             let known : is_some q.ended ≡ true = ap (λ o. is_some o) is in
             let ends : r.ended ≡ Some e = t.ended known ∙ is in
@@ -241,15 +243,15 @@ module _ (held more : List Ops) (own : AreOwn 0 held) (own_more : AreOwn 0 more)
         | Some e ↦ λ is h.
             let a = held_at (λ o. o.sends) (λ m. m.from) (λ r o m w. w.sent_from m) held m own i in
             let b = held_at (λ o. o.receives) (λ q. q.at) (λ r o q w. w.posted_at q) held q own j in
-            let g = AllZip-get_or Grows held more m.from no_ops no_ops grows a.0 in
-            let g' = AllZip-get_or Grows held more q.at no_ops no_ops grows b.0 in
+            let g = grows_kept (get_or held m.from no_ops) (get_or more m.from no_ops) (AllZip-get_or Grows held more m.from no_ops no_ops grows a.0) in
+            let g' = grows_kept (get_or held q.at no_ops) (get_or more q.at no_ops) (AllZip-get_or Grows held more q.at no_ops no_ops grows b.0) in
             let len = length_zip Grows held more grows in
-            let u = own_at more 0 m.from (subst (λ n. m.from < n) len a.0) own_more in
-            let before = list_any (is_left (get_or held m.from no_ops) (get_or held q.at no_ops) m e) (get_or held m.from no_ops).rounds in
-            let now = list_any (is_left (get_or more m.from no_ops) (get_or more q.at no_ops) n e) (get_or more m.from no_ops).rounds in
+            let u = kept_rise (get_or more m.from no_ops).rounds (own_at more 0 m.from (subst (λ n. m.from < n) len a.0) own_more) in
+            let before = list_any (is_left (communicating (get_or held m.from no_ops)) (communicating (get_or held q.at no_ops)) m e) (communications (get_or held m.from no_ops).rounds) in
+            let now = list_any (is_left (communicating (get_or more m.from no_ops)) (communicating (get_or more q.at no_ops)) n e) (communications (get_or more m.from no_ops).rounds) in
             ⊎_elim
             (λ (x : is_own n q.at e ≡ true). or_left (is_own m q.at e) before (sym (own_same m n q.at e s) ∙ x))
             (λ (x : now ≡ true). or_right (is_own m q.at e) before
-            (after_before (get_or held m.from no_ops) (get_or more m.from no_ops) (get_or held q.at no_ops) (get_or more q.at no_ops) g g' u m n s e (λ x y. let lt = g'.behind_ends q e x b.1 is y in omega arith) (λ x y. let lt = g.behind_sends m x a.1 y in omega arith) x))
+            (after_before (communicating (get_or held m.from no_ops)) (communicating (get_or more m.from no_ops)) (communicating (get_or held q.at no_ops)) (communicating (get_or more q.at no_ops)) g g' u m n s e (λ x y. let lt = g'.behind_ends q e x b.1 is y in omega arith) (λ x y. let lt = g.behind_sends m x a.1 y in omega arith) x))
             (either (is_own n q.at e) now h)
       ] refl h'

@@ -59,3 +59,4 @@ pub mod Settling
 pub mod SettlingParts
 pub mod PartKinds
 pub mod Parts
+pub mod Communicating

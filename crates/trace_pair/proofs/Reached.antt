@@ -13,7 +13,7 @@ use Rattle.trace_ops.specs.Ops.{Ops, AreOwn, no_ops}
 use Rattle.trace_ops.specs.Order.{Has, AreEntered}
 use Rattle.trace_ops.specs.Round.{is_barrier}
 use Rattle.trace_ops.specs.declared.entered.Entered.{Entered}
-use Rattle.trace_pair.specs.After.{entered_before, is_left, is_own, is_after}
+use Rattle.trace_pair.specs.After.{communicating, communications, entered_before, is_left, is_own, is_after}
 use Rattle.trace_pair.specs.Barriers.{OnComm, Rise, IsBarrierBefore, calls_on, barriers_on, on_comm, barrier_at, last_before}
 use Rattle.trace_pair.specs.Reach.{IsReachOf, AreReachesOf, AreRowsRising, has_barrier, holds, is_entered_behind, is_met, is_passed_in, is_passed_on, row_at}
 use Rattle.trace_pair.specs.declared.reach.Barrier.{Barrier}
@@ -359,7 +359,7 @@ pub rows_rise : (s : Ops) (t : RankReach) → IsReachOf s t → AreRowsRising t
 rows_rise s t is c = subst (λ (row : OnComm). Rise row.barriers) (sym (is.rows c)) (barriers_rise c 0 s.rounds is.rounds_rise)
 
 -- the parts of all ranks
-reaches_push : (os : List Ops) (ts : List RankReach) (o : Ops) (t : RankReach) → AreReachesOf os ts → IsReachOf o t → AreReachesOf (os ++ o ∷ []) (ts ++ t ∷ [])
+reaches_push : (os : List Ops) (ts : List RankReach) (o : Ops) (t : RankReach) → AreReachesOf os ts → IsReachOf (communicating o) t → AreReachesOf (os ++ o ∷ []) (ts ++ t ∷ [])
 reaches_push [] [] o t h k = (k, tt)
 reaches_push [] (y ∷ ts) o t h k = absurd h
 reaches_push (x ∷ os) [] o t h k = absurd h
@@ -367,7 +367,7 @@ reaches_push (x ∷ os) (y ∷ ts) o t h k = (h.0, reaches_push os ts o t h.1 k)
 
 -- one rank more
 pub reaches_more : (ts after : List RankReach) (os : List Ops) (i : ℕ) (o : Ops) (t : RankReach) → i < length os → o ≡ get_or os i o → after ≡ ts ++ t ∷ [] →
-    AreReachesOf (take i os) ts → IsReachOf o t → AreReachesOf (take (i + 1) os) after
+    AreReachesOf (take i os) ts → IsReachOf (communicating o) t → AreReachesOf (take (i + 1) os) after
 reaches_more ts after os i o t lt at e h k =
     let grown : take (i + 1) os ≡ take i os ++ o ∷ [] = take_more os i o lt ∙ ap (λ (p : Ops). take i os ++ p ∷ []) (sym at) in
     subst (λ (l : List RankReach). AreReachesOf (take (i + 1) os) l) (sym e) (subst (λ (l : List Ops). AreReachesOf l (ts ++ t ∷ [])) (sym grown) (reaches_push (take i os) ts o t h k))
@@ -377,11 +377,11 @@ rounds_at [] first i o lt e a = absurd (omega arith)
 rounds_at (x ∷ os) first zero o lt e a = subst (λ (z : Ops). AreEntered z.rounds) (sym e) a.0.rounds_rise
 rounds_at (x ∷ os) first (suc i) o lt e a = rounds_at os (first + 1) i o (omega arith) e a.1
 
-pub reach_at : (os : List Ops) (ts : List RankReach) (i : ℕ) (t : RankReach) → AreReachesOf os ts → slice_get ts i ≡ Some t → IsReachOf (get_or os i no_ops) t
+pub reach_at : (os : List Ops) (ts : List RankReach) (i : ℕ) (t : RankReach) → AreReachesOf os ts → slice_get ts i ≡ Some t → IsReachOf (communicating (get_or os i no_ops)) t
 reach_at [] [] i t h g = absurd (cc)
 reach_at [] (y ∷ ts) i t h g = absurd h
 reach_at (x ∷ os) [] i t h g = absurd h
-reach_at (x ∷ os) (y ∷ ts) zero t h g = let e : y ≡ t = cc in subst (λ (z : RankReach). IsReachOf x z) e h.0
+reach_at (x ∷ os) (y ∷ ts) zero t h g = let e : y ≡ t = cc in subst (λ (z : RankReach). IsReachOf (communicating x) z) e h.0
 reach_at (x ∷ os) (y ∷ ts) (suc i) t h g = reach_at os ts i t h.1 g
 
 pub as_many : (os : List Ops) (ts : List RankReach) → AreReachesOf os ts → length os ≡ length ts
@@ -391,7 +391,7 @@ as_many (x ∷ os) [] h = absurd h
 as_many (x ∷ os) (y ∷ ts) h = ap (λ n. suc n) (as_many os ts h.1)
 
 -- one rank's part is another
-pub reach_set : (os : List Ops) (ts : List RankReach) (i : ℕ) (o : Ops) (t : RankReach) → AreReachesOf os ts → IsReachOf o t → AreReachesOf (slice_set os i o) (slice_set ts i t)
+pub reach_set : (os : List Ops) (ts : List RankReach) (i : ℕ) (o : Ops) (t : RankReach) → AreReachesOf os ts → IsReachOf (communicating o) t → AreReachesOf (slice_set os i o) (slice_set ts i t)
 reach_set [] [] i o t h k = tt
 reach_set [] (y ∷ ts) i o t h k = absurd h
 reach_set (x ∷ os) [] i o t h k = absurd h
@@ -404,7 +404,7 @@ module _ (os : List Ops) (ts : List RankReach) (of : AreReachesOf os ts) (m : Me
   no_sender le =
       let past : length os ≤ m.from = let n = as_many os ts of in omega arith in
       let none = get_or_past os m.from no_ops past in
-      sym (ap (λ (o : Ops). is_own m at e || list_any (is_left o (get_or os at no_ops) m e) o.rounds) none ∙ ap (λ b. b || false) own)
+      sym (ap (λ (o : Ops). is_own m at e || list_any (is_left (communicating o) (communicating (get_or os at no_ops)) m e) (communications o.rounds)) none ∙ ap (λ b. b || false) own)
 
   pub none_there : length ts ≤ at → false ≡ is_after (get_or os m.from no_ops) (get_or os at no_ops) m at (Some e)
   none_there le = no_receiver os m at e (let n = as_many os ts of in omega arith) own
@@ -412,8 +412,8 @@ module _ (os : List Ops) (ts : List RankReach) (of : AreReachesOf os ts) (m : Me
   pub by_table : (t u : RankReach) → slice_get ts m.from ≡ Some t → slice_get ts at ≡ Some u →
       list_any (is_passed_on t u m.name.call e) t.barrier_comms.items ≡ is_after (get_or os m.from no_ops) (get_or os at no_ops) m at (Some e)
   by_table t u h g =
-      left_by_table (get_or os m.from no_ops) (get_or os at no_ops) t u (reach_at os ts m.from t of h) (reach_at os ts at u of g) m e
-      ∙ ap (λ b. b || list_any (is_left (get_or os m.from no_ops) (get_or os at no_ops) m e) (get_or os m.from no_ops).rounds) (sym own)
+      left_by_table (communicating (get_or os m.from no_ops)) (communicating (get_or os at no_ops)) t u (reach_at os ts m.from t of h) (reach_at os ts at u of g) m e
+      ∙ ap (λ b. b || list_any (is_left (communicating (get_or os m.from no_ops)) (communicating (get_or os at no_ops)) m e) (communications (get_or os m.from no_ops).rounds)) (sym own)
 
 drop_next : (xs : List ℕ) (i : ℕ) → i < length xs → drop i xs ≡ get_or xs i 0 ∷ drop (i + 1) xs
 drop_next xs i lt = rw (add-one, drop-cons xs i 0)

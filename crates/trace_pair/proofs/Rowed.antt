@@ -3,9 +3,10 @@ use Rattle.std.proofs.Common.{◌≡◌, ℕ, zero, suc, ◌+◌, ◌-◌, ◌<�
 use Rattle.std.specs.Prelude.{unwrap_or}
 use Rattle.std.specs.List.Sorted.{IsNonDecreasingBy}
 use Rattle.std.proofs.lemmas.List.{take_more, append-nil}
-use Rattle.std.proofs.lemmas.List.Elements.{filter_more}
-use Rattle.trace_ops.specs.Round.{is_barrier}
+use Rattle.std.proofs.lemmas.List.Elements.{filter-append, filter_more}
+use Rattle.trace_ops.specs.Round.{is_barrier, is_communication}
 use Rattle.trace_ops.specs.declared.entered.Entered.{Entered}
+use Rattle.trace_pair.specs.After.{communications}
 use Rattle.trace_pair.specs.Barriers.{OnComm, Rise, calls_on, barriers_on, on_comm, barrier_at, with_barrier, with_entry, last_before}
 use Rattle.trace_pair.specs.declared.reach.Barrier.{Barrier}
 use Rattle.trace_pair.proofs.Tabled.{has_at}
@@ -63,12 +64,17 @@ on_comm_more comm xs x = by (eqb x.comm comm) _ _ _ _ _ _ (calls_more comm xs x)
     by true c c1 c2 d d1 d2 h g = ap (λ (l : List ℕ). row l d) h ∙ ap (λ (l : List Barrier). row c1 l) g
     by false c c1 c2 d d1 d2 h g = ap (λ (l : List ℕ). row l d) h ∙ ap (λ (l : List Barrier). row c2 l) g
 
--- the row of a communicator, as a call comes
-pub rows_step : (comm : ℕ) (es : List Entered) (i : ℕ) (d : Entered) (old new : OnComm) → i < length es → old ≡ on_comm comm (take i es) →
-    new ≡ cond (eqb (get_or es i d).comm comm) (with_entry old (get_or es i d)) old → new ≡ on_comm comm (take (i + 1) es)
-rows_step comm es i d old new lt was e =
-    let x = get_or es i d in
-    e ∙ ap (λ (row : OnComm). cond (eqb x.comm comm) (with_entry row x) row) was ∙ sym (on_comm_more comm (take i es) x) ∙ ap (λ (l : List Entered). on_comm comm l) (sym (take_more es i d lt))
+-- the row of a communicator by its collective communications, as a call comes
+pub counted_step : (comm : ℕ) (es : List Entered) (i : ℕ) (x : Entered) (old new : OnComm) → i < length es → x ≡ get_or es i x → old ≡ on_comm comm (communications (take i es)) →
+    new ≡ cond (is_communication x) (cond (eqb x.comm comm) (with_entry old x) old) old → new ≡ on_comm comm (communications (take (i + 1) es))
+counted_step comm es i x old new lt is was e =
+    let grown : communications (take (i + 1) es) ≡ communications (take i es) ++ cond (is_communication x) (x ∷ []) [] =
+    ap communications (take_more es i x lt ∙ ap (λ (z : Entered). take i es ++ z ∷ []) (sym is)) ∙ filter-append is_communication (take i es) (x ∷ []) in
+    e ∙ by (is_communication x) ∙ sym (ap (on_comm comm) grown)
+  where
+    by : (b : Bool) → cond b (cond (eqb x.comm comm) (with_entry old x) old) old ≡ on_comm comm (communications (take i es) ++ cond b (x ∷ []) [])
+    by true = ap (λ (r : OnComm). cond (eqb x.comm comm) (with_entry r x) r) was ∙ sym (on_comm_more comm (communications (take i es)) x)
+    by false = was ∙ ap (on_comm comm) (sym (append-nil (communications (take i es))))
 
 -- one communicator more, kept where it passes the test
 pub kept : (p : ℕ → Bool) (xs : List ℕ) (i : ℕ) (old new : List ℕ) (t : Bool) → i < length xs → t ≡ p (get_or xs i 0) → old ≡ filter p (take i xs) →

@@ -13,7 +13,7 @@ use Rattle.trace_ops.specs.declared.entered.Entered.{Entered}
 use Rattle.trace_ops.specs.Ops.{Ops, no_ops, IsOwn, AreOwn}
 use Rattle.trace_ops.specs.Order.{AreEntered, Has}
 use Rattle.trace_ops.specs.Round.{is_barrier}
-use Rattle.trace_pair.specs.After.{entered_before, is_left, is_own, is_after, comes_after}
+use Rattle.trace_pair.specs.After.{communicating, entered_before, is_left, is_own, is_after, comes_after}
 use Rattle.trace_pair.specs.Calls.{between, IsSingle}
 use Rattle.trace_pair.specs.Fronts.{AreAsBefore, AreFronts, AreOneBefore, IsAlike, IsEndedBy}
 use Rattle.trace_pair.specs.Followed.{Adds, Drops, Follows, Indexes}
@@ -21,6 +21,7 @@ use Rattle.trace_pair.specs.Pairing.{After, Paired}
 use Rattle.trace_pair.specs.Table.{sends_of, receives_of}
 use Rattle.trace_pair.specs.declared.follow.Fronts.{Fronts}
 use Rattle.trace_pair.specs.declared.matched.Matched.{Matched}
+use Rattle.trace_pair.proofs.Communicating.{one_before_kept}
 use Rattle.trace_pair.proofs.Afterwards.{entered_more}
 use Rattle.trace_pair.proofs.Holding.{same_sets}
 use Rattle.trace_pair.proofs.Local.{same_pairs}
@@ -48,13 +49,13 @@ module _ (ms : List Message) (qs : List Receive) (one other : After) (agree : (m
 
 zip_self : (xs : List Entered) → AllZip IsAlike xs xs
 zip_self [] = tt
-zip_self (x ∷ xs) = (record { comm = refl; call = refl; barrier = refl }, zip_self xs)
+zip_self (x ∷ xs) = (record { comm = refl; call = refl; barrier = refl; counted = refl }, zip_self xs)
 
 zip_turned : (xs ys : List Entered) → AllZip IsAlike xs ys → AllZip IsAlike ys xs
 zip_turned [] [] z = tt
 zip_turned [] (y ∷ ys) z = absurd z
 zip_turned (x ∷ xs) [] z = absurd z
-zip_turned (x ∷ xs) (y ∷ ys) z = (record { comm = sym z.0.comm; call = sym z.0.call; barrier = sym z.0.barrier }, zip_turned xs ys z.1)
+zip_turned (x ∷ xs) (y ∷ ys) z = (record { comm = sym z.0.comm; call = sym z.0.call; barrier = sym z.0.barrier; counted = sym z.0.counted }, zip_turned xs ys z.1)
 
 zip_found : (xs ys : List Entered) → AllZip IsAlike xs ys → (x : Entered) → Has xs x → (y : Entered) × Has ys y × IsAlike x y
 zip_found [] ys z x i = absurd i
@@ -98,6 +99,10 @@ record AreAlike (last : ℕ) (s t : Ops) : Type 0 where
 
 alike_self : (last : ℕ) (s : Ops) → AreAlike last s s
 alike_self last s = record { comms = refl; rounds = one_before_self last s.rounds }
+
+-- and so are their communications
+alike_kept : (last : ℕ) (s t : Ops) → AreAlike last s t → AreAlike last (communicating s) (communicating t)
+alike_kept last s t a = record { comms = a.comms; rounds = one_before_kept last s.rounds t.rounds a.rounds }
 
 alike_back : (last : ℕ) (s t : Ops) → AreAlike last s t → AreAlike last t s
 alike_back last s t a = record { comms = sym a.comms; rounds = turned last s.rounds t.rounds a.rounds }
@@ -146,9 +151,11 @@ same_tests false false f g = refl
 after_same : (s t r u : Ops) (m : Message) (at x y : ℕ) (ended : Option ℕ) → AreAlike x s t → AreAlike y r u → m.name.call ≤ x → ((e : ℕ) → ended ≡ Some e → e ≤ y) → is_after s r m at ended ≡ is_after t u m at ended
 after_same s t r u m at x y None a b sent within = refl
 after_same s t r u m at x y (Some e) a b sent within =
-    ap (λ v. is_own m at e || v) (same_tests (list_any (is_left s r m e) s.rounds) (list_any (is_left t u m e) t.rounds)
-    (left_still s t r u m e x y a b sent (within e refl))
-    (left_still t s u r m e x y (alike_back x s t a) (alike_back y r u b) sent (within e refl)))
+    let s' = communicating s in let t' = communicating t in let r' = communicating r in let u' = communicating u in
+    let a' = alike_kept x s t a in let b' = alike_kept y r u b in
+    ap (λ v. is_own m at e || v) (same_tests (list_any (is_left s' r' m e) s'.rounds) (list_any (is_left t' u' m e) t'.rounds)
+    (left_still s' t' r' u' m e x y a' b' sent (within e refl))
+    (left_still t' s' u' r' m e x y (alike_back x s' t' a') (alike_back y r' u' b') sent (within e refl)))
 
 -- ---- one rank among all
 

@@ -3,15 +3,27 @@
 -- A rank's own message, which it sends once a receive of its own is completed, can't be what that took (MPI 4.0, 3.5: a
 -- rank's calls are in order). Neither can a message that its sender sends once it has left a Barrier which the receiver's
 -- rank entered with the receive completed: no member leaves a Barrier before all have entered it (6.3).
-use Rattle.std.specs.Prelude.{ℕ, suc, Bool, false, ◌&&◌, ◌||◌, ◌==◌, nat_lt, nat_le, cond, Option, Some, None, List, [], ◌∷◌, get_or}
+--
+-- Which Barrier is which is told by counting collective communications alone. Another collective call is read only where its
+-- parameters are there, so one member's calls may tell of it and another's not; and a count that is too low lets a message
+-- come after a receive too soon. Where no round is mismatched both counts say the same.
+use Rattle.std.specs.Prelude.{ℕ, suc, Bool, false, ◌&&◌, ◌||◌, ◌==◌, nat_lt, nat_le, cond, Option, Some, None, List, [], ◌∷◌, filter, get_or}
 use Rattle.std.specs.List.{list_any}
 use Rattle.mpi_model.specs.declared.message.Message.{Message}
 use Rattle.trace_ops.specs.Ops.{Ops, no_ops}
-use Rattle.trace_ops.specs.Round.{is_barrier}
+use Rattle.trace_ops.specs.Round.{is_barrier, is_communication}
 use Rattle.trace_ops.specs.declared.entered.Entered.{Entered}
 use Rattle.trace_pair.specs.Pairing.{After}
 
--- how many collective calls on the communicator were entered before that call
+-- the collective communications among some collective calls
+abbrev pub communications : List Entered → List Entered
+communications rounds = filter is_communication rounds
+
+-- what a rank did, with its collective communications as its only collective calls
+abbrev pub communicating : Ops → Ops
+communicating o = record o { rounds = communications o.rounds }
+
+-- how many of these collective calls on the communicator were entered before that call
 abbrev pub entered_before : ℕ → ℕ → List Entered → ℕ
 entered_before comm call [] = 0
 entered_before comm call (x ∷ xs) = cond ((x.comm == comm) && nat_lt x.call call) (suc (entered_before comm call xs)) (entered_before comm call xs)
@@ -30,7 +42,7 @@ is_own m at ended = (m.from == at) && nat_lt ended m.name.call
 -- by the call that completes the receive, where one does
 abbrev pub is_after : Ops → Ops → Message → ℕ → Option ℕ → Bool
 is_after sender receiver m at None = false
-is_after sender receiver m at (Some ended) = is_own m at ended || list_any (is_left sender receiver m ended) sender.rounds
+is_after sender receiver m at (Some ended) = is_own m at ended || list_any (is_left (communicating sender) (communicating receiver) m ended) (communications sender.rounds)
 
 -- The message comes after the receive: the receiver's rank sent it itself with the receive completed, or its sender had
 -- left a Barrier that the receiver's rank entered with the receive completed.

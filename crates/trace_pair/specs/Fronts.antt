@@ -6,7 +6,7 @@ use Rattle.mpi_model.specs.declared.message.Receive.{Receive}
 use Rattle.trace_ops.specs.declared.entered.Entered.{Entered}
 use Rattle.trace_ops.specs.Ops.{Ops}
 use Rattle.trace_ops.specs.Order.{Has}
-use Rattle.trace_ops.specs.Round.{is_barrier}
+use Rattle.trace_ops.specs.Round.{is_barrier, is_communication}
 use Rattle.trace_pair.specs.declared.follow.Fronts.{Fronts}
 
 -- no call behind this one completes the receive
@@ -22,11 +22,13 @@ call_of (Some x) = x.call
 abbrev pub call_at : List Entered → ℕ → ℕ
 call_at rounds place = call_of (slice_get rounds place)
 
--- The same to what comes after what: on one communicator, by one call, and both are Barriers or neither is.
+-- The same to what comes after what: on one communicator, by one call; both are Barriers or neither is, and both are collective
+-- communications or neither is.
 pub record IsAlike (x y : Entered) : Type 0 where
   pub comm : x.comm ≡ y.comm
   pub call : x.call ≡ y.call
   pub barrier : is_barrier x ≡ is_barrier y
+  pub counted : is_communication x ≡ is_communication y
 
 -- The lists have a front in common, and what follows it in either isn't before the call.
 pub record AreOneBefore (last : ℕ) (a b : List Entered) : Type 0 where

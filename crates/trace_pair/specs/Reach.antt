@@ -6,7 +6,9 @@ use Rattle.std.specs.Ordering.{nat_cmp}
 use Rattle.std.specs.BTreeMap.{BTreeMap, get}
 use Rattle.trace_ops.specs.Ops.{Ops}
 use Rattle.trace_ops.specs.Order.{AreEntered}
+use Rattle.trace_ops.specs.Round.{is_communication}
 use Rattle.trace_ops.specs.declared.entered.Entered.{Entered}
+use Rattle.trace_pair.specs.After.{communicating}
 use Rattle.trace_pair.specs.Barriers.{OnComm, Rise, no_entries, on_comm, calls_on, barriers_on, last_before, with_entry}
 use Rattle.trace_pair.specs.declared.reach.Barrier.{Barrier}
 use Rattle.trace_pair.specs.declared.reach.RankReach.{RankReach}
@@ -22,6 +24,10 @@ AreRowsOf rounds rows = (c : ℕ) → row_at rows c ≡ on_comm c rounds
 -- a call more, in the row of its communicator
 abbrev pub AddsEntry : BTreeMap ℕ OnComm → BTreeMap ℕ OnComm → Entered → Type 0
 AddsEntry old new x = (c : ℕ) → row_at new c ≡ cond (x.comm == c) (with_entry (row_at old c) x) (row_at old c)
+
+-- a call more, in the row of its communicator where it is a collective communication
+abbrev pub AddsCounted : BTreeMap ℕ OnComm → BTreeMap ℕ OnComm → Entered → Type 0
+AddsCounted old new x = (c : ℕ) → row_at new c ≡ cond (is_communication x) (cond (x.comm == c) (with_entry (row_at old c) x) (row_at old c)) (row_at old c)
 
 -- whether there are Barriers on the communicator
 abbrev pub has_barrier : OnComm → Bool
@@ -51,9 +57,13 @@ pub record IsReachOf (ops : Ops) (reach : RankReach) : Type 0 where
   pub comms : (c : ℕ) → holds reach c ≡ list_any (λ x. x == c) ops.comms
   pub comms_rise : IsNonDecreasing reach.comms.items
 
--- The table has of each rank the part that its ops decide.
+-- The table has of each rank the part that its ops decide, by its collective communications.
+abbrev pub IsCommunicating : Ops → RankReach → Type 0
+IsCommunicating ops reach = IsReachOf (communicating ops) reach
+
+-- the same of all ranks
 abbrev pub AreReachesOf : List Ops → List RankReach → Type 0
-AreReachesOf ops reaches = AllZip IsReachOf ops reaches
+AreReachesOf ops reaches = AllZip IsCommunicating ops reaches
 
 -- the table follows the new ops of a rank
 abbrev pub RenewsReach : ℕ → Ops → List RankReach → List RankReach → Type 0

@@ -5,7 +5,7 @@ use Rattle.mpi_model.specs.declared.envelope.Mode.TheVariants.{Standard}
 use Rattle.mpi_model.specs.declared.message.Message.{Message}
 use Rattle.mpi_model.specs.declared.message.Receive.{Receive}
 use Rattle.mpi_model.specs.declared.kind.Kind.{Kind}
-use Rattle.mpi_model.specs.declared.kind.Kind.TheVariants.{Barrier, Allreduce}
+use Rattle.mpi_model.specs.declared.kind.Kind.TheVariants.{Barrier, Allreduce, CommDup}
 use Rattle.mpi_model.specs.declared.message.Trust.{Trust}
 use Rattle.mpi_model.specs.declared.message.Trust.TheVariants.{Sure, Doubtful, Void}
 use Rattle.trace_ops.specs.declared.entered.Entered.{Entered}
@@ -138,11 +138,13 @@ abbrev both : List Receive
 both = receives 0 4 (Some 1) (Some 7) ∷ receives 0 5 (Some 2) (Some 7) ∷ []
 
 -- What rank 1 sends once it has left the Barrier isn't what a receive took that was completed before rank 0 entered it. So
--- it is while rank 0 isn't there yet. As long as no outcome completes the receive, it may have taken either message.
+-- it is while rank 0 isn't there yet. As long as no outcome completes the receive, it may have taken either message. A Comm_dup
+-- that rank 0's calls alone tell of makes no difference: it isn't counted.
 abbrev pub BehindABarrier : Type 0
 BehindABarrier = (table_of (cancelled (Some 2) both (barrier 3 ∷ []) (barrier 0) (2 ∷ [])) ≡ table (pair 1 1 0 4 ∷ []) (op 2 0 ∷ []))
     × (table_of (cancelled (Some 2) [] [] (barrier 0) (2 ∷ [])) ≡ table [] (op 2 0 ∷ []))
     × (table_of (cancelled None [] [] (barrier 0) (2 ∷ [])) ≡ table [] (op 1 1 ∷ op 2 0 ∷ []))
+    × (table_of (cancelled (Some 2) both (enters 2 CommDup false 1 ∷ barrier 3 ∷ []) (barrier 0) (2 ∷ [])) ≡ table (pair 1 1 0 4 ∷ []) (op 2 0 ∷ []))
 
 -- The receive may have taken it where it is completed only behind the Barrier, and where rank 1 comes from another kind of
 -- call, or from an Ibarrier.

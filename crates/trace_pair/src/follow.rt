@@ -162,11 +162,15 @@ fn call_at(rounds: &[Entered], place: usize) -> u64
     }
 }
 
-/// Whether two calls are the same to what comes after what: one call on one communicator, both Barriers or neither.
+/// Whether two calls are the same to what comes after what: one call on one communicator, both Barriers or neither, and both
+/// collective communications or neither.
 fn is_alike(a: &Entered, b: &Entered) -> bool
     ensures { IsTrue result ↔ IsAlike a.now b.now }
 {
-    a.comm == b.comm && a.call == b.call && a.is_barrier() == b.is_barrier()
+    a.comm == b.comm
+        && a.call == b.call
+        && a.is_barrier() == b.is_barrier()
+        && a.is_communication() == b.is_communication()
 }
 
 /// How many collective calls the two lists have in common at their front.

@@ -10,9 +10,9 @@ ghost use Rattle.std.specs.List.{list_any};
 ghost use Rattle.std.specs.List.Sorted.{IsNonDecreasing};
 ghost use Rattle.trace_ops.specs.Ops.{Ops, AreOwn, IsOwn, no_ops};
 ghost use Rattle.trace_ops.specs.Order.{AreEntered};
-ghost use Rattle.trace_pair.specs.After.{is_after};
+ghost use Rattle.trace_pair.specs.After.{communications, is_after};
 ghost use Rattle.trace_pair.specs.Barriers.{Rise, last_before, no_entries, with_barrier, with_entry};
-ghost use Rattle.trace_pair.specs.Reach.{AddsEntry, AreReachesOf, AreRowsOf, AreRowsRising, IsReachOf, has_barrier, holds, is_entered_behind, is_passed_on, row_at, with_barriers, RenewsReach};
+ghost use Rattle.trace_pair.specs.Reach.{AddsCounted, AddsEntry, AreReachesOf, AreRowsOf, AreRowsRising, IsCommunicating, has_barrier, holds, is_entered_behind, is_passed_on, row_at, with_barriers, RenewsReach};
 
 use crate::rules::is_own;
 use mpi_model::Message;
@@ -21,14 +21,15 @@ use std::collections::BTreeMap;
 use std::marker::Model;
 use trace_ops::{Entered, RankOps};
 
-/// A Barrier that a rank entered: its call, and how many collective calls of the rank on its communicator stand before it.
+/// A Barrier that a rank entered: its call, and how many collective communications of the rank on its communicator stand
+/// before it.
 #[derive(Clone, Copy)]
 pub(crate) struct Barrier {
     call: u64,
     before: usize,
 }
 
-/// The collective calls of a rank on one communicator, and the Barriers among them.
+/// The collective communications of a rank on one communicator, and the Barriers among them.
 #[derive(Drop)]
 pub(crate) struct CommCalls {
     calls: Vec<u64>,
@@ -43,7 +44,7 @@ impl Model for CommCalls {
     ghost view = { λ s. record { calls = s.calls.items; barriers = s.barriers.items } };
 }
 
-/// The collective calls of a rank by communicator, with a row for each on which it entered some; the communicators on which
+/// The collective communications of a rank by communicator, with a row for each on which it entered some; the communicators on which
 /// it entered Barriers; and those that hold it, in rising order.
 #[derive(Drop)]
 pub struct RankReach {
@@ -145,13 +146,28 @@ fn add_entry(
     Ok(())
 }
 
-/// The calls of the rank, each in the row of its communicator.
+/// A call more, in the row of its communicator, where it is a collective communication.
+fn add_counted(
+    alloc: Global,
+    rows: &mut BTreeMap<u32, CommCalls>,
+    entered: &Entered,
+) -> Result<(), AllocError>
+    ensures { OnOk result (AddsCounted rows.old rows.new entered.now) }
+{
+    if entered.is_communication() {
+        add_entry(alloc, rows, entered)
+    } else {
+        Ok(())
+    }
+}
+
+/// The collective communications of the rank, each in the row of its communicator.
 fn rows_of(alloc: Global, rounds: &[Entered]) -> Result<BTreeMap<u32, CommCalls>, AllocError>
-    ensures { IfOk result (AreRowsOf rounds.now) }
+    ensures { IfOk result (AreRowsOf (communications rounds.now)) }
 {
     let mut rows = BTreeMap::new(alloc);
     for entered in rounds {
-        add_entry(alloc, &mut rows, entered)?;
+        add_counted(alloc, &mut rows, entered)?;
     }
     Ok(rows)
 }
@@ -198,9 +214,10 @@ fn in_order(alloc: Global, comms: &[u32]) -> Result<Vec<u32>, AllocError>
 
 impl RankReach {
     /// The part of the table that one rank's ops decide.
+    #[tactic(auto, using(crate::proofs::Communicating::kept_rise))]
     pub(crate) fn of(alloc: Global, own: &RankOps) -> Result<RankReach, AllocError>
         requires { AreEntered own.now.rounds }
-        ensures { IfOk result (IsReachOf own.now) }
+        ensures { IfOk result (IsCommunicating own.now) }
     {
         let rows = rows_of(alloc, own.rounds())?;
         let barrier_comms = with_barriers(alloc, &rows, own.comms())?;

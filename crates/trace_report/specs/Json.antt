@@ -1,7 +1,7 @@
 -- The report of an answer as one JSON object: a key for each kind of line, and a function for each object.
 use Rattle.std.specs.Prelude.{ℕ, zero, suc, Bool, false, Option, Some, None, List, [], ◌∷◌, ◌++◌, codes, decimal, if◌then◌else◌, slice_get, unwrap_or}
 use Rattle.std.specs.List.{flat_map}
-use Rattle.mpi_model.specs.declared.kind.CollectiveFunction.{CollectiveFunction}
+use Rattle.mpi_model.specs.Kinds.{KindFunction}
 use Rattle.mpi_model.specs.declared.event.OpName.{OpName}
 use Rattle.trace_ops.specs.declared.state.State.{State}
 use Rattle.trace_ops.specs.declared.state.State.TheVariants.{Ended}
@@ -62,15 +62,15 @@ root_value (Some root) = decimal root
 root_value None = codes "null"
 
 -- the function of a round and its root
-abbrev pub called_fields : CollectiveFunction → Option ℕ → List ℕ
+abbrev pub called_fields : KindFunction → Option ℕ → List ℕ
 called_fields function root = codes ",\"kind\":\"" ++ function_word function ++ codes "\",\"root\":" ++ root_value root
 
 -- a round that all members have entered
-abbrev pub complete_fields : CollectiveFunction → Option ℕ → List ℕ
+abbrev pub complete_fields : KindFunction → Option ℕ → List ℕ
 complete_fields function root = codes "complete\"" ++ called_fields function root
 
 -- a round that so many of the members have entered
-abbrev pub open_fields : CollectiveFunction → Option ℕ → ℕ → ℕ → List ℕ
+abbrev pub open_fields : KindFunction → Option ℕ → ℕ → ℕ → List ℕ
 open_fields function root entered members = codes "open\"" ++ called_fields function root
     ++ codes ",\"entered\":" ++ decimal entered ++ codes ",\"members\":" ++ decimal members
 

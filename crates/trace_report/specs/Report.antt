@@ -1,7 +1,7 @@
 -- The report of an answer: a function for each of its lines, and the lines in their order.
 use Rattle.std.specs.Prelude.{ℕ, zero, suc, Bool, false, Option, Some, None, List, [], ◌∷◌, ◌++◌, codes, decimal, slice_get, unwrap_or}
 use Rattle.std.specs.List.{flat_map}
-use Rattle.mpi_model.specs.declared.kind.CollectiveFunction.{CollectiveFunction}
+use Rattle.mpi_model.specs.Kinds.{KindFunction}
 use Rattle.mpi_model.specs.declared.event.OpName.{OpName}
 use Rattle.trace_ops.specs.declared.state.State.{State}
 use Rattle.trace_ops.specs.declared.state.State.TheVariants.{Ended}
@@ -62,15 +62,15 @@ root_text (Some root) = codes " " ++ decimal root
 root_text None = []
 
 -- `bcast 0`, `ibcast 0`, `barrier`
-abbrev pub called_text : CollectiveFunction → Option ℕ → List ℕ
+abbrev pub called_text : KindFunction → Option ℕ → List ℕ
 called_text function root = function_word function ++ root_text root
 
 -- `bcast 0 complete`
-abbrev pub complete_text : CollectiveFunction → Option ℕ → List ℕ
+abbrev pub complete_text : KindFunction → Option ℕ → List ℕ
 complete_text function root = called_text function root ++ codes " complete"
 
 -- `barrier open E of M`: so many of all members have entered
-abbrev pub open_text : CollectiveFunction → Option ℕ → ℕ → ℕ → List ℕ
+abbrev pub open_text : KindFunction → Option ℕ → ℕ → ℕ → List ℕ
 open_text function root entered members = called_text function root ++ codes " open " ++ decimal entered ++ codes " of " ++ decimal members
 
 -- how a round stands

@@ -1,8 +1,8 @@
 //! The words and numbers of which lines are made.
 
-ghost use Rattle.std.specs.Prelude.{◌≡◌, ◌++◌, decimal};
+ghost use Rattle.std.specs.Prelude.{◌≡◌, ◌++◌, ◌∷◌, [], decimal, drop, slice_get};
 ghost use Rattle.trace_report.specs.Page.{Prints};
-ghost use Rattle.trace_report.specs.Words.{function_word, part_text, sends_word, state_word, where_so};
+ghost use Rattle.trace_report.specs.Words.{begun_small, function_word, part_text, sends_word, small, small_first, state_word, where_so};
 
 use crate::sink::Sink;
 use itoa::Buffer;
@@ -64,10 +64,63 @@ pub(crate) fn state_word(state: State) -> &'static [u8]
     }
 }
 
-/// The word of a kind, behind an `i` where the function is nonblocking: `bcast`, or `ibcast`.
+/// A letter in its small form.
+fn small(letter: u8) -> u8
+    ensures { result ≡ small letter }
+{
+    if (65..=90).contains(&letter) {
+        letter + 32
+    } else {
+        letter
+    }
+}
+
+/// The first letter of a name.
+fn first_letter(name: &[u8]) -> Option<u8>
+    ensures { result ≡ slice_get name.now 0 }
+{
+    name.get(0).copied()
+}
+
+/// The letters behind the first.
+fn behind_first(name: &[u8]) -> &[u8]
+    ensures { result.now ≡ drop 1 name.now }
+{
+    match name.get(1..) {
+        Some(letters) => letters,
+        None => b"",
+    }
+}
+
+/// A letter.
+fn put_letter<S: Sink>(out: &mut S, letter: u8)
+    ensures { Prints (S.page out.old) (S.page out.new) (letter ∷ []) }
+{
+    out.put(&[letter]);
+}
+
+/// A first letter in its small form, where there is one.
+fn put_first<S: Sink>(out: &mut S, letter: Option<u8>)
+    ensures { Prints (S.page out.old) (S.page out.new) (small_first letter) }
+{
+    match letter {
+        Some(letter) => put_letter(out, small(letter)),
+        None => out.put(b""),
+    }
+}
+
+/// A name with its first letter in its small form.
+fn put_small<S: Sink>(out: &mut S, name: &[u8])
+    ensures { Prints (S.page out.old) (S.page out.new) (begun_small name.now) }
+{
+    put_first(out, first_letter(name));
+    out.put(behind_first(name));
+}
+
+/// The name of a function without `MPI_`, in small letters, of which only the first is none in the name: `bcast`, or
+/// `ibcast`.
 pub(crate) fn put_function<S: Sink>(out: &mut S, function: CollectiveFunction)
     ensures { Prints (S.page out.old) (S.page out.new) (function_word function) }
 {
-    put_where(out, function.nonblocking, b"i");
-    out.put(function.kind.row().word);
+    put_small(out, function.short_name());
 }

@@ -155,12 +155,13 @@ rounds_are comms ops c few =
 -- steps of the loops
 
 -- one call more of a member
-pub merged_more : (calls : List Entered) (k : ℕ) (d : Entered) (first ts after : List RoundTally) → k < length calls →
-    ts ≡ merged (take k calls) first → after ≡ put ts k (get_or calls k d) → after ≡ merged (take (k + 1) calls) first
-merged_more calls k d first ts after lt h e =
-    e ∙ ap (λ (l : List RoundTally). put l k (get_or calls k d)) h
-    ∙ ap (λ n. put (merged (take k calls) first) n (get_or calls k d)) (sym (length-take-le k calls (omega (arith, lt))))
-    ∙ sym (merged_push (take k calls) first (get_or calls k d)) ∙ ap (λ (l : List Entered). merged l first) (sym (take_more calls k d lt))
+pub merged_more : (calls : List Entered) (k : ℕ) (x : Entered) (first ts after : List RoundTally) → k < length calls → x ≡ get_or calls k x →
+    ts ≡ merged (take k calls) first → after ≡ put ts k x → after ≡ merged (take (k + 1) calls) first
+merged_more calls k x first ts after lt is h e =
+    let grown : take (k + 1) calls ≡ take k calls ++ x ∷ [] = take_more calls k x lt ∙ ap (λ (y : Entered). take k calls ++ y ∷ []) (sym is) in
+    e ∙ ap (λ (l : List RoundTally). put l k x) h
+    ∙ ap (λ n. put (merged (take k calls) first) n x) (sym (length-take-le k calls (omega (arith, lt))))
+    ∙ sym (merged_push (take k calls) first x) ∙ ap (λ (l : List Entered). merged l first) (sym grown)
 
 -- the k-th call goes to a round that is there, or is the next
 pub merged_reaches : (calls : List Entered) (k : ℕ) (first ts : List RoundTally) → k < length calls → ts ≡ merged (take k calls) first → k ≤ length ts

@@ -10,11 +10,11 @@ use Rattle.trace_wait.specs.Rounds.{on_comm}
 use Rattle.trace_wait.specs.Entries.{Row, IsRowOf, AreRows, listed_at}
 
 -- one call more
-pub row_more : (c : ℕ) (es : List Entered) (i : ℕ) (d : Entered) (now after : List Entered) → i < length es → now ≡ on_comm c (take i es) →
-    after ≡ now ++ on_comm c (get_or es i d ∷ []) → after ≡ on_comm c (take (i + 1) es)
-row_more c es i d now after lt h e =
-    e ∙ ap (λ (l : List Entered). l ++ on_comm c (get_or es i d ∷ [])) h
-    ∙ sym (filter-append (λ e. e.comm == c) (take i es) (get_or es i d ∷ [])) ∙ ap (on_comm c) (sym (take_more es i d lt))
+pub row_more : (c : ℕ) (es : List Entered) (i : ℕ) (x : Entered) (now after : List Entered) → i < length es → x ≡ get_or es i x → now ≡ on_comm c (take i es) →
+    after ≡ now ++ on_comm c (x ∷ []) → after ≡ on_comm c (take (i + 1) es)
+row_more c es i x now after lt is h e =
+    let grown : take (i + 1) es ≡ take i es ++ x ∷ [] = take_more es i x lt ∙ ap (λ (y : Entered). take i es ++ y ∷ []) (sym is) in
+    e ∙ ap (λ (l : List Entered). l ++ on_comm c (x ∷ [])) h ∙ sym (filter-append (λ e. e.comm == c) (take i es) (x ∷ [])) ∙ ap (on_comm c) (sym grown)
 
 rows_push : (rows : List Row) (ops : List Ops) (row : Row) (o : Ops) → AreRows rows ops → IsRowOf row o.rounds → AreRows (rows ++ row ∷ []) (ops ++ o ∷ [])
 rows_push [] [] row o h k = (k, tt)

@@ -119,11 +119,11 @@ by_category s r e k = of (row e.function.kind).category
     of AllToOne = to_root s r e k
     of Scan = scanned s r e.comm k
 
--- Each rank has a count of its own in a call of this kind. It may be 0, and then the rank is owed nothing: so where sends are
--- buffered, it may go on.
+-- The others may owe a rank nothing in a call of this kind, since each rank has a count of its own, which may be 0, or since the
+-- standard promises of no rank that it waits for the others. So where sends are buffered, it may go on.
 abbrev pub may_be_owed_nothing : Sends → Kind → Bool
 may_be_owed_nothing sends.Wait kind = false
-may_be_owed_nothing sends.Buffer kind = (row kind).has_counts
+may_be_owed_nothing sends.Buffer kind = (row kind).may_be_owed_nothing
 
 -- what a call waits for, which is nothing where the rank may be owed nothing
 abbrev pub by_kind : Run → ℕ → Entered → ℕ → waits.Wait

@@ -5,7 +5,7 @@ use Rattle.std.specs.Option.{option_map}
 use Rattle.mpi_model.specs.Layouts.{Parts}
 use Rattle.mpi_model.specs.declared.call.Call.{Call}
 use Rattle.mpi_model.specs.declared.call.Call.TheVariants as calls
-use Rattle.mpi_model.specs.declared.call.Call.TheVariants.{Local, Finalize, Send, Isend, Recv, Irecv, Sendrecv, Waitall, Waitany, Waitsome, Test, Testall, Testany, Testsome, Cancel, Free, Collective, Icollective, Probe, SendInit, RecvInit, Start, Startall, Mprobe, Improbe, Imrecv, Unread}
+use Rattle.mpi_model.specs.declared.call.Call.TheVariants.{Local, Finalize, Send, Isend, Recv, Irecv, Sendrecv, Waitall, Waitany, Waitsome, Test, Testall, Testany, Testsome, Cancel, Free, Collective, Icollective, Probe, SendInit, RecvInit, Start, Startall, Mprobe, Improbe, Iprobe, Imrecv, Unread}
 use Rattle.trace_stuck.specs.Shape.{Wait, OnNothing, OnAll, waits_of}
 use Rattle.trace_ops.specs.Ops.{Ops}
 use Rattle.trace_ops.specs.Receive.{probed}
@@ -47,6 +47,7 @@ waits_for s r o n (Start x) = OnNothing
 waits_for s r o n (Startall xs) = OnNothing
 waits_for s r o n (Mprobe e) = receive_of_call s r o n
 waits_for s r o n (Improbe e) = OnNothing
+waits_for s r o n (Iprobe e) = OnNothing
 waits_for s r o n Imrecv = OnNothing
 waits_for s r o n Unread = OnNothing
 

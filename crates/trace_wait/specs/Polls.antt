@@ -4,7 +4,7 @@ use Rattle.std.specs.Prelude.{ℕ, if◌then◌else◌}
 use Rattle.mpi_model.specs.Ranges.{Probed}
 use Rattle.mpi_model.specs.declared.call.Call.{Call}
 use Rattle.mpi_model.specs.declared.call.Call.TheVariants as calls
-use Rattle.mpi_model.specs.declared.call.Call.TheVariants.{Test, Testall, Testany, Testsome, Improbe}
+use Rattle.mpi_model.specs.declared.call.Call.TheVariants.{Test, Testall, Testany, Testsome, Improbe, Iprobe}
 use Rattle.trace_stuck.specs.Shape as waits
 use Rattle.trace_stuck.specs.Shape.{OnNothing}
 use Rattle.trace_ops.specs.Foreign.{is_foreign}
@@ -25,6 +25,7 @@ asked_by s r o n (Testall xs) = waits_for s r o n (calls.Waitall xs)
 asked_by s r o n (Testany xs) = waits_for s r o n (calls.Waitany xs)
 asked_by s r o n (Testsome xs) = waits_for s r o n (calls.Waitsome xs)
 asked_by s r o n (Improbe e) = sought_by s r o n (Improbe e) e
+asked_by s r o n (Iprobe e) = sought_by s r o n (Iprobe e) e
 asked_by s r o n call = OnNothing
 
 -- what a poll asks for

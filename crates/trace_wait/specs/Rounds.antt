@@ -3,8 +3,7 @@
 use Rattle.std.specs.Prelude.{ℕ, ◌+◌, Bool, true, false, ◌==◌, ◌&&◌, not, Option, Some, None, List, [], ◌∷◌, filter, map, length, slice_get, if◌then◌else◌, max, unwrap_or}
 use Rattle.std.specs.List.{list_all, flat_map, filter_map, range_with_len}
 use Rattle.mpi_model.specs.Communicators.{Communicator, members_of}
-use Rattle.mpi_model.specs.Kinds.{kind_number}
-use Rattle.mpi_model.specs.declared.kind.CollectiveFunction.{CollectiveFunction}
+use Rattle.mpi_model.specs.Kinds.{KindFunction, kind_number}
 use Rattle.trace_ops.specs.declared.entered.Entered.{Entered}
 use Rattle.trace_wait.specs.declared.round.Round.{Round}
 use Rattle.trace_wait.specs.declared.round.Standing.{Standing}
@@ -25,7 +24,7 @@ same_flag true b = b
 same_flag false b = not b
 
 -- the functions are of one kind, and both block or neither does
-abbrev pub same_function : CollectiveFunction → CollectiveFunction → Bool
+abbrev pub same_function : KindFunction → KindFunction → Bool
 same_function a b = (kind_number a.kind == kind_number b.kind) && same_flag a.nonblocking b.nonblocking
 
 -- the two calls have one function and one root

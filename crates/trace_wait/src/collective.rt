@@ -192,7 +192,7 @@ fn by_category(
 ) -> Result<Condition, AllocError>
     ensures { IfOk result (λ c. shape c ≡ by_category run.now r entered.now k) }
 {
-    match entered.function.kind.row().category {
+    match entered.function.kind().row().category {
         Category::AllToAll => absent(alloc, run, entered.comm, k),
         Category::OneToAll => from_root(alloc, run, r, entered, k),
         Category::AllToOne => to_root(alloc, run, r, entered, k),
@@ -206,7 +206,7 @@ fn may_be_owed_nothing(sends: Sends, kind: Kind) -> bool
 {
     match sends {
         Sends::Wait => false,
-        Sends::Buffer => kind.row().has_counts,
+        Sends::Buffer => kind.row().may_be_owed_nothing,
     }
 }
 
@@ -220,7 +220,7 @@ fn by_kind(
 ) -> Result<Condition, AllocError>
     ensures { IfOk result (λ c. shape c ≡ by_kind run.now r entered.now k) }
 {
-    if may_be_owed_nothing(run.layout.sends(), entered.function.kind) {
+    if may_be_owed_nothing(run.layout.sends(), entered.function.kind()) {
         Ok(Condition::yes())
     } else {
         by_category(alloc, run, r, entered, k)

@@ -48,5 +48,6 @@ pub use entries::{Entries, entries_of};
 pub use polls::Poll;
 pub use round::{Round, Standing};
 pub use tally::rounds;
+pub use trace_stuck::{Condition, RoundName, Verdict, check_closed, check_release, stuck};
 pub use unpaired::ends_asked;
 pub use waiting::{RunConditions, conditions, conditions_with_polls};

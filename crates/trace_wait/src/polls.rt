@@ -15,7 +15,8 @@ use std::alloc::{AllocError, Global};
 use trace_ops::{RankOps, is_foreign, probed};
 use trace_stuck::Condition;
 
-/// A call that asks whether something is done, and doesn't wait for it: a Test, Testall, Testany, Testsome or Improbe.
+/// A call that asks whether something is done, and doesn't wait for it: a Test, Testall, Testany,
+/// Testsome, Iprobe or Improbe.
 #[derive(Clone, Copy, Debug)]
 pub struct Poll<'a> {
     pub rank: u32,
@@ -65,6 +66,7 @@ fn asked_by(
         Call::Testany(xs) => some_of_list(alloc, run, r, o, xs.as_slice()),
         Call::Testsome(xs) => some_of_list(alloc, run, r, o, xs.as_slice()),
         Call::Improbe(e) => sought_by(alloc, run, r, o, n, call, *e),
+        Call::Iprobe(e) => sought_by(alloc, run, r, o, n, call, *e),
         _ => Ok(Condition::yes()),
     }
 }

@@ -23,7 +23,7 @@ struct RoundTally {
 fn is_same_function(a: CollectiveFunction, b: CollectiveFunction) -> bool
     ensures { result ≡ same_function a b }
 {
-    a.kind.number() == b.kind.number() && a.nonblocking == b.nonblocking
+    a.kind().number() == b.kind().number() && a.is_nonblocking() == b.is_nonblocking()
 }
 
 /// Whether two calls have one root, or neither has one.

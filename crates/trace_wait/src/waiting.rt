@@ -87,6 +87,7 @@ fn waits_for(
         | Call::Start(_)
         | Call::Startall(_)
         | Call::Improbe(_)
+        | Call::Iprobe(_)
         | Call::Imrecv
         | Call::Unread => Ok(Condition::yes()),
     }

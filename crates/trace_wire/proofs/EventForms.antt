@@ -5,7 +5,7 @@ use Rattle.std.specs.Int.{w32}
 use Rattle.std.proofs.lemmas.List.{length-append}
 use Rattle.std.proofs.lemmas.Bool.Decides.{nat_tests}
 use Rattle.mpi_model.specs.Times.{Times, IsTimes}
-use Rattle.mpi_model.specs.Ranges.{IsTold, IsCollective, CollectiveCall}
+use Rattle.mpi_model.specs.Ranges.{IsTold, IsIcollective, CollectiveCall}
 use Rattle.mpi_model.specs.declared.call.Call.{Call}
 use Rattle.mpi_model.specs.declared.call.Call.TheVariants as calls
 use Rattle.mpi_model.specs.declared.outcome.Outs.{Outs}
@@ -51,7 +51,8 @@ later_takes n bytes x fits e21 =
     choose (Behind call_code call_fields IsCall bytes x) n 25 _ _ x e25 (filled (probe) _ (probe_form) (λ e. calls.Mprobe e) call_code call_fields IsCall bytes x 25 fits (λ a ok. refl) (λ a ok. refl) (λ a ok. ok)) (λ e26.
     choose (Behind call_code call_fields IsCall bytes x) n 26 _ _ x e26 (filled (probe) _ (probe_form) (λ e. calls.Improbe e) call_code call_fields IsCall bytes x 26 fits (λ a ok. refl) (λ a ok. refl) (λ a ok. ok)) (λ e27.
     choose (Behind call_code call_fields IsCall bytes x) n 27 _ _ x e27 (bare call_code call_fields IsCall bytes x 27 calls.Imrecv fits refl refl tt) (λ e28.
-    choose (Behind call_code call_fields IsCall bytes x) n 28 _ _ x e28 (filled (igathering) _ (igathering_form) (λ g. calls.Icollective g) call_code call_fields IsCall bytes x 28 fits (λ a ok. rw (is_other a ok) refl) (λ a ok. rw (is_other a ok) refl) (λ a ok. ok.0)) (λ e29. no_value _ x e29))))))))
+    choose (Behind call_code call_fields IsCall bytes x) n 28 _ _ x e28 (filled (igathering) _ (igathering_form) (λ g. calls.Icollective g) call_code call_fields IsCall bytes x 28 fits (λ a ok. rw (is_other a ok) refl) (λ a ok. rw (is_other a ok) refl) (λ a ok. ok.0)) (λ e29.
+    choose (Behind call_code call_fields IsCall bytes x) n 29 _ _ x e29 (filled (probe) _ (probe_form) (λ e. calls.Iprobe e) call_code call_fields IsCall bytes x 29 fits (λ a ok. refl) (λ a ok. refl) (λ a ok. ok)) (λ e30. no_value _ x e30)))))))))
 
 further_takes : (n : ℕ) (bytes : List ℕ) (x : Call × List ℕ) → IsBytes bytes → further_call_at n bytes ≡ Some x → Behind call_code call_fields IsCall bytes x n
 unfolding further_call_at
@@ -87,7 +88,7 @@ call_takes n bytes x fits e0 =
     choose (Behind call_code call_fields IsCall bytes x) n 6 _ _ x e6 (filled (exchange) _ (exchange_form) (λ b. calls.Sendrecv b) call_code call_fields IsCall bytes x 6 fits (λ a ok. refl) (λ a ok. refl) (λ a ok. ok)) (λ e7. middle_takes n bytes x fits e7)))))))
 
 -- by the kind, one spelling or the other
-icollective_again : (g : CollectiveCall) (b : Bool) (rest : List ℕ) → is_barrier g.kind ≡ b → IsCollective g → length (icollective_fields g) < 2 ^ 32 → call_at (icollective_code g.kind) (icollective_fields g ++ rest) ≡ Some (calls.Icollective g, rest)
+icollective_again : (g : CollectiveCall) (b : Bool) (rest : List ℕ) → is_barrier g.kind ≡ b → IsIcollective g → length (icollective_fields g) < 2 ^ 32 → call_at (icollective_code g.kind) (icollective_fields g ++ rest) ≡ Some (calls.Icollective g, rest)
 unfolding call_at middle_call_at further_call_at later_call_at
 icollective_again g true rest is fits short = rw is (ap (made (λ g. calls.Icollective g)) (ibarrier_form.again g rest (fits, is) (omega arith)))
 icollective_again g false rest is fits short = rw is (ap (made (λ g. calls.Icollective g)) (igathering_form.again g rest (fits, grind (arith, is)) (omega arith)))
@@ -120,6 +121,7 @@ call_again (calls.Start a) rest fits short = ap (made (λ r. calls.Start r)) ((s
 call_again (calls.Startall a) rest fits short = ap (made (λ r. calls.Startall r)) ((requests_form).again a rest fits short)
 call_again (calls.Mprobe a) rest fits short = ap (made (λ e. calls.Mprobe e)) ((probe_form).again a rest fits short)
 call_again (calls.Improbe a) rest fits short = ap (made (λ e. calls.Improbe e)) ((probe_form).again a rest fits short)
+call_again (calls.Iprobe a) rest fits short = ap (made (λ e. calls.Iprobe e)) ((probe_form).again a rest fits short)
 call_again calls.Imrecv rest fits short = refl
 call_again calls.Unread rest fits short = refl
 
@@ -181,6 +183,7 @@ call_small (calls.Start a) = omega arith
 call_small (calls.Startall a) = omega arith
 call_small (calls.Mprobe a) = omega arith
 call_small (calls.Improbe a) = omega arith
+call_small (calls.Iprobe a) = omega arith
 call_small calls.Imrecv = omega arith
 call_small calls.Unread = omega arith
 

@@ -1,13 +1,16 @@
 -- The laws of an event's fields.
-use Rattle.std.proofs.Common.{◌≡◌, ℕ, ◌^◌, ◌<◌, ◌≤◌, Bool, true, false, not, cond, ltb, eqb, Option, Some, None, refl, sym, ap, subst, arith, inl, inr}
-use Rattle.std.specs.Prelude.{ℤ, pos, negsuc, nat_le}
+use Rattle.std.proofs.Common.{◌≡◌, ℕ, zero, suc, ◌+◌, ◌^◌, ◌<◌, ◌≤◌, ◌==◌, ◌&&◌, ◌∙◌, Bool, true, false, not, cond, ltb, eqb, List, [], ◌∷◌, Option, Some, None, refl, sym, ap, subst, arith, inl, inr}
+use Rattle.std.specs.Prelude.{ℤ, pos, negsuc, nat_le, slice_get}
+use Rattle.std.proofs.lemmas.Option.{slice_get_within}
 use Rattle.std.specs.Int.{w32, w64, cast_signed, cast_unsigned}
 use Rattle.std.proofs.lemmas.Bool.{ltb-true, eqb-true}
 use Rattle.std.proofs.lemmas.Bool.Decides.{nat_tests}
 use Rattle.std.proofs.lemmas.Int.{ints, to_z-of_z, of_z-to_z}
 use Rattle.mpi_model.specs.Times.{latest, IsTimes}
-use Rattle.mpi_model.specs.Ranges.{IsTold, IsAskedTag, IsComm, IsSource, IsNamed, IsTarget, IsRootOf, IsCollective, IsProbe, CollectiveCall}
-use Rattle.mpi_model.specs.Kinds.{kind_number}
+use Rattle.mpi_model.specs.Ranges.{IsTold, IsAskedTag, IsComm, IsSource, IsNamed, IsTarget, IsRootOf, IsNamedAs, IsCollective, IsIcollective, IsProbe, CollectiveCall}
+use Rattle.mpi_model.specs.Kinds.{all_kinds, has_nonblocking, kind_number, kind_of, object_number, row}
+use Rattle.mpi_model.specs.declared.object.Object.{Object}
+use Rattle.mpi_model.specs.declared.object.Object.TheVariants.{Communicator, Window, File}
 use Rattle.mpi_model.specs.declared.envelope.Peer.{Peer}
 use Rattle.mpi_model.specs.declared.envelope.Peer.TheVariants as peers
 use Rattle.mpi_model.specs.declared.envelope.CommRef.{CommRef}
@@ -20,7 +23,7 @@ use Rattle.mpi_model.specs.declared.envelope.Envelope.{Envelope}
 use Rattle.mpi_model.specs.declared.told.Told.{Told}
 use Rattle.mpi_model.specs.declared.told.Told.TheVariants as tolds
 use Rattle.trace_wire.specs.Forms.{◌>>=◌, number, byte, mapped, guarded, pair, small, marked, signed, small_of, marked_of, marked_code}
-use Rattle.trace_wire.specs.Fields.{peer_code, peer_of, told_code, told_of, comm_code, comm_of, mode_code, mode_of, kind_of, flag_code, flag_of, peer, told, comm, mode, kind, flag, moment, stamp, envelope, named, send_envelope, same_comm, exchange, rooted, gathering, is_barrier, ibarrier, igathering, probe}
+use Rattle.trace_wire.specs.Fields.{peer_code, peer_of, told_code, told_of, comm_code, comm_of, mode_code, mode_of, flag_code, flag_of, peer, told, comm, mode, kind, flag, moment, stamp, envelope, named, send_envelope, same_comm, exchange, rooted, named_as, gathering, is_barrier, ibarrier, igathering, probe}
 use Rattle.mpi_model.specs.Events.{IsSigned, IsSent, IsReceived, IsExchanged}
 use Rattle.trace_wire.proofs.FormLaws.{IsForm, wide32, wide64, number_form, byte_form, mapped_form, pair_form, guarded_form, record_form, refit, chosen, choose, no_value, some_is, bind_some}
 
@@ -176,63 +179,120 @@ few_form {A} code of back again fits = mapped_form byte code of (λ n. n < 256) 
 pub mode_form : IsForm mode (λ _. Unit {0})
 mode_form = few_form mode_code mode_of mode_back mode_again mode_fits
 
+-- the kind at the place of its number
+kind_place : (m : Kind) → slice_get all_kinds (kind_number m) ≡ Some m
+unfolding all_kinds kind_number
+kind_place kinds.Barrier = refl
+kind_place kinds.Bcast = refl
+kind_place kinds.Scatter = refl
+kind_place kinds.Gather = refl
+kind_place kinds.Reduce = refl
+kind_place kinds.Allreduce = refl
+kind_place kinds.Allgather = refl
+kind_place kinds.Alltoall = refl
+kind_place kinds.Scan = refl
+kind_place kinds.Exscan = refl
+kind_place kinds.ReduceScatterBlock = refl
+kind_place kinds.ReduceScatter = refl
+kind_place kinds.Allgatherv = refl
+kind_place kinds.Alltoallv = refl
+kind_place kinds.Alltoallw = refl
+kind_place kinds.Gatherv = refl
+kind_place kinds.Scatterv = refl
+kind_place kinds.CommSplit = refl
+kind_place kinds.CommSplitType = refl
+kind_place kinds.DistGraphCreate = refl
+kind_place kinds.CommDup = refl
+kind_place kinds.CommDupWithInfo = refl
+kind_place kinds.CommCreate = refl
+kind_place kinds.CommFree = refl
+kind_place kinds.CommDisconnect = refl
+kind_place kinds.CartCreate = refl
+kind_place kinds.GraphCreate = refl
+kind_place kinds.DistGraphCreateAdjacent = refl
+kind_place kinds.CartSub = refl
+kind_place kinds.IntercommCreate = refl
+kind_place kinds.CommSpawn = refl
+kind_place kinds.CommSpawnMultiple = refl
+kind_place kinds.CommAccept = refl
+kind_place kinds.CommConnect = refl
+kind_place kinds.WinCreate = refl
+kind_place kinds.WinAllocate = refl
+kind_place kinds.WinAllocateShared = refl
+kind_place kinds.WinCreateDynamic = refl
+kind_place kinds.FileOpen = refl
+kind_place kinds.NeighborAllgather = refl
+kind_place kinds.NeighborAllgatherv = refl
+kind_place kinds.NeighborAlltoall = refl
+kind_place kinds.NeighborAlltoallv = refl
+kind_place kinds.NeighborAlltoallw = refl
+kind_place kinds.WinFence = refl
+kind_place kinds.WinFree = refl
+kind_place kinds.FileClose = refl
+kind_place kinds.FileSetView = refl
+kind_place kinds.FileSetSize = refl
+kind_place kinds.FilePreallocate = refl
+kind_place kinds.FileSync = refl
+kind_place kinds.FileSetAtomicity = refl
+kind_place kinds.FileSeekShared = refl
+kind_place kinds.FileReadAll = refl
+kind_place kinds.FileReadAtAll = refl
+kind_place kinds.FileReadOrdered = refl
+kind_place kinds.FileWriteAll = refl
+kind_place kinds.FileWriteAtAll = refl
+kind_place kinds.FileWriteOrdered = refl
+kind_place kinds.FileReadAllBegin = refl
+kind_place kinds.FileReadAtAllBegin = refl
+kind_place kinds.FileReadOrderedBegin = refl
+kind_place kinds.FileWriteAllBegin = refl
+kind_place kinds.FileWriteAtAllBegin = refl
+kind_place kinds.FileWriteOrderedBegin = refl
+kind_place kinds.FileReadAllEnd = refl
+kind_place kinds.FileReadAtAllEnd = refl
+kind_place kinds.FileReadOrderedEnd = refl
+kind_place kinds.FileWriteAllEnd = refl
+kind_place kinds.FileWriteAtAllEnd = refl
+kind_place kinds.FileWriteOrderedEnd = refl
+kind_place kinds.CommSetInfo = refl
+kind_place kinds.WinSetInfo = refl
+kind_place kinds.FileSetInfo = refl
+
+-- the numbers of these kinds are first, first + 1, and so on
+abbrev counts : ℕ → List Kind → Bool
+counts first [] = true
+counts first (m ∷ ms) = eqb (kind_number m) first && counts (first + 1) ms
+
+counts_all : counts 0 all_kinds ≡ true
+unfolding all_kinds kind_number
+counts_all = refl
+
+both : (a b : Bool) → (a && b) ≡ true → (a ≡ true) × (b ≡ true)
+both true b h = (refl, h)
+both false b h = absurd cc
+
+number_at : (first : ℕ) (ms : List Kind) (n : ℕ) (m : Kind) → counts first ms ≡ true → slice_get ms n ≡ Some m → kind_number m ≡ first + n
+number_at first [] n m h here = absurd (no_value _ m here)
+number_at first (j ∷ js) zero m h here =
+    let number = eqb-true (kind_number j) first (both (eqb (kind_number j) first) (counts (first + 1) js) h).0 in
+    ap kind_number (sym (some_is j m here)) ∙ omega (arith, number)
+number_at first (j ∷ js) (suc n) m h here =
+    let later = number_at (first + 1) js n m (both (eqb (kind_number j) first) (counts (first + 1) js) h).1 here in
+    omega (arith, later)
+
 kind_back : (n : ℕ) (m : Kind) → kind_of n ≡ Some m → kind_number m ≡ n
-kind_back n m e =
-    step kind_number n 0 kinds.Barrier _ m refl e (λ e1.
-    step kind_number n 1 kinds.Bcast _ m refl e1 (λ e2.
-    step kind_number n 2 kinds.Scatter _ m refl e2 (λ e3.
-    step kind_number n 3 kinds.Gather _ m refl e3 (λ e4.
-    step kind_number n 4 kinds.Reduce _ m refl e4 (λ e5.
-    step kind_number n 5 kinds.Allreduce _ m refl e5 (λ e6.
-    step kind_number n 6 kinds.Allgather _ m refl e6 (λ e7.
-    step kind_number n 7 kinds.Alltoall _ m refl e7 (λ e8.
-    step kind_number n 8 kinds.Scan _ m refl e8 (λ e9.
-    step kind_number n 9 kinds.Exscan _ m refl e9 (λ e10.
-    step kind_number n 10 kinds.ReduceScatterBlock _ m refl e10 (λ e11.
-    step kind_number n 11 kinds.ReduceScatter _ m refl e11 (λ e12.
-    step kind_number n 12 kinds.Allgatherv _ m refl e12 (λ e13.
-    step kind_number n 13 kinds.Alltoallv _ m refl e13 (λ e14.
-    step kind_number n 14 kinds.Alltoallw _ m refl e14 (λ e15.
-    step kind_number n 15 kinds.Gatherv _ m refl e15 (λ e16.
-    step kind_number n 16 kinds.Scatterv _ m refl e16 (no_value _ m)))))))))))))))))
+unfolding kind_of
+kind_back n m e = let place = number_at 0 all_kinds n m counts_all e in omega (arith, place)
 
 kind_again : (m : Kind) → kind_of (kind_number m) ≡ Some m
-kind_again kinds.Barrier = refl
-kind_again kinds.Bcast = refl
-kind_again kinds.Scatter = refl
-kind_again kinds.Gather = refl
-kind_again kinds.Reduce = refl
-kind_again kinds.Allreduce = refl
-kind_again kinds.Allgather = refl
-kind_again kinds.Alltoall = refl
-kind_again kinds.Scan = refl
-kind_again kinds.Exscan = refl
-kind_again kinds.ReduceScatterBlock = refl
-kind_again kinds.ReduceScatter = refl
-kind_again kinds.Allgatherv = refl
-kind_again kinds.Alltoallv = refl
-kind_again kinds.Alltoallw = refl
-kind_again kinds.Gatherv = refl
-kind_again kinds.Scatterv = refl
+unfolding kind_of
+kind_again m = kind_place m
+
+kind_below : (m : Kind) → kind_number m < 74
+unfolding all_kinds
+kind_below m = slice_get_within all_kinds (kind_number m) m (kind_place m)
 
 kind_fits : (m : Kind) → kind_number m < 256
-kind_fits kinds.Barrier = omega arith
-kind_fits kinds.Bcast = omega arith
-kind_fits kinds.Scatter = omega arith
-kind_fits kinds.Gather = omega arith
-kind_fits kinds.Reduce = omega arith
-kind_fits kinds.Allreduce = omega arith
-kind_fits kinds.Allgather = omega arith
-kind_fits kinds.Alltoall = omega arith
-kind_fits kinds.Scan = omega arith
-kind_fits kinds.Exscan = omega arith
-kind_fits kinds.ReduceScatterBlock = omega arith
-kind_fits kinds.ReduceScatter = omega arith
-kind_fits kinds.Allgatherv = omega arith
-kind_fits kinds.Alltoallv = omega arith
-kind_fits kinds.Alltoallw = omega arith
-kind_fits kinds.Gatherv = omega arith
-kind_fits kinds.Scatterv = omega arith
+kind_fits m = omega (arith, kind_below m)
 
 pub kind_form : IsForm kind (λ _. Unit {0})
 kind_form = few_form kind_number kind_of kind_back kind_again kind_fits
@@ -308,6 +368,24 @@ rooted_here : (k : Kind) (r : Option ℕ) → IsRootOf k r → IsAskedTag r × (
 rooted_here k None f = (tt, refl)
 rooted_here k (Some n) f = (f.1, f.0)
 
+-- a sort of the number of communicators is that of communicators
+communicator_is : (object : Object) → (object_number object == object_number Communicator) ≡ true → object ≡ Communicator
+communicator_is Communicator h = refl
+communicator_is Window h = absurd cc
+communicator_is File h = absurd cc
+
+named_there : (object : Object) (c : CommRef) → named_as object c ≡ true → IsNamedAs object c
+named_there object comms.World h = communicator_is object h
+named_there object (comms.Id n) h = tt
+
+named_here : (object : Object) (c : CommRef) → IsNamedAs object c → named_as object c ≡ true
+named_here object comms.World f = ap (λ (o : Object). object_number o == object_number Communicator) f
+named_here object (comms.Id n) f = refl
+
+and_true : (a b : Bool) → a ≡ true → b ≡ true → (a && b) ≡ true
+and_true true b h k = k
+and_true false b h k = h
+
 -- A send names its peer and its tag.
 send_there : (e : Envelope) → IsReceived e × (named e.peer e.tag ≡ true) → IsSent e
 send_there e h = let p = sent e.peer e.tag h.0.0.0 h.0.0.1 h.1 in ((p.0, p.1, h.0.0.2, h.0.0.3), h.0.1)
@@ -335,34 +413,58 @@ exchange_form = record_form (guarded (pair send_envelope envelope) (λ x. same_c
     (guarded_form (pair send_envelope envelope) (λ x. same_comm x.0.comm x.1.comm) _ (pair_form send_envelope envelope _ _ send_form envelope_form))
 
 pub gathering_form : IsForm gathering IsCollective
-gathering_form = record_form (guarded (pair kind (pair marked comm)) (λ x. rooted x.0 x.1.0)) (λ g. (g.kind, (g.root, g.comm))) (λ x. record { kind = x.0; root = x.1.0; comm = x.1.1 }) _ IsCollective (λ a. refl) (λ b. refl)
-    (λ a fits. (rooted_there a.0 a.1.0 fits.0.1.0 fits.1, fits.0.1.1))
-    (λ b fits. let r = rooted_here b.kind b.root fits.0 in ((tt, (r.0, fits.1)), r.1))
-    (guarded_form (pair kind (pair marked comm)) (λ x. rooted x.0 x.1.0) _ (pair_form kind (pair marked comm) _ _ kind_form (pair_form marked comm _ _ marked_form comm_form)))
+gathering_form = record_form (guarded (pair kind (pair marked comm)) (λ x. rooted x.0 x.1.0 && named_as (row x.0).object x.1.1)) (λ g. (g.kind, (g.root, g.comm))) (λ x. record { kind = x.0; root = x.1.0; comm = x.1.1 }) _ IsCollective (λ a. refl) (λ b. refl)
+    (λ a fits. let h = both (rooted a.0 a.1.0) (named_as (row a.0).object a.1.1) fits.1 in (rooted_there a.0 a.1.0 fits.0.1.0 h.0, fits.0.1.1, named_there (row a.0).object a.1.1 h.1))
+    (λ b fits. let r = rooted_here b.kind b.root fits.0 in ((tt, (r.0, fits.1)), and_true (rooted b.kind b.root) (named_as (row b.kind).object b.comm) r.1 (named_here (row b.kind).object b.comm fits.2)))
+    (guarded_form (pair kind (pair marked comm)) (λ x. rooted x.0 x.1.0 && named_as (row x.0).object x.1.1) _ (pair_form kind (pair marked comm) _ _ kind_form (pair_form marked comm _ _ marked_form comm_form)))
 
 -- MPI_Ibarrier
 abbrev pub IsIbarrier : CollectiveCall → Type 0
-IsIbarrier g = IsCollective g × (is_barrier g.kind ≡ true)
+IsIbarrier g = IsIcollective g × (is_barrier g.kind ≡ true)
+
+-- kinds of one number are one kind
+one_kind : (a b : Kind) → kind_number a ≡ kind_number b → a ≡ b
+one_kind a b h = some_is a b (sym (kind_place a) ∙ ap (slice_get all_kinds) h ∙ kind_place b)
+
+no_root : (r : Option ℕ) → IsRootOf kinds.Barrier r → r ≡ None
+unfolding row
+no_root None f = refl
+no_root (Some n) f = absurd (let e : false ≡ true = f.0 in cc)
+
+is_sound : (c : CommRef) → IsComm c → IsIcollective (record { kind = kinds.Barrier; root = None; comm = c })
+unfolding row
+is_sound comms.World fits = ((tt, fits, refl), refl)
+is_sound (comms.Id n) fits = ((tt, fits, tt), refl)
 
 -- only Barrier has its number, and it has no root
 no_more : (k : Kind) (r : Option ℕ) (c : CommRef) → IsRootOf k r → is_barrier k ≡ true → ◌≡◌ {A = Option CollectiveCall} (Some (record { kind = kinds.Barrier; root = None; comm = c })) (Some (record { kind = k; root = r; comm = c }))
-no_more kinds.Barrier None c f h = refl
-no_more kinds.Barrier (Some n) c f h = absurd (let e : false ≡ true = f.0 in cc)
-no_more k r c f h = absurd cc
+no_more k r c f h =
+    let is : kinds.Barrier ≡ k = sym (one_kind k kinds.Barrier (eqb-true (kind_number k) (kind_number kinds.Barrier) h)) in
+    let none = no_root r (subst (λ (j : Kind). IsRootOf j r) (sym is) f) in
+    ap (λ (j : Kind). Some (record { kind = j; root = None; comm = c })) is ∙ ap (λ (o : Option ℕ). Some (record { kind = k; root = o; comm = c })) (sym none)
+
+itself : (n : ℕ) → (n == n) ≡ true
+itself n = grind (arith, nat_tests)
 
 pub ibarrier_form : IsForm ibarrier IsIbarrier
 ibarrier_form = mapped_form comm (λ g. g.comm) (λ c. Some (record { kind = kinds.Barrier; root = None; comm = c })) IsComm IsIbarrier comm_form (record {
-  back = λ c g fits e. subst (λ (h : CollectiveCall). (h.comm ≡ c) × IsIbarrier h) (some_is _ g e) (refl, ((tt, fits), refl));
-  again = λ g fits. no_more g.kind g.root g.comm fits.0.0 fits.1;
-  fits = λ g fits. fits.0.1;
+  back = λ c g fits e. subst (λ (h : CollectiveCall). (h.comm ≡ c) × IsIbarrier h) (some_is _ g e) (refl, (is_sound c fits, itself (kind_number kinds.Barrier)));
+  again = λ g fits. no_more g.kind g.root g.comm fits.0.0.0 fits.1;
+  fits = λ g fits. fits.0.0.1;
 })
 
 -- every other nonblocking call
 abbrev pub IsOtherCall : CollectiveCall → Type 0
-IsOtherCall g = IsCollective g × (not (is_barrier g.kind) ≡ true)
+IsOtherCall g = IsIcollective g × (not (is_barrier g.kind) ≡ true)
+
+other_there : (g : CollectiveCall) → IsCollective g × ((not (is_barrier g.kind) && has_nonblocking g.kind) ≡ true) → IsOtherCall g
+other_there g h = let p = both (not (is_barrier g.kind)) (has_nonblocking g.kind) h.1 in ((h.0, p.1), p.0)
+
+other_here : (g : CollectiveCall) → IsOtherCall g → IsCollective g × ((not (is_barrier g.kind) && has_nonblocking g.kind) ≡ true)
+other_here g h = (h.0.0, and_true (not (is_barrier g.kind)) (has_nonblocking g.kind) h.1 h.0.1)
 
 pub igathering_form : IsForm igathering IsOtherCall
-igathering_form = guarded_form gathering (λ g. not (is_barrier g.kind)) IsCollective gathering_form
+igathering_form = refit igathering _ IsOtherCall other_there other_here (guarded_form gathering (λ g. not (is_barrier g.kind) && has_nonblocking g.kind) IsCollective gathering_form)
 
 pub probe_form : IsForm probe IsProbe
 probe_form = record_form (pair peer (pair marked comm)) (λ e. (e.source, (e.tag, e.comm))) (λ x. record { source = x.0; tag = x.1.0; comm = x.1.1 }) _ IsProbe (λ a. refl) (λ b. refl)

@@ -1,8 +1,10 @@
 -- The fields of calls and outcomes, as forms.
-use Rattle.std.specs.Prelude.{ℕ, Bool, true, false, List, [], ◌∷◌, Option, Some, None, nat_le, not, ◌==◌, if◌then◌else◌}
+use Rattle.std.specs.Prelude.{ℕ, Bool, true, false, List, [], ◌∷◌, Option, Some, None, nat_le, not, ◌==◌, ◌&&◌, if◌then◌else◌}
 use Rattle.std.specs.Int.{w32, w64}
 use Rattle.mpi_model.specs.Times.{Times, latest}
-use Rattle.mpi_model.specs.Kinds.{has_root, kind_number}
+use Rattle.mpi_model.specs.Kinds.{has_nonblocking, has_root, kind_number, kind_of, object_number, row}
+use Rattle.mpi_model.specs.declared.object.Object.{Object}
+use Rattle.mpi_model.specs.declared.object.Object.TheVariants.{Communicator}
 use Rattle.mpi_model.specs.Ranges.{BothEnvelopes, CollectiveCall, Probed}
 use Rattle.mpi_model.specs.declared.envelope.Peer.{Peer}
 use Rattle.mpi_model.specs.declared.envelope.Peer.TheVariants as peers
@@ -71,27 +73,6 @@ mode_of n =
     if n == 1 then Some modes.Synchronous else (
     if n == 2 then Some modes.Buffered else (
     if n == 3 then Some modes.Ready else None)))
-
--- the kind of a collective call, by its number (MPI 4.0, chapter 6)
-abbrev pub kind_of : ℕ → Option Kind
-kind_of n =
-    if n == 0 then Some kinds.Barrier else (
-    if n == 1 then Some kinds.Bcast else (
-    if n == 2 then Some kinds.Scatter else (
-    if n == 3 then Some kinds.Gather else (
-    if n == 4 then Some kinds.Reduce else (
-    if n == 5 then Some kinds.Allreduce else (
-    if n == 6 then Some kinds.Allgather else (
-    if n == 7 then Some kinds.Alltoall else (
-    if n == 8 then Some kinds.Scan else (
-    if n == 9 then Some kinds.Exscan else (
-    if n == 10 then Some kinds.ReduceScatterBlock else (
-    if n == 11 then Some kinds.ReduceScatter else (
-    if n == 12 then Some kinds.Allgatherv else (
-    if n == 13 then Some kinds.Alltoallv else (
-    if n == 14 then Some kinds.Alltoallw else (
-    if n == 15 then Some kinds.Gatherv else (
-    if n == 16 then Some kinds.Scatterv else None))))))))))))))))
 
 -- whether a test found its request completed
 abbrev pub flag_code : Bool → ℕ
@@ -171,9 +152,14 @@ abbrev pub rooted : Kind → Option ℕ → Bool
 rooted k None = true
 rooted k (Some root) = has_root k
 
--- a collective call: kind, root, communicator
+-- Only a communicator has the mark of MPI_COMM_WORLD.
+abbrev pub named_as : Object → CommRef → Bool
+named_as object comms.World = object_number object == object_number Communicator
+named_as object (comms.Id n) = true
+
+-- a collective call: kind, root, communicator, or in its place the number of a window or of a file
 abbrev pub gathering : Form CollectiveCall
-gathering = mapped (guarded (pair kind (pair marked comm)) (λ x. rooted x.0 x.1.0))
+gathering = mapped (guarded (pair kind (pair marked comm)) (λ x. rooted x.0 x.1.0 && named_as (row x.0).object x.1.1))
     (λ g. (g.kind, (g.root, g.comm))) (λ x. Some (record { kind = x.0; root = x.1.0; comm = x.1.1 }))
 
 -- MPI_Ibarrier is spelled by its communicator alone, and no other nonblocking call is.
@@ -184,9 +170,9 @@ is_barrier kind = kind_number kind == kind_number kinds.Barrier
 abbrev pub ibarrier : Form CollectiveCall
 ibarrier = mapped comm (λ g. g.comm) (λ c. Some (record { kind = kinds.Barrier; root = None; comm = c }))
 
--- every other nonblocking collective call
+-- every other nonblocking collective call, of a kind that has one
 abbrev pub igathering : Form CollectiveCall
-igathering = guarded gathering (λ g. not (is_barrier g.kind))
+igathering = guarded gathering (λ g. not (is_barrier g.kind) && has_nonblocking g.kind)
 
 -- what a probe looks for: peer, tag, communicator
 abbrev pub probe : Form Probed

@@ -9,5 +9,5 @@ use mpi_model::Kind;
 pub(crate) fn is_barrier(kind: Kind) -> bool
     ensures { result ≡ is_barrier kind }
 {
-    matches!(kind, Kind::Barrier)
+    kind.number() == Kind::Barrier.number()
 }

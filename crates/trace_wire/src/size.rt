@@ -52,7 +52,7 @@ fn call_len(call: &Call) -> u64
         | Call::Startall(requests) => list_len(requests.as_slice().len(), 8),
         Call::Collective(_) => 9,
         Call::Icollective(call) => icollective_len(call.kind()),
-        Call::Probe(_) | Call::Mprobe(_) | Call::Improbe(_) => 12,
+        Call::Probe(_) | Call::Mprobe(_) | Call::Improbe(_) | Call::Iprobe(_) => 12,
     }
 }
 

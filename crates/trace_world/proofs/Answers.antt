@@ -1,7 +1,8 @@
 -- Which nodes have an answer after a step.
 use Rattle.std.proofs.Common.{◌≡◌, ◌≢◌, ◌⊎◌, ⊎_elim, ◌↔◌, ◌<◌, ℕ, Bool, true, false, Some, Ok, Err, OnOk, IfErr, Result, List, get_or, arith, set, refl, sym, ap, ◌∙◌, subst, Option, nat_lt, if◌then◌else◌}
-use Rattle.std.specs.Prelude.{slice_set, slice_index_or, length}
-use Rattle.std.proofs.lemmas.List.{length-map, map-set, set-set, set-get_or, get_or-set_same, get_or-set_other}
+use Rattle.std.specs.Prelude.{Contains, [], ◌∷◌, ◌++◌, ◌+◌, zero, suc, slice_set, slice_index_or, length, take}
+use Rattle.std.proofs.lemmas.List.{length-map, map-set, set-set, set-get_or, get_or-set_same, get_or-set_other, take_more}
+use Rattle.std.proofs.lemmas.List.Elements.{Contains-push_cases}
 use Rattle.std.proofs.lemmas.Option.{slice_get-get_or}
 use Rattle.std.specs.FinMap.{empty}
 use Rattle.mpi_model.specs.Layouts.{Parts}
@@ -11,7 +12,7 @@ use Rattle.trace_world.specs.declared.step.Step.{Step}
 use Rattle.trace_world.specs.declared.step.Step.TheVariants.{Post, Take, Ship, Deliver, Restart}
 use Rattle.trace_world.specs.declared.step.WorldFault.{WorldFault}
 use Rattle.trace_world.specs.declared.step.WorldFault.TheVariants.{NoNode, NoMail, EmptyInbox, Rank, FrameLength, Stale, NodeCount, Memory}
-use Rattle.trace_world.specs.Answers.{AnswersFresh, AnswersMore, AnswersStill, AnswersAfter, AnswersAgain, HoldsAfter, HoldsMore, JoinsMore, LosesAt, joins_more}
+use Rattle.trace_world.specs.Answers.{AreAnswered, AnswersFresh, AnswersMore, AnswersStill, AnswersAfter, AnswersAgain, HoldsAfter, HoldsMore, JoinsMore, LosesAt, joins_more, makes_answer}
 use Rattle.trace_world.specs.Moves.{Holds}
 use Rattle.trace_world.specs.Refusals.{IsFrameFault, IsOutcome, NoneStaler, is_done, node_of, refusal, refusal_there, stale}
 use Rattle.trace_world.specs.Shows.{WorldState}
@@ -158,3 +159,35 @@ loses old mid new steps k x Rank lt is so_far h may undone = same_then old mid n
 loses old mid new steps k x FrameLength lt is so_far h may undone = same_then old mid new so_far (undone refl)
 loses old mid new steps k x NodeCount lt is so_far h may undone = same_then old mid new so_far (undone refl)
 loses old mid new steps k x Memory lt is so_far h may undone = same_then old mid new so_far (undone refl)
+
+-- ---- answers that are made
+
+-- a node that is there and has its answer isn't without one
+there_answered : (flags : List Bool) (node : ℕ) → slice_index_or flags node true ≡ false → slice_index_or flags node false ≡ false
+there_answered [] node had = refl
+there_answered (flag ∷ flags) zero had = had
+there_answered (flag ∷ flags) (suc node) had = there_answered flags node had
+
+-- a node that was set to have one
+set_answered : (flags : List Bool) (node : ℕ) → slice_index_or (slice_set flags node false) node false ≡ false
+set_answered [] node = refl
+set_answered (flag ∷ flags) zero = refl
+set_answered (flag ∷ flags) (suc node) = set_answered flags node
+
+-- the node of an accepted step that makes its answer
+step_answered : (x : Step) (y : Unit {0}) (old new : List Bool) → AnswersAfter x (Ok y) old new → makes_answer x ≡ true → slice_index_or new (node_of x) false ≡ false
+step_answered (Post worker node segment) y old new a makes = absurd (cc makes)
+step_answered (Take node) y old new a makes = ap (λ l. slice_index_or l node false) a.1 ∙ there_answered old node a.0
+step_answered (Ship node) y old new a makes = absurd (cc makes)
+step_answered (Deliver mail node) y old new a makes = ap (λ l. slice_index_or l node false) a.1 ∙ there_answered old node a.0
+step_answered (Restart node) y old new a makes = ap (λ l. slice_index_or l node false) a ∙ set_answered old node
+
+-- one step more
+pub answered_more : (mid new : List Held) (steps : List Step) (k : ℕ) (x : Step) (y : Unit {0}) → k < length steps → x ≡ get_or steps k x → NoneStaler mid new → AnswersAfter x (Ok y) (stale mid) (stale new)
+    → AreAnswered (take k steps) mid → AreAnswered (take (k + 1) steps) new
+answered_more mid new steps k x y lt is fresh after so_far step has makes =
+    let e : take (k + 1) steps ≡ take k steps ++ x ∷ [] = take_more steps k x lt ∙ ap (λ z. take k steps ++ z ∷ []) (sym is) in
+    ⊎_elim
+    (λ (before : Contains (take k steps) step). fresh (node_of step) (so_far step before makes))
+    (λ (same : x ≡ step). subst (λ (s : Step). makes_answer s ≡ true → slice_index_or (stale new) (node_of s) false ≡ false) same (step_answered x y (stale mid) (stale new) after) makes)
+    (Contains-push_cases (take k steps) x step (subst (λ l. Contains l step) e has))

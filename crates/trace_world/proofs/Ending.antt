@@ -14,7 +14,7 @@ use Rattle.trace_world.specs.declared.step.WorldFault.{WorldFault}
 use Rattle.trace_world.specs.declared.step.WorldFault.TheVariants.{NoNode, NoMail, EmptyInbox, Rank, FrameLength, Stale, NodeCount, Memory}
 use Rattle.trace_world.specs.Answers.{AllAnswered, LosesAt}
 use Rattle.trace_world.specs.Ends.{Ends, EndsHeld, SameButAnswers}
-use Rattle.trace_world.specs.Refusals.{IsOutcome, SameNodes, done, no_front, refusal, refusal_there, too_long}
+use Rattle.trace_world.specs.Refusals.{IsOutcome, SameNodes, done, no_front, node_of, refusal, refusal_there, too_long}
 use Rattle.trace_world.specs.Schedule.{at}
 use Rattle.trace_world.specs.Shows.{Follows, WorldState, knows}
 use Rattle.trace_world.proofs.Following.{same_then}
@@ -73,6 +73,7 @@ answered old mid new steps (Ok x) ended same all = record {
   ok = follows_on old mid new steps ended.ok same;
   possible = ended.possible;
   fresh = λ i had. all i;
+  answered = λ step has makes. all (node_of step);
   err = tt;
   possible_before = tt;
   cause = tt;
@@ -83,6 +84,7 @@ answered old mid new steps (Err e) ended same all = record {
   ok = tt;
   possible = tt;
   fresh = tt;
+  answered = tt;
   err = (ended.err.0, follows_on old mid new (take (done e) steps) ended.err.1 same);
   possible_before = ended.possible_before;
   cause = (ended.cause.0, ended.cause.1, λ undone. subst (λ (found : Option WorldFault). IsOutcome found (Err e.fault)) (sym (refused_same mid new ended.cause.0 same)) (ended.cause.2 undone));

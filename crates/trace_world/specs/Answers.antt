@@ -1,5 +1,5 @@
 -- Which nodes have an answer after a step, and after a run that ended before its last step.
-use Rattle.std.specs.Prelude.{◌≡◌, ◌≢◌, ◌⊎◌, ⊤, ℕ, Bool, true, false, Result, Ok, Err, Some, List, slice_index_or, slice_set}
+use Rattle.std.specs.Prelude.{◌≡◌, ◌≢◌, ◌⊎◌, ⊤, ℕ, Bool, true, false, Contains, Result, Ok, Err, Some, List, slice_index_or, slice_set}
 use Rattle.std.specs.List.{slice_get}
 use Rattle.trace_node.specs.Node.{Held}
 use Rattle.trace_world.specs.declared.step.Step.{Step}
@@ -75,6 +75,18 @@ joins_more (Take node) = true
 joins_more (Ship node) = false
 joins_more (Deliver mail node) = true
 joins_more (Restart node) = false
+
+-- whether a step's node makes its answer anew: it joins more, or starts anew
+abbrev pub makes_answer : Step → Bool
+makes_answer (Post worker node segment) = false
+makes_answer (Take node) = true
+makes_answer (Ship node) = false
+makes_answer (Deliver mail node) = true
+makes_answer (Restart node) = true
+
+-- Each node that joined more or started anew at one of these steps has its answer.
+abbrev pub AreAnswered : List Step → List Held → Type 0
+AreAnswered steps nodes = (step : Step) → Contains steps step → makes_answer step ≡ true → slice_index_or (stale nodes) (node_of step) false ≡ false
 
 -- At this step its node joins more: only then can it lose its answer.
 abbrev pub JoinsMore : Step → Type 0

@@ -1,6 +1,6 @@
 -- How a run of steps ends.
 use Rattle.std.specs.Prelude.{◌≡◌, ◌≢◌, ◌<◌, Result, List, OnOk, IfErr, length, take}
-use Rattle.trace_world.specs.Answers.{LosesOne}
+use Rattle.trace_world.specs.Answers.{AreAnswered, LosesOne}
 use Rattle.trace_world.specs.Possible.{Allows}
 use Rattle.trace_world.specs.Refusals.{NoneStaler, SameNodes, StopsAt, done}
 use Rattle.trace_world.specs.Shows.{Follows, WorldState, knows}
@@ -13,6 +13,7 @@ pub record Ends (old : WorldState) (steps : List Step) (result : Result (Unit {0
   pub ok : OnOk result (Follows old steps new)
   pub possible : OnOk result (Allows old steps)
   pub fresh : OnOk result (NoneStaler old.nodes new.nodes)
+  pub answered : OnOk result (AreAnswered steps new.nodes)
   pub err : IfErr result (λ e. (e.step < length steps) × Follows old (take (done e) steps) new)
   pub possible_before : IfErr result (λ e. Allows old (take (done e) steps))
   pub cause : IfErr result (λ e. StopsAt new steps e)

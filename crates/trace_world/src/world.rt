@@ -4,7 +4,7 @@ ghost use Rattle.std.specs.Prelude.{◌≡◌, ◌<◌, ◌≤◌, ◌∷◌, �
 ghost use Rattle.std.specs.FinMap.{empty};
 ghost use Rattle.std.specs.List.{slice_get};
 ghost use Rattle.std.specs.Option.{option_map};
-ghost use Rattle.trace_world.specs.Answers.{AllAnswered, AnswersAfter, AnswersAgain, AnswersAnew, AnswersFresh, AnswersStill, HoldsAfter, HoldsMore, LosesOne};
+ghost use Rattle.trace_world.specs.Answers.{AllAnswered, AreAnswered, AnswersAfter, AnswersAgain, AnswersAnew, AnswersFresh, AnswersStill, HoldsAfter, HoldsMore, LosesOne};
 ghost use Rattle.trace_world.specs.Ends.{Ends, EndsHeld, SameButAnswers};
 ghost use Rattle.trace_world.specs.Heard.{AreUnheard};
 ghost use Rattle.trace_world.specs.Possible.{Allows};
@@ -119,6 +119,7 @@ impl<'a> World<'a> {
         ensures ok { OnOk result (Follows self.old steps.now self.new) }
         ensures possible { OnOk result (Allows self.old steps.now) }
         ensures fresh { OnOk result (NoneStaler self.old.nodes self.new.nodes) }
+        ensures answered { OnOk result (AreAnswered steps.now self.new.nodes) }
         ensures err { IfErr result (λ e. (e.step < length steps.now) × Follows self.old (take (done e) steps.now) self.new) }
         ensures possible_before { IfErr result (λ e. Allows self.old (take (done e) steps.now)) }
         ensures cause { IfErr result (λ e. StopsAt self.new steps.now e) }

@@ -9,5 +9,5 @@ pub returns : goal.returns
 returns c =
     let found = found_of c.args.inner.now in
     let verb : verb_named c.args.name.now ≡ Some c.in_ok-verb.verb = search rules in
-    c.in_form.ensures ∙ formed c.args.name.now (rows_of found) c.in_ok-verb.verb _ _ verb
-    (c.get_str-json.ensures ∙ first_value-rows found (codes "json")) (c.get_str-rank.ensures ∙ first_value-rows found (codes "rank"))
+    c.in_form.ensures ∙ formed c.args.name.now (rows_of found) c.in_ok-verb.verb _ _ _ verb
+    (c.get_str-json.ensures ∙ first_value-rows found (codes "json")) (c.get_str-all.ensures ∙ first_value-rows found (codes "all")) (c.get_str-rank.ensures ∙ first_value-rows found (codes "rank"))

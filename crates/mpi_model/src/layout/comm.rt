@@ -1,10 +1,11 @@
-//! One communicator of a layout, and the look-up of communicators and of ranks in them.
+//! One communicator, window or file of a layout, and the look-up of them and of ranks in them.
 
 ghost use Rattle.std.specs.Prelude.{◌≡◌, ◌==◌, ◌<◌, ◌^◌, IfOk, length, option_map, slice_get};
 ghost use Rattle.std.specs.List.{position_from};
 ghost use Rattle.std.specs.List.Sorted.{IsStrictlyIncreasing};
-ghost use Rattle.mpi_model.specs.Communicators.{InOrder, communicators, ids, members_of};
+ghost use Rattle.mpi_model.specs.Communicators.{InOrder, communicators, ids, members_of, object_of_comm, one_of};
 
+use crate::object::Object;
 use std::alloc::{AllocError, Global};
 use std::marker::Model;
 
@@ -17,13 +18,15 @@ pub struct Stretch {
     pub end: Option<u64>,
 }
 
-/// A communicator: its id, and the ranks of its group in their order (MPI 4.0, 7.2.1).
+/// A communicator, a window or a file: its id, and the ranks of its group in their order (MPI 4.0,
+/// 7.2.1).
 #[derive(Debug, Drop)]
 pub struct Comm {
     pub id: u32,
+    pub object: Object,
     pub members: Vec<u32>,
-    /// For each member, by which number its own calls name the communicator, where they do. With
-    /// no entry at all each member names it by its id.
+    /// For each member, by which number its own calls name the object, where they do. With no
+    /// entry at all each member names it by its id.
     pub numbers: Vec<Option<Stretch>>,
 }
 
@@ -32,15 +35,21 @@ impl Model for Comm {
 
     ghost Value = { Communicator };
 
-    ghost view = { λ c. record { comm = c.id; members = c.members.items; numbers = c.numbers.items } };
+    ghost view = { λ c. record { comm = c.id; object = c.object; members = c.members.items; numbers = c.numbers.items } };
 }
 
 impl Comm {
-    pub(crate) fn new(id: u32, members: Vec<u32>, numbers: Vec<Option<Stretch>>) -> Comm
-        ensures { result ≡ record { comm = id; members = members.items; numbers = numbers.items } }
+    pub(crate) fn new(
+        id: u32,
+        object: Object,
+        members: Vec<u32>,
+        numbers: Vec<Option<Stretch>>,
+    ) -> Comm
+        ensures { result ≡ record { comm = id; object = object; members = members.items; numbers = numbers.items } }
     {
         Comm {
             id,
+            object,
             members,
             numbers,
         }
@@ -50,6 +59,12 @@ impl Comm {
         ensures { result ≡ self.now.comm }
     {
         self.id
+    }
+
+    pub(crate) fn object(&self) -> Object
+        ensures { result ≡ self.now.object }
+    {
+        self.object
     }
 
     pub(crate) fn members(&self) -> &[u32]
@@ -71,7 +86,7 @@ pub(crate) fn comms_of(alloc: Global, given: Vec<(u32, Vec<u32>)>) -> Result<Vec
 {
     let mut comms = Vec::with_capacity(alloc, given.len())?;
     for (id, members) in given {
-        comms.push(Comm::new(id, members, Vec::new(alloc)))?;
+        comms.push(Comm::new(id, Object::Communicator, members, Vec::new(alloc)))?;
     }
     Ok(comms)
 }
@@ -111,7 +126,7 @@ fn copy_of(alloc: Global, comm: &Comm) -> Result<Comm, AllocError>
 {
     let members = copy_of_members(alloc, comm.members())?;
     let numbers = copy_of_numbers(alloc, comm.numbers())?;
-    Ok(Comm::new(comm.id(), members, numbers))
+    Ok(Comm::new(comm.id(), comm.object(), members, numbers))
 }
 
 /// A copy of the communicators.
@@ -141,7 +156,7 @@ pub(crate) fn members_among(comms: &[Comm], comm: u32) -> Option<&[u32]>
 /// the last.
 fn place_in(comms: &[Comm], comm: u32) -> usize
     requires { IsStrictlyIncreasing (ids comms.now) }
-    ensures { option_map (λ g. g.members) (slice_get comms.now result) ≡ members_of comms.now comm }
+    ensures { slice_get comms.now result ≡ one_of comms.now comm }
 {
     match comms.binary_search_by_key(&comm, |candidate| candidate.id()) {
         Ok(at) => at,
@@ -155,6 +170,26 @@ pub(crate) fn members_in(comms: &[Comm], comm: u32) -> Option<&[u32]>
     ensures { option_map (λ m. m.now) result ≡ members_of comms.now comm }
 {
     Some(comms.get(place_in(comms, comm))?.members())
+}
+
+/// The sort of the object of this id, in a list in any order.
+pub(crate) fn object_among(comms: &[Comm], comm: u32) -> Option<Object>
+    ensures { result ≡ object_of_comm comms.now comm }
+{
+    for candidate in comms {
+        if candidate.id() == comm {
+            return Some(candidate.object());
+        }
+    }
+    None
+}
+
+/// The sort of the object of this id, found by halves.
+pub(crate) fn object_in(comms: &[Comm], comm: u32) -> Option<Object>
+    requires { IsStrictlyIncreasing (ids comms.now) }
+    ensures { result ≡ object_of_comm comms.now comm }
+{
+    Some(comms.get(place_in(comms, comm))?.object())
 }
 
 /// The place of a rank among the members.

@@ -11,26 +11,27 @@ pub enum LayoutFault {
     /// No rank, or more than [`MOST_RANKS`](crate::MOST_RANKS).
     #[error("L1 RankCount")]
     RankCount,
-    /// More communicators than [`MOST_COMMS`](crate::MOST_COMMS).
+    /// More communicators, windows and files than [`MOST_COMMS`](crate::MOST_COMMS).
     #[error("L2 CommCount")]
     CommCount,
-    /// Two communicators have one number.
+    /// Two of them have one id.
     #[error("L3 DoubleComm")]
     DoubleComm,
-    /// A communicator has no member.
+    /// One of them has no member.
     #[error("L4 EmptyComm")]
     EmptyComm,
     /// A member is no rank of the run.
     #[error("L5 MemberRange")]
     MemberRange,
-    /// A rank stands twice in one communicator.
+    /// A rank stands twice in one of them.
     #[error("L6 DoubleMember")]
     DoubleMember,
-    /// The world is absent, or its members are not all ranks in their order (MPI 4.0, 11.2).
+    /// The world is absent or no communicator, or its members are not all ranks in their order (MPI
+    /// 4.0, 11.2).
     #[error("L7 World")]
     World,
-    /// The numbers of a communicator are neither absent nor one for each member; or a stretch ends
-    /// before its first call; or a rank names two communicators by one number in one call.
+    /// The numbers of one of them are neither absent nor one for each member; or a stretch ends
+    /// before its first call; or a rank names two objects of one sort by one number in one call.
     #[error("L8 Numbers")]
     Numbers,
     /// No memory was left.

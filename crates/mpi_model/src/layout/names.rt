@@ -1,16 +1,17 @@
-//! By which numbers the calls of ranks name communicators, in an order in which a look-up halves.
+//! By which numbers the calls of ranks name the objects of one sort, in an order in which a look-up halves.
 
 ghost use Rattle.std.specs.Prelude.{◌≡◌, ◌++◌, ◌<◌, ◌≤◌, ◌^◌, All, IfOk, OnOk, false, find, length, option_map, true};
 ghost use Rattle.std.specs.List.Sorted.{IsPartitionedBy, IsPermutation};
 ghost use Rattle.std.specs.List.{AllWithin};
 ghost use Rattle.mpi_model.specs.Communicators.{has_pair};
-ghost use Rattle.mpi_model.specs.Names.{AreOrdered, PrecedeUpTo, always, clashes, has_calls, holds, is_before, is_name, name_by, names_by_id, names_by_numbers, names_in, names_of, precedes, shares};
+ghost use Rattle.mpi_model.specs.Names.{AreOrdered, PrecedeUpTo, always, clashes, has_calls, holds, is_before, is_name, is_of, name_by, names_by_id, names_by_numbers, names_in, names_of, precedes, shares};
 ghost use Rattle.mpi_model.specs.Starts.{AreStarts, IsStart};
 
 use crate::layout::comm::{Comm, Stretch};
+use crate::object::Object;
 use std::alloc::{AllocError, Global};
 
-/// A rank names a communicator by a number over a stretch of its calls.
+/// A rank names an object by a number over a stretch of its calls.
 #[derive(Clone, Copy, Debug)]
 pub(crate) struct Name {
     rank: u32,
@@ -135,10 +136,20 @@ fn push_by_numbers(
     Ok(())
 }
 
-/// Adds by which numbers, and in which calls, the members of a communicator name it.
-fn push_names(comm: &Comm, names: &mut Vec<Name>) -> Result<(), AllocError>
-    ensures { OnOk result (names.new.items ≡ names.old.items ++ names_in comm.now) }
+/// Whether an object is of this sort.
+fn is_of(object: Object, comm: &Comm) -> bool
+    ensures { result ≡ is_of object comm.now }
 {
+    comm.object().number() == object.number()
+}
+
+/// Adds by which numbers, and in which calls, the members of an object of this sort name it.
+fn push_names(object: Object, comm: &Comm, names: &mut Vec<Name>) -> Result<(), AllocError>
+    ensures { OnOk result (names.new.items ≡ names.old.items ++ names_in object comm.now) }
+{
+    if !is_of(object, comm) {
+        return Ok(());
+    }
     if comm.numbers().is_empty() {
         push_by_id(comm.id(), comm.members(), names)
     } else {
@@ -146,23 +157,27 @@ fn push_names(comm: &Comm, names: &mut Vec<Name>) -> Result<(), AllocError>
     }
 }
 
-/// All names of these communicators.
-fn all_names(alloc: Global, comms: &[Comm]) -> Result<Vec<Name>, AllocError>
-    ensures { IfOk result (λ names. names.items ≡ names_of comms.now) }
+/// All names of the objects of a sort.
+fn all_names(alloc: Global, object: Object, comms: &[Comm]) -> Result<Vec<Name>, AllocError>
+    ensures { IfOk result (λ names. names.items ≡ names_of object comms.now) }
 {
     let mut names = Vec::new(alloc);
     for comm in comms {
-        push_names(comm, &mut names)?;
+        push_names(object, comm, &mut names)?;
     }
     Ok(names)
 }
 
-/// The names of these communicators by rank, then number, then first call.
-pub(crate) fn ordered_names(alloc: Global, comms: &[Comm]) -> Result<Vec<Name>, AllocError>
-    ensures same { IfOk result (λ names. IsPermutation (names_of comms.now) names.items) }
+/// The names of the objects of a sort by rank, then number, then first call.
+pub(crate) fn ordered_names(
+    alloc: Global,
+    object: Object,
+    comms: &[Comm],
+) -> Result<Vec<Name>, AllocError>
+    ensures same { IfOk result (λ names. IsPermutation (names_of object comms.now) names.items) }
     ensures order { IfOk result (λ names. AreOrdered names.items) }
 {
-    let mut names = all_names(alloc, comms)?;
+    let mut names = all_names(alloc, object, comms)?;
     names.sort_by_key(|name| (name.rank, name.stretch.number, name.stretch.first))?;
     Ok(names)
 }
@@ -257,7 +272,7 @@ fn place_of(names: &[Name], starts: &[usize], rank: u32, number: u32, call: u64)
     low + place_among(&names[low..high], rank, number, call)
 }
 
-/// The communicator that a number names in a call of a rank, found by halves.
+/// The object that a number names in a call of a rank, found by halves.
 pub(crate) fn numbered_in(
     names: &[Name],
     starts: &[usize],

@@ -1,27 +1,38 @@
 //! The rules that the communicators of a layout keep, each a test of the list as it was given.
 
-ghost use Rattle.std.specs.Prelude.{◌≡◌, ◌==◌, IfOk, false};
+ghost use Rattle.std.specs.Prelude.{◌≡◌, ◌==◌, IfOk, false, option_map};
 ghost use Rattle.std.specs.List.{list_any};
 ghost use Rattle.std.specs.List.Sorted.{IsNonDecreasing, IsPermutation};
 ghost use Rattle.mpi_model.specs.Communicators.{has_double, ids};
-ghost use Rattle.mpi_model.specs.Layouts.{comm_fault, ends_before, has_double_member, has_stranger, has_world, has_wrong_numbers, is_backward, is_empty_group, is_whole, number_fault};
-ghost use Rattle.mpi_model.specs.Names.{AreOrdered, names_of};
+ghost use Rattle.mpi_model.specs.Layouts.{comm_fault, ends_before, has_double_member, has_stranger, has_world, has_wrong_numbers, is_some_communicator, is_backward, is_empty_group, is_some_whole, is_whole, number_fault};
+ghost use Rattle.mpi_model.specs.Names.{AreOrdered, has_clash, has_clash_of, names_of};
+ghost use Rattle.mpi_model.specs.declared.object.Object.TheVariants.{Communicator, Window, File};
 
-use crate::layout::comm::{Comm, Stretch, members_among};
+use crate::layout::comm::{Comm, Stretch, members_among, object_among};
 use crate::layout::fault::LayoutFault;
 use crate::layout::names::{Name, has_clash};
+use crate::object::Object;
 use std::alloc::{AllocError, Global};
 
-/// The first fault of the communicators, whose names in order are these.
+/// The names of the objects of each sort, in order.
+#[derive(Clone, Copy)]
+pub(crate) struct SortedNames<'a> {
+    pub(crate) communicators: &'a [Name],
+    pub(crate) windows: &'a [Name],
+    pub(crate) files: &'a [Name],
+}
+
+/// The first fault of the objects, whose names in order are these.
 pub(crate) fn fault_in(
     alloc: Global,
     comms: &[Comm],
-    names: &[Name],
+    names: &SortedNames,
     ranks: u32,
     world: u32,
 ) -> Result<Option<LayoutFault>, AllocError>
-    requires same { IsPermutation (names_of comms.now) names.now }
-    requires order { AreOrdered names.now }
+    requires communicators { IsPermutation (names_of Communicator comms.now) names.now.communicators.now × AreOrdered names.now.communicators.now }
+    requires windows { IsPermutation (names_of Window comms.now) names.now.windows.now × AreOrdered names.now.windows.now }
+    requires files { IsPermutation (names_of File comms.now) names.now.files.now × AreOrdered names.now.files.now }
     ensures { IfOk result (λ f. f ≡ comm_fault ranks world comms.now) }
 {
     if two_of_one_id(alloc, comms)? {
@@ -42,19 +53,41 @@ pub(crate) fn fault_in(
     Ok(number_fault(comms, names))
 }
 
-/// The fault of wrong numbers, or of a number to which some rank gives two meanings in one call.
-fn number_fault(comms: &[Comm], names: &[Name]) -> Option<LayoutFault>
-    requires same { IsPermutation (names_of comms.now) names.now }
+/// Whether two objects of this sort, whose names in order are these, have one number in some rank's call.
+fn has_clash_of(comms: &[Comm], object: Object, names: &[Name]) -> bool
+    requires same { IsPermutation (names_of object comms.now) names.now }
     requires order { AreOrdered names.now }
+    ensures { result ≡ has_clash_of object comms.now }
+{
+    let _comms = comms;
+    let _object = object;
+    has_clash(names)
+}
+
+/// Whether two objects of one sort have one number in some rank's call.
+fn has_double_meaning(comms: &[Comm], names: &SortedNames) -> bool
+    requires communicators { IsPermutation (names_of Communicator comms.now) names.now.communicators.now × AreOrdered names.now.communicators.now }
+    requires windows { IsPermutation (names_of Window comms.now) names.now.windows.now × AreOrdered names.now.windows.now }
+    requires files { IsPermutation (names_of File comms.now) names.now.files.now × AreOrdered names.now.files.now }
+    ensures { result ≡ has_clash comms.now }
+{
+    has_clash_of(comms, Object::Communicator, names.communicators)
+        || has_clash_of(comms, Object::Window, names.windows)
+        || has_clash_of(comms, Object::File, names.files)
+}
+
+/// The fault of wrong numbers, or of a number to which some rank gives two meanings in one call.
+fn number_fault(comms: &[Comm], names: &SortedNames) -> Option<LayoutFault>
+    requires communicators { IsPermutation (names_of Communicator comms.now) names.now.communicators.now × AreOrdered names.now.communicators.now }
+    requires windows { IsPermutation (names_of Window comms.now) names.now.windows.now × AreOrdered names.now.windows.now }
+    requires files { IsPermutation (names_of File comms.now) names.now.files.now × AreOrdered names.now.files.now }
     ensures { result ≡ number_fault comms.now }
 {
-    if some_wrong_numbers(comms) {
-        return Some(LayoutFault::Numbers);
+    if some_wrong_numbers(comms) || has_double_meaning(comms, names) {
+        Some(LayoutFault::Numbers)
+    } else {
+        None
     }
-    if has_clash(names) {
-        return Some(LayoutFault::Numbers);
-    }
-    None
 }
 
 /// Whether some communicator has wrong numbers.
@@ -209,14 +242,31 @@ fn double_in(alloc: Global, members: &[u32], ranks: u32) -> Result<bool, AllocEr
     Ok(false)
 }
 
-/// Whether the world is there, and has all ranks in order.
-fn world_is_there(comms: &[Comm], ranks: u32, world: u32) -> bool
-    ensures { result ≡ has_world ranks world comms.now }
+/// Whether there is an object, and it is a communicator.
+fn is_communicator(object: Option<Object>) -> bool
+    ensures { result ≡ is_some_communicator object }
 {
-    match members_among(comms, world) {
+    match object {
+        Some(object) => object.number() == Object::Communicator.number(),
+        None => false,
+    }
+}
+
+/// Whether the members are there, and are the ranks of the run in order.
+fn are_whole(members: Option<&[u32]>, ranks: u32) -> bool
+    ensures { result ≡ is_some_whole ranks (option_map (λ m. m.now) members.entry) }
+{
+    match members {
         Some(members) => are_all_ranks(members, ranks),
         None => false,
     }
+}
+
+/// Whether the world is there, is a communicator, and has all ranks in order.
+fn world_is_there(comms: &[Comm], ranks: u32, world: u32) -> bool
+    ensures { result ≡ has_world ranks world comms.now }
+{
+    is_communicator(object_among(comms, world)) && are_whole(members_among(comms, world), ranks)
 }
 
 /// Whether the members are the ranks of the run, in order.

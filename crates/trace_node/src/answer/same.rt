@@ -3,6 +3,7 @@
 ghost use Rattle.std.specs.Prelude.{◌≡◌, ◌↔◌, IsTrue, map};
 ghost use Rattle.trace_node.specs.Answer.{HasSameCalls, HasSamePlaces, HasSameRanks};
 ghost use Rattle.trace_node.specs.Stopped.{stopped};
+ghost use Rattle.trace_wait.specs.declared.round.Standing.TheVariants.{Mismatched, Complete, Partial};
 
 use crate::answer::Answer;
 use crate::stuck::Stuck;
@@ -50,7 +51,7 @@ fn are_same_pairs(first: &[Pair], second: &[Pair]) -> bool
 fn is_same_function(first: CollectiveFunction, second: CollectiveFunction) -> bool
     ensures { IsTrue result ↔ (first ≡ second) }
 {
-    first == second
+    first.same(second)
 }
 
 fn is_same_root(first: Option<u32>, second: Option<u32>) -> bool
@@ -63,19 +64,61 @@ fn is_same_root(first: Option<u32>, second: Option<u32>) -> bool
     }
 }
 
+/// Whether a round is mismatched.
+fn is_mismatched(standing: Standing) -> bool
+    ensures { IsTrue result ↔ (Mismatched ≡ standing) }
+{
+    match standing {
+        Standing::Mismatched => true,
+        Standing::Complete(_, _) => false,
+        Standing::Partial(_, _, _, _) => false,
+    }
+}
+
+/// Whether a round is complete, of this function and root.
+fn is_complete(function: CollectiveFunction, root: Option<u32>, standing: Standing) -> bool
+    ensures { IsTrue result ↔ (Complete function root ≡ standing) }
+{
+    match standing {
+        Standing::Mismatched => false,
+        Standing::Complete(other, at) => is_same_function(function, other)
+            && is_same_root(root, at),
+        Standing::Partial(_, _, _, _) => false,
+    }
+}
+
+/// Whether a round is open, of this function and root, and entered by so many of so many members.
+fn is_open(
+    function: CollectiveFunction,
+    root: Option<u32>,
+    entered: u32,
+    members: u32,
+    standing: Standing,
+) -> bool
+    ensures { IsTrue result ↔ (Partial function root entered members ≡ standing) }
+{
+    match standing {
+        Standing::Mismatched => false,
+        Standing::Complete(_, _) => false,
+        Standing::Partial(other, at, n, m) => {
+            is_same_function(function, other)
+                && is_same_root(root, at)
+                && entered == n
+                && members == m
+        }
+    }
+}
+
 /// Whether two rounds stand alike: both mismatched, complete or open, of one function and root, with equal counts.
 fn is_same_standing(first: Standing, second: Standing) -> bool
     ensures { IsTrue result ↔ (first ≡ second) }
 {
-    match (first, second) {
-        (Standing::Mismatched, Standing::Mismatched) => true,
-        (Standing::Complete(a, r), Standing::Complete(b, s)) => {
-            is_same_function(a, b) && is_same_root(r, s)
+    match first {
+        Standing::Mismatched => is_mismatched(second),
+        Standing::Complete(function, root) => is_complete(function, root, second),
+        Standing::Partial(function, root, entered, members) => {
+            is_open(function, root, entered, members, second)
         }
-        (Standing::Partial(a, r, n, m), Standing::Partial(b, s, o, p)) => {
-            is_same_function(a, b) && is_same_root(r, s) && n == o && m == p
-        }
-        _ => false,
     }
 }
 

@@ -1,6 +1,8 @@
 //! Events, read from bytes.
 
-ghost use Rattle.std.specs.Prelude.{◌≡◌, List, ℕ, Some};
+ghost use Rattle.std.specs.Prelude.{◌≡◌, List, ℕ, None, Some};
+ghost use Rattle.mpi_model.specs.Ranges.{IsComm};
+ghost use Rattle.mpi_model.specs.declared.kind.Kind.TheVariants as kinds;
 ghost use Rattle.trace_wire.specs.Outcomes.{Reads};
 ghost use Rattle.trace_wire.specs.Events.{call_at, further_call_at, later_call_at, middle_call_at, outs_at, event_at, body_at};
 ghost use Rattle.trace_wire.specs.Fields.{envelope, send_envelope, exchange, gathering, ibarrier, igathering, probe, index};
@@ -12,8 +14,8 @@ use crate::read::field::{
 };
 use crate::read::list::list_of;
 use mpi_model::{
-    Call, Collective, Elements, Envelope, Event, Exchange, Kind, Outs, ProbeEnvelope,
-    ReceiveEnvelope, Requests, SendEnvelope, Sources, Stamp,
+    Call, Collective, CommRef, Elements, Envelope, Event, Exchange, Kind, NonblockingCollective,
+    Outs, ProbeEnvelope, ReceiveEnvelope, Requests, SendEnvelope, Sources, Stamp,
 };
 use std::alloc::Global;
 
@@ -64,7 +66,8 @@ fn exchange_field(alloc: Global, bytes: &[u8]) -> Result<(Exchange, &[u8]), Fiel
     }
 }
 
-/// A collective call, with a root only where its kind has one.
+/// A collective call, with a root only where its kind has one, and the mark of `MPI_COMM_WORLD` only where its object is a
+/// communicator.
 #[inline(always)]
 fn collective_field(bytes: &[u8]) -> Result<(Collective, &[u8]), FieldFault>
     ensures { Reads (λ x. (x.0, x.1.now)) result (gathering.read bytes.now) }
@@ -78,26 +81,38 @@ fn collective_field(bytes: &[u8]) -> Result<(Collective, &[u8]), FieldFault>
     }
 }
 
+/// `MPI_Ibarrier` on a communicator.
+#[tactic(auto, unfolding(mpi_model::specs::Kinds::row))]
+fn ibarrier_on(comm: CommRef) -> Option<NonblockingCollective>
+    requires { IsComm comm }
+    ensures { result ≡ Some (record { kind = kinds.Barrier; root = None; comm = comm }) }
+{
+    Collective::new(Kind::Barrier, None, comm)?.nonblocking()
+}
+
 /// `MPI_Ibarrier`, which names nothing but its communicator.
-fn ibarrier_field(bytes: &[u8]) -> Result<(Collective, &[u8]), FieldFault>
+fn ibarrier_field(bytes: &[u8]) -> Result<(NonblockingCollective, &[u8]), FieldFault>
     ensures { Reads (λ x. (x.0, x.1.now)) result (ibarrier.read bytes.now) }
 {
     let (comm, rest) = comm_field(bytes)?;
-    match Collective::new(Kind::Barrier, None, comm) {
+    match ibarrier_on(comm) {
         Some(found) => Ok((found, rest)),
         None => Err(FieldFault::Content),
     }
 }
 
-/// Every other nonblocking collective call.
-fn icollective_field(bytes: &[u8]) -> Result<(Collective, &[u8]), FieldFault>
+/// Every other nonblocking collective call, of a kind that has one.
+fn icollective_field(bytes: &[u8]) -> Result<(NonblockingCollective, &[u8]), FieldFault>
     ensures { Reads (λ x. (x.0, x.1.now)) result (igathering.read bytes.now) }
 {
     let (found, rest) = field!(collective_field(bytes));
     if is_barrier(found.kind()) {
         return Err(FieldFault::Content);
     }
-    Ok((found, rest))
+    match found.nonblocking() {
+        Some(found) => Ok((found, rest)),
+        None => Err(FieldFault::Content),
+    }
 }
 
 /// What a probe looks for.
@@ -163,6 +178,10 @@ fn later_call_of(alloc: Global, code: u8, bytes: &[u8]) -> Result<(Call, &[u8]),
         28 => {
             let (call, rest) = field!(icollective_field(bytes));
             Ok((Call::Icollective(call), rest))
+        }
+        29 => {
+            let (envelope, rest) = field!(probe_field(bytes));
+            Ok((Call::Iprobe(envelope), rest))
         }
         _ => Err(FieldFault::Content),
     }

@@ -5,7 +5,7 @@ ghost use Rattle.std.specs.Prelude.{◌<◌, ◌^◌, IfSome, IfOk, ◌≡◌};
 ghost use Rattle.std.specs.Int.{w32, w64};
 ghost use Rattle.trace_wire.specs.Outcomes.{Reads};
 ghost use Rattle.trace_wire.specs.Forms.{byte_at, number_at, small_of, small, marked, signed};
-ghost use Rattle.trace_wire.specs.Fields.{peer_of, told_of, comm_of, mode_of, kind_of, peer, told, comm, mode, kind, flag, stamp};
+ghost use Rattle.trace_wire.specs.Fields.{peer_of, told_of, comm_of, mode_of, peer, told, comm, mode, kind, flag, stamp};
 ghost use Rattle.trace_wire.specs.declared.read.field.FieldFault.TheVariants.{Memory};
 
 use mpi_model::{CommRef, Kind, Mode, Peer, Stamp, Told};
@@ -220,38 +220,12 @@ pub(crate) fn mode_field(bytes: &[u8]) -> Result<(Mode, &[u8]), FieldFault>
     }
 }
 
-/// The kind of a collective call by its code.
-fn kind_from(n: u8) -> Option<Kind>
-    ensures { result ≡ kind_of n }
-{
-    match n {
-        0 => Some(Kind::Barrier),
-        1 => Some(Kind::Bcast),
-        2 => Some(Kind::Scatter),
-        3 => Some(Kind::Gather),
-        4 => Some(Kind::Reduce),
-        5 => Some(Kind::Allreduce),
-        6 => Some(Kind::Allgather),
-        7 => Some(Kind::Alltoall),
-        8 => Some(Kind::Scan),
-        9 => Some(Kind::Exscan),
-        10 => Some(Kind::ReduceScatterBlock),
-        11 => Some(Kind::ReduceScatter),
-        12 => Some(Kind::Allgatherv),
-        13 => Some(Kind::Alltoallv),
-        14 => Some(Kind::Alltoallw),
-        15 => Some(Kind::Gatherv),
-        16 => Some(Kind::Scatterv),
-        _ => None,
-    }
-}
-
 /// The kind of a collective call.
 pub(crate) fn kind_field(bytes: &[u8]) -> Result<(Kind, &[u8]), FieldFault>
     ensures { Reads (λ x. (x.0, x.1.now)) result (kind.read bytes.now) }
 {
     let (number, rest) = byte_of(bytes)?;
-    match kind_from(number) {
+    match Kind::of_number(number) {
         Some(n) => Ok((n, rest)),
         None => Err(FieldFault::Content),
     }

@@ -59,8 +59,8 @@ fn put_call<S: Sink>(out: &mut S, call: &Call)
         | Call::Testsome(requests)
         | Call::Startall(requests) => put_list(out, requests.as_slice()),
         Call::Collective(call) => put_collective(out, *call),
-        Call::Icollective(call) => put_icollective(out, *call),
-        Call::Probe(e) | Call::Mprobe(e) | Call::Improbe(e) => put_probe(out, *e),
+        Call::Icollective(call) => put_icollective(out, call.call()),
+        Call::Probe(e) | Call::Mprobe(e) | Call::Improbe(e) | Call::Iprobe(e) => put_probe(out, *e),
     }
 }
 
@@ -121,6 +121,7 @@ fn byte_of_call(call: &Call) -> u8
         Call::Mprobe(_) => 25,
         Call::Improbe(_) => 26,
         Call::Imrecv => 27,
+        Call::Iprobe(_) => 29,
     }
 }
 

@@ -51,3 +51,6 @@ returns-in-RecvInit c = reads c.put_receive-in-RecvInit.ensures (ap (λ (e : Env
 
 pub returns-in-Improbe : goal.returns-in-Improbe
 returns-in-Improbe c = reads c.put_probe-in-Improbe.ensures (sym (ap call_text c.in-Improbe.is))
+
+pub returns-in-Iprobe : goal.returns-in-Iprobe
+returns-in-Iprobe c = reads c.put_probe-in-Iprobe.ensures (sym (ap call_text c.in-Iprobe.is))

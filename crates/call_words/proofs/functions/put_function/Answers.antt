@@ -41,3 +41,6 @@ returns-in-RecvInit c = reads c.put_on-in-RecvInit.ensures (ap (λ (e : Envelope
 
 pub returns-in-Improbe : goal.returns-in-Improbe
 returns-in-Improbe c = reads c.put_on-in-Improbe.ensures (ap (λ (m : CommRef). on_text (codes "MPI_Improbe") m) c.comm-in-Improbe.ensures.value ∙ sym (ap function_text c.in-Improbe.is))
+
+pub returns-in-Iprobe : goal.returns-in-Iprobe
+returns-in-Iprobe c = reads c.put_on-in-Iprobe.ensures (ap (λ (m : CommRef). on_text (codes "MPI_Iprobe") m) c.comm-in-Iprobe.ensures.value ∙ sym (ap function_text c.in-Iprobe.is))

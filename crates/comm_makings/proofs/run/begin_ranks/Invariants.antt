@@ -7,4 +7,5 @@ invariant-loop-at l = record {
   standings : NoneStandsAt l.run.standings.items;
   values : NoneListedAt l.run.values.items;
   comms : l.run.comms ≡ l.initial.run.comms;
+  next : l.run.next ≡ l.initial.run.next;
 }

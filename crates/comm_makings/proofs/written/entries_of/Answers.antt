@@ -5,6 +5,6 @@ use Rattle.comm_makings.proofs.written.entries_of.Goals as goal
 
 pub loop-member-preserved : goal.loop-member-preserved
 loop-member-preserved c =
-    let more = map_more (entry_of c.args.views.now c.args.uses.now) c.args.members.now c.loop-member.member-index (record { rank = 0; handle = None }) c.loop-member-test.true in
+    let more = map_more (entry_of c.args.views.now c.args.uses.now c.args.object) c.args.members.now c.loop-member.member-index (record { rank = 0; handle = None }) c.loop-member-test.true in
     let pushed = c.in_ok-push.ensures.items in
     cc

@@ -1,37 +1,32 @@
-use Rattle.std.proofs.Common.{rules, List, map, string_bytes}
-use Rattle.clap.specs.Words.{Text}
-use Rattle.command_line.specs.Program.{files, pair}
-use Rattle.command_runs.specs.Endings.{Ask, output_of}
-use Rattle.command_runs.proofs.Endings.{turned, turned_files, unasked, wanting}
+use Rattle.std.proofs.Common.{rules, ◌≡◌, List, Some, inl, inr, map, refl}
+use Rattle.std.proofs.lemmas.Result.{IfOk-weaker}
+use Rattle.clap.specs.Words.{Text, subcommand_of}
+use Rattle.command_line.specs.Program.{cluster, files, init, pair, program, request_in, wish_of}
 use Rattle.command_runs.proofs.ending.ending_of.Goals as goal
 
 pub returns-in-Err : goal.returns-in-Err
-returns-in-Err g c =
-    let words : List Text = map (λ w. w.now) c.args.words.now in
-    unasked (g.O.Opener.file c.args.files.now) words c.in-Err.fault c.in_ok-shown-in-Err.field-0.status (string_bytes c.in_ok-shown-in-Err.field-0.errors)
-    (output_of g.W.Write.written g.W.Write.failures c.args.out.now)
-    (output_of g.W.Write.written g.W.Write.failures c.shown.new.out) c.in-Err.ensures.refused c.in_ok-shown-in-Err.ensures
-
-pub returns-in-Err-Memory : goal.returns-in-Err-Memory
-returns-in-Err-Memory g c =
-    wanting (g.O.Opener.file c.args.files.now) (map (λ w. w.now) c.args.words.now)
-    c.in_ok-refused-in-Err-Memory.field-0.status (string_bytes c.in_ok-refused-in-Err-Memory.field-0.errors)
-    (output_of g.W.Write.written g.W.Write.failures c.args.out.now)
-    c.in_ok-refused-in-Err-Memory.ensures.status c.in_ok-refused-in-Err-Memory.ensures.errors
+returns-in-Err g c = IfOk-weaker c.shown.result _ _ (λ e h. inr (c.in-Err.fault, c.in-Err.ensures.refused, h, refl)) c.shown.ensures
 
 pub returns-in-Pair : goal.returns-in-Pair
 returns-in-Pair g c =
     let words : List Text = map (λ w. w.now) c.args.words.now in
-    let asked : Ask words (pair c.in-Pair.verb c.in-Pair.layout.now c.in-Pair.manifest.now) = search rules in
-    turned (g.O.Opener.file c.args.files.now) words c.in-Pair.verb c.in-Pair.layout.now c.in-Pair.manifest.now c.turn_of_pair.result
-    (output_of g.W.Write.written g.W.Write.failures c.args.out.now)
-    (output_of g.W.Write.written g.W.Write.failures c.turn_of_pair.new.out) asked c.turn_of_pair.ensures
+    let asked : request_in (subcommand_of program words) ≡ Some (pair c.in-Pair.verb c.in-Pair.layout.now c.in-Pair.manifest.now) = search rules in
+    IfOk-weaker c.over_pair.result _ _ (λ e h. inl (_, asked, (h, refl))) c.over_pair.ensures
 
 pub returns-in-Files : goal.returns-in-Files
 returns-in-Files g c =
     let words : List Text = map (λ w. w.now) c.args.words.now in
-    let names : List Text = map (λ n. n.now) c.in-Files.names.items in
-    let asked : Ask words (files c.in-Files.verb names) = search rules in
-    turned_files (g.O.Opener.file c.args.files.now) words c.in-Files.verb names c.turn_of_files.result
-    (output_of g.W.Write.written g.W.Write.failures c.args.out.now)
-    (output_of g.W.Write.written g.W.Write.failures c.turn_of_files.new.out) asked c.turn_of_files.ensures
+    let asked : request_in (subcommand_of program words) ≡ Some (files c.in-Files.verb (map (λ n. n.now) c.in-Files.names.items)) = search rules in
+    IfOk-weaker c.over_files.result _ _ (λ e h. inl (_, asked, (rw c.as_slice.ensures.value at h, refl))) c.over_files.ensures
+
+pub returns-in-Cluster : goal.returns-in-Cluster
+returns-in-Cluster g c =
+    let words : List Text = map (λ w. w.now) c.args.words.now in
+    let asked : request_in (subcommand_of program words) ≡ Some (cluster c.in-Cluster.layout.now c.in-Cluster.manifest.now) = search rules in
+    IfOk-weaker c.over_cluster.result _ _ (λ e h. inl (_, asked, (h, refl))) c.over_cluster.ensures
+
+pub returns-in-Init : goal.returns-in-Init
+returns-in-Init g c =
+    let words : List Text = map (λ w. w.now) c.args.words.now in
+    let asked : request_in (subcommand_of program words) ≡ Some (init (map (λ n. n.now) c.in-Init.texts.items) (wish_of c.in-Init.wanted)) = search rules in
+    IfOk-weaker c.over_init.result _ _ (λ e h. inl (_, asked, rw c.as_slice-in-Init.ensures.value at h)) c.over_init.ensures

@@ -1,4 +1,4 @@
-use Rattle.std.proofs.Common.{◌++◌, List, ℕ, ap, arith, subst, sym, to_z, w64}
+use Rattle.std.proofs.Common.{List, ℕ, arith, subst, sym, to_z, w64}
 use Rattle.std.proofs.lemmas.Int.{ints}
 use Rattle.dumpi_text.specs.declared.number.NumName.TheVariants.{Other}
 use Rattle.dumpi_calls.specs.InPlace.{EndsNote}

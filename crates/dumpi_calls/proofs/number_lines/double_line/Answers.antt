@@ -1,4 +1,4 @@
-use Rattle.std.proofs.Common.{◌++◌, ◌∷◌, codes, refl}
+use Rattle.std.proofs.Common.{◌++◌, codes, refl}
 use Rattle.dumpi_calls.proofs.NumberLines.{noted_double}
 use Rattle.dumpi_calls.proofs.number_lines.double_line.Goals as goal
 

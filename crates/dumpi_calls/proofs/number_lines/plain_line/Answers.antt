@@ -1,4 +1,4 @@
-use Rattle.std.proofs.Common.{◌++◌, ◌∷◌, codes, refl}
+use Rattle.std.proofs.Common.{◌∷◌, refl}
 use Rattle.dumpi_calls.proofs.NumberLines.{no_note}
 use Rattle.dumpi_calls.proofs.number_lines.plain_line.Goals as goal
 

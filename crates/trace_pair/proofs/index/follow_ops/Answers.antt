@@ -6,7 +6,7 @@ use Rattle.trace_pair.specs.After.{comes_after}
 use Rattle.trace_pair.specs.Calls.{IsSingle}
 use Rattle.trace_pair.specs.Followed.{Adds, Drops}
 use Rattle.trace_pair.specs.Fronts.{AreFronts}
-use Rattle.trace_pair.specs.Reach.{AreReachesOf, IsReachOf}
+use Rattle.trace_pair.specs.Reach.{AreReachesOf, IsCommunicating}
 use Rattle.trace_pair.specs.declared.reach.RankReach.{RankReach}
 use Rattle.trace_pair.proofs.Afterwards.{length_zip}
 use Rattle.trace_pair.proofs.Switched.{set_moves}
@@ -15,7 +15,7 @@ use Rattle.trace_pair.proofs.index.follow_ops.Goals as goal
 pub renew_rank-requires-clause-rank : goal.renew_rank-requires-clause-rank
 renew_rank-requires-clause-rank c =
     let is = c.requires.followed in
-    subst (λ (n : ℕ). c.args.rank < n) (length_zip IsReachOf c.args.held.now.items c.args.state.table.items is.table) c.requires.rank
+    subst (λ (n : ℕ). c.args.rank < n) (length_zip IsCommunicating c.args.held.now.items c.args.state.table.items is.table) c.requires.rank
 
 pub add_calls-requires-clause-table : goal.add_calls-requires-clause-table
 add_calls-requires-clause-table c =

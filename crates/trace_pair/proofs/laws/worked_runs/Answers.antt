@@ -1,4 +1,5 @@
 use Rattle.std.proofs.Common.{refl}
+use Rattle.mpi_model.specs.Kinds as kinds
 use Rattle.trace_pair.specs.After.{comes_after}
 use Rattle.trace_pair.specs.Table.{sends_of, receives_of}
 use Rattle.trace_pair.specs.Worked.{probed, given_back}
@@ -59,15 +60,15 @@ unfolding paired paired_below obeys
 returns-clause-cancelled_message c = (refl, refl)
 
 pub returns-clause-behind_a_barrier : goal.returns-clause-behind_a_barrier
-unfolding paired paired_below obeys
-returns-clause-behind_a_barrier c = (refl, refl, refl)
+unfolding paired paired_below obeys kinds.row
+returns-clause-behind_a_barrier c = (refl, refl, refl, refl)
 
 pub returns-clause-not_behind_a_barrier : goal.returns-clause-not_behind_a_barrier
-unfolding paired paired_below obeys
+unfolding paired paired_below obeys kinds.row
 returns-clause-not_behind_a_barrier c = (refl, refl, refl)
 
 pub returns-clause-of_another_barrier : goal.returns-clause-of_another_barrier
-unfolding paired paired_below obeys
+unfolding paired paired_below obeys kinds.row
 returns-clause-of_another_barrier c = (refl, refl)
 
 pub returns-clause-behind_the_end : goal.returns-clause-behind_the_end

@@ -1,9 +1,0 @@
-use Rattle.std.proofs.Common.{◌≡◌, take}
-use Rattle.command_runs.specs.Schedules.{TellSegments, held_lists}
-use Rattle.command_runs.proofs.pieces.segments_of_all.Given as goal
-
-abbrev pub invariant-loop-piece : goal.invariant-loop-piece
-invariant-loop-piece g l = record {
-  files : g.O.Opener.file l.files ≡ g.O.Opener.file l.fn.files;
-  told : TellSegments (g.O.Opener.file l.fn.files) (take l.piece-index l.pieces) (held_lists l.lists.items);
-}

@@ -1,0 +1,89 @@
+-- `init`: how it ran, and how the program ends; and texts that are no files.
+use Rattle.std.specs.Prelude.{◌≡◌, ◌⊎◌, ℕ, Bool, true, false, List, [], Option, Result, Ok, Err, string_bytes, Contains, None}
+use Rattle.std.specs.Io.KnownBytes.{Appends, Keeps}
+use Rattle.command_line.specs.Program.{Wish}
+use Rattle.run_files.specs.Stores.{AddsBoth, File, Files, Goes, HasBoth, LeavesNothing, RefusesAdding, RefusesReplacing, Same, spare_name}
+use Rattle.run_files.specs.Values.{manifest_value}
+use Rattle.run_files.specs.declared.store.PutFault.{PutFault}
+use Rattle.text_layouts.specs.Making.{IsFile, RefusesLayoutFile, RefusesManifestFile, made_layout}
+use Rattle.text_layouts.specs.declared.fault.MadeFault.{MadeFault}
+use Rattle.text_layouts.specs.declared.made.Made.{Made}
+use Rattle.command_runs.specs.InitFaults.{IsPutFault, init_fault_line_of}
+use Rattle.command_runs.specs.Prepared.{IsMadeOf, RefusesWords, notes_of}
+use Rattle.command_runs.specs.Writing.{BreaksOff}
+use Rattle.command_runs.specs.declared.ending.Ending.{Ending}
+use Rattle.command_runs.specs.declared.faults.init_fault.InitFault.{InitFault}
+use Rattle.command_runs.specs.declared.faults.init_fault.InitFault.TheVariants as faults
+
+-- One of these words names a text that nothing tells: it is no file that can be read twice.
+abbrev pub NamesPiped : (List ℕ → Option (List ℕ)) → List (List ℕ) → InitFault → Type 0
+NamesPiped file words (faults.Piped path) = Contains words (string_bytes path) × (file (string_bytes path) ≡ None)
+NamesPiped file words _ = ⊥
+
+-- ---- both files
+
+-- These are the bytes of both files of what was made, of texts with these names by rank.
+pub record AreFilesOf (made : Made) (names : List (List ℕ)) (layout manifest : List ℕ) : Type 0 where
+  pub layout_is : IsFile (made_layout made) layout
+  pub manifest_is : IsFile (manifest_value names) manifest
+
+-- One of the two files would be too long, or memory was wanting.
+abbrev pub RefusesFiles : Made → List (List ℕ) → InitFault → Type 0
+RefusesFiles made names fault = (fault ≡ faults.Memory) ⊎ ((cause : MadeFault) × (fault ≡ faults.Made cause)
+    × (RefusesLayoutFile (made_layout made) cause ⊎ RefusesManifestFile (manifest_value names) cause))
+
+-- a file
+abbrev pub file_with : List ℕ → List ℕ → File
+file_with name bytes = record { name = name; bytes = bytes }
+
+-- Both files are there then: in place of those of their names where that is wanted, else where none was.
+abbrev pub PutsBoth : Bool → File → File → Files → Files → Type 0
+PutsBoth true one other = HasBoth one other
+PutsBoth false one other = AddsBoth one other
+
+-- why both files aren't kept under these names: where they may replace others, and else
+abbrev pub refuses_keeping : Bool → List ℕ → List ℕ → Option Files → Type 0 → PutFault → Type 0
+refuses_keeping true one other = RefusesReplacing one other (spare_name one) (spare_name other)
+refuses_keeping false one other = RefusesAdding one other
+
+-- Why both files aren't kept as they are wanted.
+abbrev pub RefusesPutting : Wish → Option Files → Type 0 → PutFault → Type 0
+RefusesPutting wish = refuses_keeping wish.force wish.layout wish.manifest
+
+-- What was made of the texts isn't kept for this cause; nothing has changed, unless the fault says that something is left.
+pub record IsUnkept (wish : Wish) (old new : Option Files) (failed : Type 0) (fault : InitFault) : Type 0 where
+  pub why : PutFault
+  pub told : IsPutFault wish.layout wish.manifest why fault
+  pub cause : RefusesPutting wish old failed why
+  pub left : LeavesNothing why → Goes Same old new
+
+-- ---- `init`
+
+-- Both files of what was made are kept as they are wanted.
+pub record KeepsMade (wish : Wish) (made : Made) (names : List (List ℕ)) (old new : Option Files) : Type 0 where
+  pub layout : List ℕ
+  pub manifest : List ℕ
+  pub are : AreFilesOf made names layout manifest
+  pub kept : Goes (PutsBoth wish.force (file_with wish.layout layout) (file_with wish.manifest manifest)) old new
+
+-- How `init` ran over the texts that these words name, in a store of these files: both files are kept and the notes of them
+-- written; or nothing was made, or what was made isn't kept, and nothing written; or only a front of the notes is.
+abbrev pub RanInit : {W : Type 0} → (List ℕ → Option (List ℕ)) → List (List ℕ) → Wish → Option Files → Option Files → Type 0 → Result (Unit {0}) InitFault → (W → Option (List ℕ)) → (W → ℕ) → W → W → Type 0
+RanInit file words wish old new failed (Ok done) written failures before after = (made : Made) × (is : IsMadeOf file wish.sends words made)
+    × KeepsMade wish made is.names old new × Appends (written before) (written after) (notes_of made is)
+RanInit file words wish old new failed (Err fault) written failures before after =
+    (RefusesWords file words fault × Goes Same old new × Keeps (written before) (written after))
+    ⊎ (((made : Made) × (is : IsMadeOf file wish.sends words made) × ((RefusesFiles made is.names fault × Goes Same old new) ⊎ IsUnkept wish old new failed fault)
+    × Keeps (written before) (written after))
+    ⊎ ((fault ≡ faults.Write) × ((made : Made) × (is : IsMadeOf file wish.sends words made) × KeepsMade wish made is.names old new
+    × BreaksOff (λ text. text ≡ notes_of made is) written failures before after)))
+
+-- the ending after such a run of `init`
+abbrev pub IsEndedInit : Result (Unit {0}) InitFault → Ending → Type 0
+IsEndedInit (Ok done) e = (e.status ≡ 0) × (string_bytes e.errors ≡ [])
+IsEndedInit (Err fault) e = (e.status ≡ 1) × (string_bytes e.errors ≡ init_fault_line_of fault)
+
+-- `init` ends so.
+abbrev pub EndsInit : {W : Type 0} → (List ℕ → Option (List ℕ)) → List (List ℕ) → Wish → Option Files → Option Files → Type 0 → (W → Option (List ℕ)) → (W → ℕ) → W → W → Ending → Type 0
+EndsInit file words wish old new failed written failures before after e = (ran : Result (Unit {0}) InitFault) × IsEndedInit ran e
+    × RanInit file words wish old new failed ran written failures before after

@@ -1,0 +1,87 @@
+-- The input of a run that is made of texts, and why none is.
+use Rattle.std.specs.Prelude.{◌≡◌, ◌<◌, ◌≤◌, ◌⊎◌, ◌++◌, ℕ, Bool, true, false, List, [], Option, Some, ◌-◌, ◌^◌, codes, length, map, min, slice_get, string_bytes}
+use Rattle.mpi_model.specs.Layouts.{Holds}
+use Rattle.mpi_model.specs.declared.layout.Sends.{Sends}
+use Rattle.mpi_model.specs.declared.layout.TheConstants.{MOST_RANKS}
+use Rattle.comm_makings.specs.Derived.{IsSound}
+use Rattle.comm_makings.specs.World.{world_of}
+use Rattle.comm_makings.specs.declared.calls.RankCalls.{RankCalls}
+use Rattle.text_layouts.specs.Making.{RefusesMaking, whole_texts}
+use Rattle.text_layouts.specs.Names.{IsOrder, IsTwice, numbers_of}
+use Rattle.text_layouts.specs.Words.{notes_text}
+use Rattle.text_layouts.specs.declared.made.Made.{Made}
+use Rattle.text_layouts.specs.declared.order.Order.{Order}
+use Rattle.text_layouts.specs.declared.order.Order.TheVariants as orders
+use Rattle.command_runs.specs.TextCalls.{AllSay, RefusesOne}
+use Rattle.command_runs.specs.declared.faults.init_fault.InitFault.{InitFault}
+use Rattle.command_runs.specs.declared.faults.init_fault.InitFault.TheVariants.{Memory, TooMany, Twice, Made as NotMade}
+
+-- These are the names at those places, in their order.
+abbrev pub AreAt : List (List ℕ) → List ℕ → List (List ℕ) → Type 0
+AreAt names places ordered = map (λ place. slice_get names place) places ≡ map (λ name. Some name) ordered
+
+-- the names by rank, where which is of which rank is told so
+abbrev pub IsOrdered : List (List ℕ) → Order → List (List ℕ) → Type 0
+IsOrdered names orders.Words ordered = ordered ≡ names
+IsOrdered names (orders.Digits places) ordered = AreAt names places.items ordered
+IsOrdered names (orders.Twice first second) ordered = ⊥
+
+-- the digits at the ends of the names tell which is of which rank
+abbrev pub tells_ranks : Order → Bool
+tells_ranks (orders.Digits places) = true
+tells_ranks _ = false
+
+-- the names by rank: by the digits at their ends, where those tell it, or else in the order of the words
+abbrev pub IsByRank : List (List ℕ) → Bool → List (List ℕ) → Type 0
+IsByRank words by_digits names = (order : Order) × IsOrder (numbers_of words) order × IsOrdered words order names × (by_digits ≡ tells_ranks order)
+
+-- The input of a run is made of the texts that these words name.
+pub record IsMadeOf (file : List ℕ → Option (List ℕ)) (sends : Sends) (words : List (List ℕ)) (made : Made) : Type 0 where
+  pub by_digits : Bool
+  pub names : List (List ℕ)
+  pub by_rank : IsByRank words by_digits names
+  pub ranks : List RankCalls
+  pub calls : ℕ
+  pub say : AllSay file names ranks calls
+  pub world : made.derived.world ≡ world_of ranks
+  pub sound : IsSound (world_of ranks) ranks made.derived.comms.items
+  pub layout : Holds (length ranks) made.derived.world sends made.derived.comms.items made.input.layout
+  pub manifest : made.input.manifest ≡ whole_texts names
+
+-- ---- why nothing is made
+
+-- More texts than a layout can have ranks, else two texts of one rank by the digits of their names.
+abbrev pub RefusesNames : List (List ℕ) → InitFault → Type 0
+RefusesNames words Memory = Unit {0}
+RefusesNames words TooMany = MOST_RANKS < length words
+RefusesNames words (Twice path) = (length words ≤ MOST_RANKS) × (one other : ℕ) × IsTwice (numbers_of words) one other × (slice_get words other ≡ Some (string_bytes path))
+RefusesNames words _ = ⊥
+
+-- What the texts of these ranks say makes no layout.
+abbrev pub RefusesMade : (List ℕ → Option (List ℕ)) → List (List ℕ) → InitFault → Type 0
+RefusesMade file names (NotMade fault) = (ranks : List RankCalls) × ((calls : ℕ) × AllSay file names ranks calls) × RefusesMaking ranks fault
+RefusesMade file names _ = ⊥
+
+-- Why nothing is made of the texts that these words name: their names, then one of the texts, then what they say together.
+abbrev pub RefusesWords : (List ℕ → Option (List ℕ)) → List (List ℕ) → InitFault → Type 0
+RefusesWords file words fault = RefusesNames words fault
+    ⊎ ((names : List (List ℕ)) × ((by_digits : Bool) × IsByRank words by_digits names) × (length words ≤ MOST_RANKS) × (RefusesOne file names fault ⊎ RefusesMade file names fault))
+
+-- ---- what is said of it
+
+-- that the names' digits told the ranks, where they did
+abbrev pub digits_text : Bool → List ℕ
+digits_text true = codes "ranks by the digits at the ends of the names\n"
+digits_text false = []
+
+-- what is said of so many ranks with so many calls and of what they made: by what their ranks are known, and what was found
+abbrev pub made_notes : Bool → ℕ → ℕ → Made → List ℕ
+made_notes by_digits ranks calls made = digits_text by_digits ++ notes_text ranks calls made.derived.comms.items made.derived.left_out.items
+
+-- what is said of what was made, whose calls are counted up to 2^64 - 1
+abbrev pub notes_of : {file : List ℕ → Option (List ℕ)} {sends : Sends} {words : List (List ℕ)} (made : Made) → IsMadeOf file sends words made → List ℕ
+notes_of made is = made_notes is.by_digits (length is.ranks) (min is.calls (2 ^ 64 - 1)) made
+
+-- What a run reads is made of the texts that these words name, by rank, and this is said of it.
+abbrev pub IsPrepared : (List ℕ → Option (List ℕ)) → Sends → List (List ℕ) → List (List ℕ) → Made → List ℕ → Type 0
+IsPrepared file sends words names made notes = (is : IsMadeOf file sends words made) × (is.names ≡ names) × (notes ≡ notes_of made is)

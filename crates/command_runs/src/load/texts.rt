@@ -1,0 +1,74 @@
+//! The texts of all ranks, as what their calls say of communicators.
+
+ghost use Rattle.std.specs.Prelude.{◌≡◌, ◌-◌, ◌^◌, IfErr, IfOk, map, min, string_bytes, ℕ};
+ghost use Rattle.command_runs.specs.TextCalls.{AllSay, RefusesOne, RefusesText, Says, is_no_text};
+
+use crate::faults::fault::RunFault;
+use crate::faults::init_fault::InitFault;
+use crate::load::input::opened;
+use crate::load::opener::Opener;
+use crate::pieces::piece::fault_of_walk;
+use comm_makings::RankCalls;
+use dumpi_calls::Walked;
+use std::alloc::{AllocError, Global};
+use text_layouts::rank_calls_of;
+
+/// What the texts of all ranks say.
+#[derive(Drop)]
+pub(crate) struct AllCalls {
+    /// What each rank's text says of communicators.
+    pub(crate) ranks: Vec<RankCalls>,
+    /// How many calls they have together, up to 2^64 - 1.
+    pub(crate) calls: u64,
+}
+
+/// A text with lines and no call is none.
+fn is_no_text(walked: &Walked) -> bool
+    ensures { result ≡ is_no_text walked.now }
+{
+    walked.calls == 0 && walked.skipped > 0
+}
+
+/// What a text says of communicators, and how many calls it has.
+#[tactic(auto, using(crate::proofs::Reading::said, crate::proofs::Reading::refused, crate::proofs::Reading::has_no_call, crate::proofs::Opening::text_unopened))]
+fn calls_of<O: Opener>(alloc: Global, path: &str, files: &O) -> Result<(RankCalls, u64), InitFault>
+    ensures ok { IfOk result (λ read. Says (O.file files.now path.now) read.0 read.1) }
+    ensures err { IfErr result (RefusesText path.now (O.file files.now path.now)) }
+{
+    let reader = match opened(alloc, path, files) {
+        Ok(reader) => reader,
+        Err(RunFault::Memory) => return Err(InitFault::Memory),
+        Err(fault) => return Err(InitFault::Text(fault)),
+    };
+    match rank_calls_of(alloc, reader) {
+        Ok((calls, walked)) => {
+            if is_no_text(&walked) {
+                return Err(InitFault::NoCall {
+                    path: path.to_string(alloc)?,
+                });
+            }
+            Ok((calls, walked.calls))
+        }
+        Err(fault) => Err(InitFault::Text(fault_of_walk(alloc, path, fault)?)),
+    }
+}
+
+/// What these texts say, each of the rank of its place.
+pub(crate) fn calls_of_all<O: Opener>(
+    alloc: Global,
+    texts: &[String],
+    files: &O,
+) -> Result<AllCalls, InitFault>
+    ensures ok { IfOk result (λ all. (calls : ℕ) × AllSay (O.file files.now) (map string_bytes texts.now) all.ranks.items calls
+        × (all.calls ≡ min calls (2 ^ 64 - 1))) }
+    ensures err { IfErr result (RefusesOne (O.file files.now) (map string_bytes texts.now)) }
+{
+    let mut ranks = Vec::new(alloc);
+    let mut calls: u64 = 0;
+    for path in texts {
+        let (of_rank, count) = calls_of(alloc, path.as_str(), files)?;
+        ranks.push(of_rank)?;
+        calls = calls.saturating_add(count);
+    }
+    Ok(AllCalls { ranks, calls })
+}

@@ -1,0 +1,62 @@
+//! Who is told how a run comes along.
+
+use crate::load::opener::Opener;
+use dumpi_calls::Walked;
+use run_files::Piece;
+
+/// Is told how the reading of a run's pieces comes along. Nothing that a run answers or writes
+/// hangs on it.
+pub trait Watcher: Drop {
+    /// Whether what is told is shown to anyone. Else the files' lengths are not added up before they are read.
+    fn is_watching(&self) -> bool;
+
+    /// So many pieces are read from here on, of so many bytes together, where each file tells its
+    /// length.
+    fn begin(&mut self, pieces: usize, bytes: Option<u64>);
+
+    /// So many bytes more were read.
+    fn has_taken(&mut self, bytes: usize);
+
+    /// The text of one more piece was read to its end.
+    fn has_read(&mut self, path: &str, walked: &Walked);
+
+    /// So many messages and receives are paired by the rules from here on.
+    fn begin_check(&mut self, calls: usize);
+}
+
+/// A watcher that does nothing.
+#[derive(Debug, Drop)]
+pub struct Unwatched;
+
+impl Watcher for Unwatched {
+    fn is_watching(&self) -> bool {
+        false
+    }
+
+    fn begin(&mut self, _pieces: usize, _bytes: Option<u64>) {}
+
+    fn has_taken(&mut self, _bytes: usize) {}
+
+    fn has_read(&mut self, _path: &str, _walked: &Walked) {}
+
+    fn begin_check(&mut self, _calls: usize) {}
+}
+
+/// Tells the watcher that these pieces are read from here on.
+pub(crate) fn announce<O: Opener, V: Watcher>(pieces: &[Piece], files: &O, watcher: &mut V) {
+    let bytes = if watcher.is_watching() {
+        bytes_of_all(pieces, files)
+    } else {
+        None
+    };
+    watcher.begin(pieces.len(), bytes);
+}
+
+/// How many bytes the files of these pieces have together, where each tells its length.
+fn bytes_of_all<O: Opener>(pieces: &[Piece], files: &O) -> Option<u64> {
+    let mut bytes: u64 = 0;
+    for piece in pieces {
+        bytes = bytes.saturating_add(files.length(piece.file())?);
+    }
+    Some(bytes)
+}

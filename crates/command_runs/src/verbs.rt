@@ -1,0 +1,14 @@
+//! What each verb does over a run.
+
+pub(crate) mod answerer;
+pub(crate) mod check;
+pub(crate) mod cluster;
+pub(crate) mod explain;
+pub(crate) mod facts;
+pub(crate) mod init;
+pub(crate) mod node;
+pub(crate) mod pack;
+pub(crate) mod replay;
+pub(crate) mod report;
+pub(crate) mod schedule;
+pub(crate) mod writing;

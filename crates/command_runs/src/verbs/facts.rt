@@ -1,0 +1,80 @@
+//! What the texts of a run tell of the calls that a diagnosis names, by a second look at them.
+
+use crate::load::opener::Opener;
+use crate::load::second_look::reopened;
+use diagnosis_words::{TextFacts, named_calls};
+use std::alloc::{AllocError, Global};
+use std::collections::BTreeSet;
+use text_notes::{Look, TextNote, look_at};
+use trace_diagnosis::Diagnosis;
+
+/// The numbers, among the calls of a text, of those that are named.
+fn wanted_in(
+    alloc: Global,
+    named: &[(u32, u64)],
+    note: &TextNote,
+) -> Result<BTreeSet<u64>, AllocError> {
+    let mut wanted = BTreeSet::new(alloc);
+    let begin = named.partition_point(|call| *call < (note.rank(), note.first()));
+    for (rank, call) in named.iter().skip(begin) {
+        let number = call.saturating_sub(note.first());
+        if *rank != note.rank() || number >= note.calls() {
+            break;
+        }
+        wanted.insert(number)?;
+    }
+    Ok(wanted)
+}
+
+/// How many of the calls of a text can be read.
+fn limit_of(diagnosis: &Diagnosis, note: &TextNote) -> u64 {
+    let standing = diagnosis.waiting.standing.as_slice();
+    let last = match standing.get(note.rank() as usize) {
+        Some(standing) => standing.call.as_ref(),
+        None => None,
+    };
+    match last {
+        Some(last) => last.number.saturating_add(1).saturating_sub(note.first()),
+        None => 0,
+    }
+}
+
+/// A second look at a text, where it can be had.
+fn looked<O: Opener>(
+    alloc: Global,
+    note: &TextNote,
+    wanted: &BTreeSet<u64>,
+    limit: u64,
+    files: &O,
+) -> Option<Look> {
+    let reader = reopened(note.path(), files)?;
+    match look_at(alloc, reader, wanted, limit) {
+        Ok(look) => Some(look),
+        Err(_) => None,
+    }
+}
+
+/// What the texts tell of the calls that the diagnosis names, and of the last ones of the rank that is asked for.
+pub(crate) fn facts_of<O: Opener>(
+    alloc: Global,
+    diagnosis: &Diagnosis,
+    asked: Option<u32>,
+    notes: Vec<TextNote>,
+    files: &O,
+) -> Result<TextFacts, AllocError> {
+    let named = named_calls(alloc, diagnosis, asked)?;
+    let mut facts = TextFacts::none(alloc);
+    facts.notes = notes;
+    for at in 0..facts.notes.len() {
+        let Some(note) = facts.notes.as_slice().get(at) else {
+            break;
+        };
+        let wanted = wanted_in(alloc, named.as_slice(), note)?;
+        let limit = limit_of(diagnosis, note);
+        if let Some(look) = looked(alloc, note, &wanted, limit, files) {
+            facts.add(alloc, at, look)?;
+        }
+    }
+    facts.finish()?;
+    Ok(facts)
+}

@@ -1,0 +1,47 @@
+//! The report of the answer to all that the pieces tell.
+
+ghost use Rattle.std.specs.Prelude.{IfErr};
+ghost use Rattle.dumpi_text.specs.Failing.{Fails};
+ghost use Rattle.command_runs.specs.Files.{NamesFailed};
+ghost use Rattle.command_runs.specs.Verbs.{Ran};
+
+use crate::faults::fault::RunFault;
+use crate::load::opener::Opener;
+use crate::load::watch::Watcher;
+use crate::pieces::answering::answer_of;
+use crate::run::{Outcome, Run};
+use command_line::Verb;
+use mpi_model::Write;
+use trace_report::{write_json, write_report};
+
+/// Writes the report.
+pub(crate) fn report<O: Opener, V: Watcher, W: Write>(
+    run: &Run<'_, O>,
+    watcher: &mut V,
+    out: &mut W,
+) -> Result<Outcome, RunFault>
+    ensures ran { Ran (O.file run.now.files.now) Verb.Report run.now.layout.now run.now.manifest.now result W.written W.failures out.old out.new }
+    ensures failed { IfErr result (NamesFailed (Fails O.R.failures)) }
+{
+    let answer = answer_of(run, watcher)?;
+    match write_report(&answer, out) {
+        Ok(_) => Ok(Outcome::Good),
+        Err(_) => Err(RunFault::Write),
+    }
+}
+
+/// Writes the same report as one JSON object.
+pub(crate) fn report_as_json<O: Opener, V: Watcher, W: Write>(
+    run: &Run<'_, O>,
+    watcher: &mut V,
+    out: &mut W,
+) -> Result<Outcome, RunFault>
+    ensures ran { Ran (O.file run.now.files.now) Verb.ReportJson run.now.layout.now run.now.manifest.now result W.written W.failures out.old out.new }
+    ensures failed { IfErr result (NamesFailed (Fails O.R.failures)) }
+{
+    let answer = answer_of(run, watcher)?;
+    match write_json(&answer, out) {
+        Ok(_) => Ok(Outcome::Good),
+        Err(_) => Err(RunFault::Write),
+    }
+}

@@ -1,0 +1,41 @@
+//! A diagnosis for people and programs that read it: in words, as JSON, and as a picture.
+//!
+//! What is printed is a [`Diagnosis`](trace_diagnosis::Diagnosis), and beside it what the texts of the run tell of its
+//! calls ([`TextFacts`]): the printers look nothing up anywhere else. Their contracts say no more than that they end; what
+//! they print is shown by cases (`tests/cases/`).
+//!
+//! - [`named`]: which calls a diagnosis names; [`texts`]: what the texts tell of them; [`source`]: all that is printed from
+//! - [`json`]: the diagnosis as JSON; [`picture`]: in the language of Graphviz; [`needed`]: which parts of a condition it draws
+//! - [`words`]: in words: what is told, in what order, and where a list is cut; [`doubts_of_answer`]: what makes the answer
+//!   doubtful; [`one_rank`] and [`calls_of_rank`]: of one rank; [`sentences`]:
+//!   all sentences; [`writer`], [`functions`], [`calls`]: names of things; [`groups`]: ranks that stand alike; [`requests`]:
+//!   which open requests are told
+//! - [`doubtful`]: which functions may wait or move data and aren't read
+#![tactic(auto)]
+
+mod calls;
+mod calls_of_rank;
+mod doubtful;
+mod doubts_of_answer;
+mod functions;
+mod groups;
+mod json;
+mod named;
+mod needed;
+mod one_rank;
+mod picture;
+mod requests;
+mod sentences;
+mod source;
+mod texts;
+mod words;
+mod writer;
+
+pub use calls_of_rank::last_calls;
+pub use doubts_of_answer::answer_doubts;
+pub use json::diagnosis_json;
+pub use named::named_calls;
+pub use one_rank::rank_words;
+pub use picture::diagnosis_picture;
+pub use texts::{CutText, LocalCalls, PlacedSite, TextFacts};
+pub use words::diagnosis_words;

@@ -1,0 +1,74 @@
+//! Which calls a diagnosis names.
+
+use crate::calls_of_rank::MOST_CALLS;
+use crate::words::front;
+use std::alloc::{AllocError, Global};
+use trace_diagnosis::Diagnosis;
+
+/// The most undecided messages of which the texts are asked: a line names the first ones.
+const MOST_UNDECIDED: usize = 10;
+
+/// The last calls of a rank that are told where it is asked for.
+fn push_last(
+    diagnosis: &Diagnosis,
+    rank: u32,
+    calls: &mut Vec<(u32, u64)>,
+) -> Result<(), AllocError> {
+    if let Some(standing) = diagnosis.waiting.standing.as_slice().get(rank as usize) {
+        if let Some(last) = &standing.call {
+            let count = last.number.saturating_add(1);
+            for call in count.saturating_sub(MOST_CALLS)..count {
+                calls.push((rank, call))?;
+            }
+        }
+    }
+    Ok(())
+}
+
+/// The calls that a diagnosis names, by rank and number, in rising order and each once, and the last ones of a rank that is
+/// asked for: what is said of them wants to be looked up in the texts.
+pub fn named_calls(
+    alloc: Global,
+    diagnosis: &Diagnosis,
+    asked: Option<u32>,
+) -> Result<Vec<(u32, u64)>, AllocError> {
+    let mut calls = Vec::new(alloc);
+    if let Some(rank) = asked {
+        push_last(diagnosis, rank, &mut calls)?;
+    }
+    for standing in diagnosis.waiting.standing.iter() {
+        if let Some(last) = &standing.call {
+            calls.push((standing.rank, last.number))?;
+        }
+    }
+    for polling in diagnosis.waiting.polls.iter() {
+        for polled in polling.calls.iter() {
+            calls.push((polling.rank, polled.number))?;
+        }
+    }
+    for message in front(diagnosis.unmatched.undecided.as_slice(), MOST_UNDECIDED) {
+        calls.push((message.name.rank, message.name.call))?;
+    }
+    for operation in diagnosis.operations.iter() {
+        let name = operation.name;
+        calls.push((name.rank, name.call))?;
+        if let Some(init) = &operation.init {
+            calls.push((name.rank, init.number))?;
+        }
+    }
+    calls.sort()?;
+    once(alloc, calls.as_slice())
+}
+
+/// Each of the calls once, where equal ones stand side by side.
+fn once(alloc: Global, calls: &[(u32, u64)]) -> Result<Vec<(u32, u64)>, AllocError> {
+    let mut kept = Vec::new(alloc);
+    let mut before = None;
+    for call in calls {
+        if before != Some(*call) {
+            kept.push(*call)?;
+        }
+        before = Some(*call);
+    }
+    Ok(kept)
+}

@@ -1,0 +1,10 @@
+//! All sentences, each once, by what they are of.
+
+mod doubts;
+mod head;
+mod messages;
+mod roots;
+mod rounds;
+mod standing;
+
+pub(crate) use head::headline_of;

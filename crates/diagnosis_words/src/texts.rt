@@ -1,0 +1,163 @@
+//! What the texts of a run tell of its calls and of themselves.
+
+use crate::doubtful::is_doubtful;
+use std::alloc::{AllocError, Global};
+use text_notes::{CallSite, Look, TextNote, note_of};
+
+/// What the texts of a run tell of its calls and of themselves. It is empty where there is no text.
+#[derive(Debug, Drop)]
+pub struct TextFacts {
+    /// What was noted of each text, in the order of the pieces.
+    pub notes: Vec<TextNote>,
+    /// Where calls stand, by rank and number.
+    pub sites: Vec<PlacedSite>,
+    /// How often functions were called that may wait or move data and that aren't read, by name.
+    pub local: Vec<LocalCalls>,
+    /// The texts that end inside a line or a call, in the order of the pieces.
+    pub cut: Vec<CutText>,
+    /// The greatest size that MPI_Comm_size tells of MPI_COMM_WORLD.
+    pub size: Option<u64>,
+}
+
+/// Where a call of a rank stands in its text.
+#[derive(Debug, Drop)]
+pub struct PlacedSite {
+    pub rank: u32,
+    /// The number of the call among all calls of its rank, from 0.
+    pub call: u64,
+    /// The place of its text among the notes.
+    pub note: usize,
+    pub site: CallSite,
+}
+
+/// How often a function was called.
+#[derive(Debug, Drop)]
+pub struct LocalCalls {
+    pub function: Vec<u8>,
+    pub calls: u64,
+}
+
+/// A text that ends inside a line or a call.
+#[derive(Debug, Drop)]
+pub struct CutText {
+    pub rank: u32,
+    /// The place of the text among the notes.
+    pub note: usize,
+    /// Its last line.
+    pub line: u64,
+}
+
+/// Where a call stands, as far as the texts tell it.
+#[derive(Clone, Copy, Debug)]
+pub(crate) struct Place<'a> {
+    /// The name of the text's file, as the manifest spells it.
+    pub path: &'a [u8],
+    /// The same, as a line for a person shows it.
+    pub file: &'a [u8],
+    /// The line where the call begins.
+    pub line: Option<u64>,
+    /// From where in the program it was made.
+    pub caller: Option<&'a [u8]>,
+    /// The name of its function.
+    pub function: Option<&'a [u8]>,
+}
+
+impl TextFacts {
+    /// Nothing, as where no text was read.
+    pub fn none(alloc: Global) -> TextFacts {
+        TextFacts {
+            notes: Vec::new(alloc),
+            sites: Vec::new(alloc),
+            local: Vec::new(alloc),
+            cut: Vec::new(alloc),
+            size: None,
+        }
+    }
+
+    /// Adds what a second look at a text has found: the text's place among the notes is given, and each call has the number
+    /// among the calls of its rank that the note's piece gives it.
+    pub fn add(&mut self, alloc: Global, note: usize, look: Look) -> Result<(), AllocError> {
+        let (rank, first) = match self.notes.as_slice().get(note) {
+            Some(noted) => (noted.rank(), noted.first()),
+            None => return Ok(()),
+        };
+        for local in look.local() {
+            if is_doubtful(local.name()) {
+                self.count(alloc, local.name(), local.count())?;
+            }
+        }
+        self.size = self.size.max(look.size());
+        for site in look.into_sites() {
+            let call = first.saturating_add(site.number());
+            self.sites.push(PlacedSite {
+                rank,
+                call,
+                note,
+                site,
+            })?;
+        }
+        Ok(())
+    }
+
+    /// Puts what was added in order.
+    pub fn finish(&mut self) -> Result<(), AllocError> {
+        self.sites
+            .sort_by_key(|site| (site.rank, site.call, site.note))?;
+        self.local
+            .sort_by(|one, other| one.function.cmp(&other.function))?;
+        Ok(())
+    }
+
+    /// Adds calls of a function.
+    fn count(&mut self, alloc: Global, function: &[u8], calls: u64) -> Result<(), AllocError> {
+        for known in self.local.iter_mut() {
+            if known.function.as_slice() == function {
+                known.calls = known.calls.saturating_add(calls);
+                return Ok(());
+            }
+        }
+        let function = Vec::from_slice(alloc, function)?;
+        self.local.push(LocalCalls { function, calls })?;
+        Ok(())
+    }
+
+    /// Whether a text is of a rank.
+    pub(crate) fn has_text(&self, rank: u32) -> bool {
+        self.notes.iter().any(|note| note.rank() == rank)
+    }
+
+    /// The call of this number in the first text that has it, where a second look found it.
+    fn site(&self, rank: u32, call: u64) -> Option<&PlacedSite> {
+        let sites = self.sites.as_slice();
+        let at = sites.partition_point(|site| (site.rank, site.call) < (rank, call));
+        let found = sites.get(at)?;
+        if found.rank == rank && found.call == call {
+            Some(found)
+        } else {
+            None
+        }
+    }
+
+    /// Where a call stands: in the first text that has it.
+    pub(crate) fn place(&self, rank: u32, call: u64) -> Option<Place<'_>> {
+        if let Some(placed) = self.site(rank, call) {
+            let note = self.notes.as_slice().get(placed.note)?;
+            return Some(Place {
+                path: note.path().as_bytes(),
+                file: note.file(),
+                line: Some(placed.site.line()),
+                caller: placed.site.caller(),
+                function: Some(placed.site.name()),
+            });
+        }
+        let at = note_of(self.notes.as_slice(), rank, call)?;
+        let note = self.notes.as_slice().get(at)?;
+        Some(Place {
+            path: note.path().as_bytes(),
+            file: note.file(),
+            line: note.line_of(call.saturating_sub(note.first())),
+            caller: None,
+            function: None,
+        })
+    }
+}

@@ -1,7 +1,0 @@
-pub mod Advice
-pub mod Endings
-pub mod Faults
-pub mod MadeFiles
-pub mod Prepared
-pub mod Readers
-pub mod Texts

@@ -1,0 +1,99 @@
+-- The JSON values of a layout and of a manifest.
+use Rattle.std.specs.Prelude.{◌≡◌, ℕ, ◌+◌, ◌==◌, ◌&&◌, Bool, List, [], ◌∷◌, ◌++◌, Option, Some, None, Result, OnOk, codes, decimal, is_some, not, if◌then◌else◌}
+use Rattle.json.specs.Json.{Json, null, number, string, array, object, Items, no_items, item, Members, no_members, member}
+use Rattle.json.specs.Print.{print}
+use Rattle.json.specs.Token.{Token}
+use Rattle.json.specs.Token as tokens
+use Rattle.json.specs.Tree.{json_tokens}
+use Rattle.json.specs.Written.{Written}
+use Rattle.mpi_model.specs.declared.object.Object.{Object}
+use Rattle.mpi_model.specs.declared.object.Object.TheVariants as sorts
+use Rattle.mpi_model.specs.Communicators.{Communicator}
+use Rattle.mpi_model.specs.Layouts.{Parts}
+use Rattle.mpi_model.specs.declared.layout.Sends.{Sends}
+use Rattle.mpi_model.specs.declared.layout.Sends.TheVariants.{Wait, Buffer}
+use Rattle.mpi_model.specs.declared.layout.comm.Stretch.{Stretch}
+
+-- a number, in decimal digits
+abbrev pub number_of : ℕ → Json
+number_of n = number (decimal n)
+
+-- the values of a list, in its order
+abbrev pub items_of : {X : Type 0} → (X → Json) → List X → Items
+items_of value [] = no_items
+items_of value (x ∷ xs) = item (value x) (items_of value xs)
+
+-- the stretch holds all calls
+abbrev pub is_always : Stretch → Bool
+is_always s = (s.first == 0) && not (is_some s.end)
+
+-- the end of a stretch of calls, or that it has none
+abbrev pub end_value : Option ℕ → Json
+end_value None = null
+end_value (Some call) = number_of call
+
+-- a number over all calls, or a number with its first call and its end
+abbrev pub stretch_value : Stretch → Json
+stretch_value s = if is_always s then number_of s.number else array (item (number_of s.number) (item (number_of s.first) (item (end_value s.end) no_items)))
+
+-- a member's entry
+abbrev pub entry_value : Option Stretch → Json
+entry_value None = null
+entry_value (Some s) = stretch_value s
+
+-- the field of the entries, where there are some
+abbrev pub numbers_field : List (Option Stretch) → Members
+numbers_field [] = no_members
+numbers_field (e ∷ es) = member (codes "numbers") (array (items_of entry_value (e ∷ es))) no_members
+
+-- the field of an object's sort, where it is no communicator, before other fields
+abbrev pub with_object : Object → Members → Members
+with_object sorts.Communicator others = others
+with_object sorts.Window others = member (codes "object") (string (codes "window")) others
+with_object sorts.File others = member (codes "object") (string (codes "file")) others
+
+-- the tokens of that field
+abbrev pub object_tokens : Object → List Token
+object_tokens sorts.Communicator = []
+object_tokens sorts.Window = tokens.key (codes "object") ∷ tokens.string (codes "window") ∷ []
+object_tokens sorts.File = tokens.key (codes "object") ∷ tokens.string (codes "file") ∷ []
+
+-- `{"id":C,"object":"window","members":[..],"numbers":[..]}`, without the second field for a communicator
+abbrev pub communicator_value : Communicator → Json
+communicator_value g = object (member (codes "id") (number_of g.comm) (with_object g.object (member (codes "members") (array (items_of number_of g.members)) (numbers_field g.numbers))))
+
+-- how sends of standard mode complete
+abbrev pub sends_word : Sends → List ℕ
+sends_word Wait = codes "wait"
+sends_word Buffer = codes "buffer"
+
+-- the layout of these ranks, this world, these sends and these communicators
+abbrev pub parts_of : ℕ → ℕ → Sends → List Communicator → Parts
+parts_of ranks world sends comms = record { ranks = ranks; world = world; sends = sends; comms = comms }
+
+-- `{"ranks":N,"world":C,"sends":"wait","comms":[..]}`
+abbrev pub layout_value : Parts → Json
+layout_value l = object (member (codes "ranks") (number_of l.ranks) (member (codes "world") (number_of l.world)
+    (member (codes "sends") (string (sends_word l.sends)) (member (codes "comms") (array (items_of communicator_value l.comms)) no_members))))
+
+-- the whole text of a rank: `{"rank":R,"first":0,"file":".."}`
+abbrev pub piece_value : ℕ → List ℕ → Json
+piece_value rank file = object (member (codes "rank") (number_of rank) (member (codes "first") (number_of 0) (member (codes "file") (string file) no_members)))
+
+-- the files of this rank and of those behind it
+abbrev pub pieces_from : ℕ → List (List ℕ) → Items
+pieces_from rank [] = no_items
+pieces_from rank (file ∷ files) = item (piece_value rank file) (pieces_from (rank + 1) files)
+
+-- `{"pieces":[..]}`
+abbrev pub manifest_value : List (List ℕ) → Json
+manifest_value files = object (member (codes "pieces") (array (pieces_from 0 files)) no_members)
+
+-- a value without spaces, and a line feed
+abbrev pub line_of : Json → List ℕ
+line_of value = print (json_tokens value) ++ 10 ∷ []
+
+-- These tokens are put behind those that were put before.
+pub record Puts {E : Type 0} (r : Result (Unit {0}) E) (old new : Written) (tokens : List Token) : Type 0 where
+  pub before : new.before ≡ old.before
+  pub put : OnOk r (new.tokens ≡ old.tokens ++ tokens)

@@ -1,0 +1,14 @@
+//! What a run reads from its two files.
+
+use crate::manifest::Manifest;
+use mpi_model::Layout;
+
+/// The most bytes of a layout's or a manifest's file.
+pub const LONGEST_FILE: usize = 16_777_216;
+
+/// The input of a run: who communicates, and in which pieces its trace stands.
+#[derive(Drop)]
+pub struct RunInput {
+    pub layout: Layout,
+    pub manifest: Manifest,
+}

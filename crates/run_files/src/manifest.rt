@@ -1,0 +1,225 @@
+//! The manifest of a run: the pieces of its trace, each a text file of one rank or a file of packed
+//! knowledge, and what its nodes are to do with them.
+
+ghost use Rattle.std.specs.Prelude.{◌≡◌, string_bytes};
+
+use std::alloc::Global;
+use std::marker::Model;
+
+/// A file with some calls of one rank, one after another.
+#[derive(Clone, Debug, Drop)]
+pub struct Piece {
+    rank: u32,
+    first: u64,
+    file: String,
+    node: u8,
+    worker: u8,
+}
+
+impl Model for Piece {
+    ghost use Rattle.std.specs.Prelude.{string_bytes};
+    ghost use Rattle.run_files.specs.Manifests.{PieceParts};
+
+    ghost Value = { PieceParts };
+
+    ghost view = { λ p. record { rank = p.rank; first = p.first; file = string_bytes p.file; node = p.node; worker = p.worker } };
+}
+
+impl Piece {
+    ghost use Rattle.run_files.specs.Manifests.{whole_text};
+
+    /// The whole text of a rank, which names no node and no worker.
+    pub fn whole(rank: u32, file: String) -> Piece
+        ensures { result ≡ whole_text rank (string_bytes file) }
+    {
+        Piece::new(rank, 0, file, 0, 0)
+    }
+
+    pub(crate) fn new(rank: u32, first: u64, file: String, node: u8, worker: u8) -> Piece
+        ensures { result ≡ record { rank = rank; first = first; file = string_bytes file; node = node; worker = worker } }
+    {
+        Piece {
+            rank,
+            first,
+            file,
+            node,
+            worker,
+        }
+    }
+
+    /// The rank whose calls they are.
+    pub fn rank(&self) -> u32
+        ensures { result ≡ self.now.rank }
+    {
+        self.rank
+    }
+
+    /// The number of the first call among all calls of its rank, from 0.
+    pub fn first(&self) -> u64
+        ensures { result ≡ self.now.first }
+    {
+        self.first
+    }
+
+    /// The name of the file, as the manifest spells it.
+    pub fn file(&self) -> &str
+        ensures { result.now ≡ self.now.file }
+    {
+        self.file.as_str()
+    }
+
+    /// The node whose piece it is where each of two nodes has its own: 0 or 1.
+    pub fn node(&self) -> u8
+        ensures { result ≡ self.now.node }
+    {
+        self.node
+    }
+
+    /// The worker of that node who reads it: 0 or 1.
+    pub fn worker(&self) -> u8
+        ensures { result ≡ self.now.worker }
+    {
+        self.worker
+    }
+}
+
+/// A file of packed knowledge.
+#[derive(Debug, Drop)]
+pub struct PackedPiece {
+    file: String,
+    node: u8,
+}
+
+impl Model for PackedPiece {
+    ghost use Rattle.std.specs.Prelude.{string_bytes};
+    ghost use Rattle.run_files.specs.Manifests.{PackedParts};
+
+    ghost Value = { PackedParts };
+
+    ghost view = { λ p. record { file = string_bytes p.file; node = p.node } };
+}
+
+impl PackedPiece {
+    pub(crate) fn new(file: String, node: u8) -> PackedPiece
+        ensures { result ≡ record { file = string_bytes file; node = node } }
+    {
+        PackedPiece { file, node }
+    }
+
+    /// The name of the file, as the manifest spells it.
+    pub fn file(&self) -> &str
+        ensures { result.now ≡ self.now.file }
+    {
+        let file = &self.file;
+        file.as_str()
+    }
+
+    /// The node whose piece it is where each of two nodes has its own: 0 or 1.
+    pub fn node(&self) -> u8
+        ensures { result ≡ self.now.node }
+    {
+        self.node
+    }
+}
+
+/// A step as the manifest writes it. All numbers are from 0.
+#[derive(Clone, Copy, Debug, PartialEq, Eq)]
+pub enum PlannedStep {
+    /// A worker posts a piece to a node: each of its segments, in their order.
+    Post {
+        worker: u8,
+        node: usize,
+        /// The number of the piece in the list of pieces.
+        piece: usize,
+    },
+    /// A node takes the front of its inbox.
+    Take {
+        node: usize,
+    },
+    /// What a node knows becomes the next mail.
+    Ship {
+        node: usize,
+    },
+    /// A mail is joined into what a node knows.
+    Deliver {
+        mail: usize,
+        node: usize,
+    },
+    /// A node forgets all.
+    Restart {
+        node: usize,
+    },
+}
+
+/// What a manifest names. Each piece that its schedule posts is one of its texts.
+#[derive(Debug, Drop)]
+pub struct Manifest {
+    pieces: Vec<Piece>,
+    packed: Vec<PackedPiece>,
+    nodes: usize,
+    schedule: Vec<PlannedStep>,
+}
+
+impl Model for Manifest {
+    ghost use Rattle.run_files.specs.Manifests.{ManifestParts};
+
+    ghost Value = { ManifestParts };
+
+    ghost view = { λ m. record { pieces = m.pieces.items; packed = m.packed.items; nodes = m.nodes; schedule = m.schedule.items } };
+}
+
+impl Manifest {
+    ghost use Rattle.std.specs.Prelude.{[]};
+    ghost use Rattle.run_files.specs.Manifests.{manifest_of_texts};
+
+    pub(crate) fn new(
+        pieces: Vec<Piece>,
+        packed: Vec<PackedPiece>,
+        nodes: usize,
+        schedule: Vec<PlannedStep>,
+    ) -> Manifest
+        ensures { result ≡ record { pieces = pieces.items; packed = packed.items; nodes = nodes; schedule = schedule.items } }
+    {
+        Manifest {
+            pieces,
+            packed,
+            nodes,
+            schedule,
+        }
+    }
+
+    /// A manifest of texts alone, for one node, without a schedule.
+    pub fn of_texts(alloc: Global, texts: Vec<Piece>) -> Manifest
+        ensures { result ≡ manifest_of_texts texts.items }
+    {
+        Manifest::new(texts, Vec::new(alloc), 1, Vec::new(alloc))
+    }
+
+    /// The texts among the pieces, in the order in which the manifest lists them.
+    pub fn pieces(&self) -> &[Piece]
+        ensures { result.now ≡ self.now.pieces }
+    {
+        &self.pieces
+    }
+
+    /// The packed files among the pieces, in the order in which the manifest lists them.
+    pub fn packed(&self) -> &[PackedPiece]
+        ensures { result.now ≡ self.now.packed }
+    {
+        &self.packed
+    }
+
+    /// How many nodes the schedule is for. Any number stands here: a world has 1 to 64.
+    pub fn nodes(&self) -> usize
+        ensures { result ≡ self.now.nodes }
+    {
+        self.nodes
+    }
+
+    /// The steps of the schedule, in their order. A piece that is posted has its number among the texts.
+    pub fn schedule(&self) -> &[PlannedStep]
+        ensures { result.now ≡ self.now.schedule }
+    {
+        &self.schedule
+    }
+}

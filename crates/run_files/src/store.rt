@@ -1,0 +1,231 @@
+//! Where the two files are kept: both or none.
+
+ghost use Rattle.std.specs.Prelude.{◌≡◌, ◌≤◌, ◌↔◌, IfErr, IsTrue, None, OnErr, OnOk, Option, ℕ};
+ghost use Rattle.mpi_model.specs.Failures.{CountsFailure, HasFailed};
+ghost use Rattle.run_files.specs.Stores.{
+  Adds,
+  AddsBoth,
+  AreDistinct,
+  CountsAdding,
+  Files,
+  Goes,
+  HasBoth,
+  IsThere,
+  LeavesNothing,
+  Moves,
+  RefusesAdding,
+  RefusesReplacing,
+  Removes,
+  RemovesBoth,
+  Same,
+  Told,
+  fault_of_adding,
+  fault_of_spares,
+  file_of,
+  spare_name,
+};
+ghost use Rattle.run_files.specs.declared.store.StoreFault.TheVariants.{There};
+
+use mpi_model::Failed;
+use std::alloc::{AllocError, Global};
+
+/// Why a store doesn't add a file.
+#[derive(Clone, Copy, Debug, PartialEq, Eq)]
+pub enum StoreFault {
+    /// A file of that name is there.
+    There,
+    /// It can't.
+    Failed,
+}
+
+/// What keeps files by their names.
+///
+/// It tells its files, or it doesn't (a disk can't: other programs write to it).
+pub trait Store: Drop {
+    /// The bytes of the file of each name, where the store tells its files.
+    ghost files: { Self → Option Files } = { λ _. None };
+
+    /// How often it has failed, up to 2^64 - 1.
+    ghost failures: { Self → ℕ };
+
+    /// Keeps a file of a name that none has, whole or not at all.
+    fn add(&mut self, path: &str, bytes: &[u8]) -> Result<(), StoreFault>
+        ensures ok { OnOk result (Goes (Adds path.now bytes.now) (files self.old) (files self.new)) }
+        ensures err { OnErr result (Goes Same (files self.old) (files self.new)) }
+        ensures there { IfErr result (λ fault. fault ≡ There → Told (IsThere path.now) (files self.old)) }
+        ensures failures { CountsAdding (failures self.old) (failures self.new) result };
+
+    /// Takes a file away.
+    fn remove(&mut self, path: &str) -> Result<(), Failed>
+        ensures ok { OnOk result (Goes (Removes path.now) (files self.old) (files self.new)) }
+        ensures err { OnErr result (Goes Same (files self.old) (files self.new)) }
+        ensures failures { CountsFailure (failures self.old) (failures self.new) result };
+
+    /// Gives a file another name, in place of the file that has it.
+    fn rename(&mut self, from: &str, to: &str) -> Result<(), Failed>
+        ensures ok { OnOk result (Goes (Moves from.now to.now) (files self.old) (files self.new)) }
+        ensures err { OnErr result (Goes Same (files self.old) (files self.new)) }
+        ensures failures { CountsFailure (failures self.old) (failures self.new) result };
+}
+
+/// A file that is to be kept.
+#[derive(Clone, Copy, Debug)]
+pub struct NewFile<'a> {
+    pub name: &'a str,
+    pub bytes: &'a [u8],
+}
+
+/// Which of two files.
+#[derive(Clone, Copy, Debug, PartialEq, Eq)]
+pub enum Which {
+    First,
+    Second,
+}
+
+/// Why two files aren't kept.
+#[derive(Clone, Copy, Debug, PartialEq, Eq)]
+pub enum PutFault {
+    Memory,
+    /// Both have one name.
+    OneName,
+    /// A file of its name is there.
+    There(Which),
+    /// It is to replace one, and a file of its name with `.new` behind it is there.
+    SpareThere(Which),
+    /// It couldn't be written.
+    Failed(Which),
+    /// It couldn't be written, and something is left of what was to be kept.
+    Half(Which),
+}
+
+impl From<AllocError> for PutFault {
+    ghost use Rattle.std.specs.Prelude.{◌≡◌};
+    ghost use Rattle.run_files.specs.declared.store.PutFault.TheVariants.{Memory};
+
+    ghost from_gives = { λ _ e. e ≡ Memory };
+
+    fn from(_error: AllocError) -> PutFault {
+        PutFault::Memory
+    }
+}
+
+/// Why one of two files wasn't added.
+fn fault_of(fault: StoreFault, which: Which) -> PutFault
+    ensures { result ≡ fault_of_adding fault which }
+{
+    match fault {
+        StoreFault::There => PutFault::There(which),
+        StoreFault::Failed => PutFault::Failed(which),
+    }
+}
+
+/// Keeps two files of names that no file has.
+pub fn add_both<S: Store>(
+    store: &mut S,
+    one: NewFile<'_>,
+    other: NewFile<'_>,
+) -> Result<(), PutFault>
+    ensures ok { OnOk result (Goes (AddsBoth (file_of one.entry) (file_of other.entry)) (S.files store.old) (S.files store.new)) }
+    ensures err { IfErr result (λ fault. LeavesNothing fault → Goes Same (S.files store.old) (S.files store.new)) }
+    ensures cause { IfErr result (RefusesAdding one.entry.name.now other.entry.name.now (S.files store.old)
+        (HasFailed (S.failures store.old) (S.failures store.new))) }
+    ensures failures { S.failures store.old ≤ S.failures store.new }
+{
+    if one.name == other.name {
+        return Err(PutFault::OneName);
+    }
+    if let Err(fault) = store.add(one.name, one.bytes) {
+        return Err(fault_of(fault, Which::First));
+    }
+    match store.add(other.name, other.bytes) {
+        Ok(()) => Ok(()),
+        Err(fault) => match store.remove(one.name) {
+            Ok(()) => Err(fault_of(fault, Which::Second)),
+            Err(Failed) => Err(PutFault::Half(Which::Second)),
+        },
+    }
+}
+
+/// Whether no two of these names are the same.
+fn are_distinct(a: &str, b: &str, c: &str, d: &str) -> bool
+    ensures { IsTrue result ↔ AreDistinct a.now b.now c.now d.now }
+{
+    a != b && a != c && a != d && b != c && b != d && c != d
+}
+
+/// Takes both files away again.
+fn remove_both<S: Store>(store: &mut S, one: &str, other: &str) -> Result<(), Failed>
+    ensures ok { OnOk result (Goes (RemovesBoth one.now other.now) (S.files store.old) (S.files store.new)) }
+    ensures failed { OnErr result (HasFailed (S.failures store.old) (S.failures store.new)) }
+    ensures failures { S.failures store.old ≤ S.failures store.new }
+{
+    store.remove(one)?;
+    store.remove(other)
+}
+
+/// Why two files don't take the place of others, where their spare files weren't added.
+fn fault_of_spares(fault: PutFault) -> PutFault
+    ensures { result ≡ fault_of_spares fault }
+{
+    match fault {
+        PutFault::There(which) => PutFault::SpareThere(which),
+        fault => fault,
+    }
+}
+
+/// Writes both files under spare names first, so that nothing has changed where one can't be written.
+fn replace_by<S: Store>(
+    store: &mut S,
+    one: NewFile<'_>,
+    other: NewFile<'_>,
+    spares: (&str, &str),
+) -> Result<(), PutFault>
+    requires distinct { AreDistinct one.name.now other.name.now spares.0.now spares.1.now }
+    ensures ok { OnOk result (Goes (HasBoth (file_of one.entry) (file_of other.entry)) (S.files store.old) (S.files store.new)) }
+    ensures err { IfErr result (λ fault. LeavesNothing fault → Goes Same (S.files store.old) (S.files store.new)) }
+    ensures cause { IfErr result (RefusesReplacing one.entry.name.now other.entry.name.now spares.entry.0.now spares.entry.1.now
+        (S.files store.old) (HasFailed (S.failures store.old) (S.failures store.new))) }
+{
+    let (first, second) = spares;
+    let spare = NewFile {
+        name: first,
+        bytes: one.bytes,
+    };
+    let spare_of_other = NewFile {
+        name: second,
+        bytes: other.bytes,
+    };
+    if let Err(fault) = add_both(store, spare, spare_of_other) {
+        return Err(fault_of_spares(fault));
+    }
+    if let Err(Failed) = store.rename(first, one.name) {
+        return match remove_both(store, first, second) {
+            Ok(()) => Err(PutFault::Failed(Which::First)),
+            Err(Failed) => Err(PutFault::Half(Which::First)),
+        };
+    }
+    match store.rename(second, other.name) {
+        Ok(()) => Ok(()),
+        Err(Failed) => Err(PutFault::Half(Which::Second)),
+    }
+}
+
+/// Keeps two files, in place of those of their names.
+pub fn replace_both<S: Store>(
+    alloc: Global,
+    store: &mut S,
+    one: NewFile<'_>,
+    other: NewFile<'_>,
+) -> Result<(), PutFault>
+    ensures ok { OnOk result (Goes (HasBoth (file_of one.entry) (file_of other.entry)) (S.files store.old) (S.files store.new)) }
+    ensures err { IfErr result (λ fault. LeavesNothing fault → Goes Same (S.files store.old) (S.files store.new)) }
+    ensures cause { IfErr result (RefusesReplacing one.entry.name.now other.entry.name.now (spare_name one.entry.name.now)
+        (spare_name other.entry.name.now) (S.files store.old) (HasFailed (S.failures store.old) (S.failures store.new))) }
+{
+    let first = format!(in alloc; "{}.new", one.name)?;
+    let second = format!(in alloc; "{}.new", other.name)?;
+    if !are_distinct(one.name, other.name, first.as_str(), second.as_str()) {
+        return Err(PutFault::OneName);
+    }
+    replace_by(store, one, other, (first.as_str(), second.as_str()))
+}

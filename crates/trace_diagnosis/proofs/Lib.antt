@@ -1,0 +1,14 @@
+mod Shapes
+mod Holds
+mod Needing
+mod Ranges
+mod Leading
+mod Rooted
+mod Halved
+mod Lists
+mod Putting
+mod Nobody
+mod Stuck
+mod Tailing
+mod Found
+mod Composing

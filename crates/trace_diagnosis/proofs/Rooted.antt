@@ -1,0 +1,53 @@
+-- Roots that stay sound while they are joined and ordered.
+use Rattle.std.proofs.Common.{◌≡◌, ◌<◌, ◌+◌, ℕ, Bool, true, false, List, [], ◌∷◌, ◌++◌, Vec, Global, All, arith, get_or, length, set, subst, sym}
+use Rattle.std.specs.List.Sorted.{IsPermutation}
+use Rattle.std.proofs.lemmas.List.Elements.{All-append, All-cons, All-set}
+use Rattle.std.proofs.lemmas.List.{length-append}
+use Rattle.std.proofs.Math.ListN.{get_or-append}
+use Rattle.std.proofs.Math.Seq.{get_or-append_seam}
+use Rattle.std.proofs.lemmas.List.Sorted.{All-permutation}
+use Rattle.trace_stuck.specs.Graph.{is_up}
+use Rattle.trace_stuck.specs.Hearts.{IsInHeart, Reaches}
+use Rattle.trace_diagnosis.specs.declared.diagnosis.Root.{Root}
+use Rattle.trace_diagnosis.specs.declared.diagnosis.RootKind.{RootKind}
+use Rattle.trace_diagnosis.specs.Roots.{AddsRoot, IsRoot, IsSound, JoinsRoots, KeepRoots, is_round}
+
+none : (P : Root → Type 0) → All P []
+none P = λ k d lt. absurd (omega (arith, lt))
+
+one : (P : Root → Type 0) (root : Root) → P root → All P (root ∷ [])
+one P root h = All-cons P root [] h (none P)
+
+-- one root more
+pub adds_push : (roots : List Root) (root : Root) → AddsRoot roots root (roots ++ root ∷ [])
+adds_push roots root = λ edges held ranks all sound. All-append (IsSound edges held ranks) roots (root ∷ []) all (one (IsSound edges held ranks) root sound)
+
+-- one round more
+pub keeps_push : (old roots : List Root) (root : Root) → KeepRoots old roots → is_round root.kind ≡ true → KeepRoots old (roots ++ root ∷ [])
+keeps_push old roots root k e = λ edges held ranks all.
+    All-append (IsSound edges held ranks) roots (root ∷ []) (k edges held ranks all) (one (IsSound edges held ranks) root (λ n. absurd (cc (n, e))))
+
+-- two roots of ranks joined
+pub joins : (old other new : Root) → IsPermutation (old.ranks.items ++ other.ranks.items) new.ranks.items → new.holds_up ≡ old.holds_up → new.kind ≡ old.kind → JoinsRoots old other new
+joins old other new p h k = λ edges held ranks sound root. λ n.
+    let mine = sound (subst (λ (x : RootKind). is_round x ≡ false) k n) in
+    record {
+      own = All-permutation (IsInHeart edges) (old.ranks.items ++ other.ranks.items) new.ranks.items p
+          (All-append (IsInHeart edges) old.ranks.items other.ranks.items mine.own root.own);
+      holds_up = subst (λ (v : Vec ℕ Global). All (λ r. (is_up held r ≡ true) × ((s : ℕ) × IsInHeart edges s × Reaches edges r s)) v.items) (sym h) mine.holds_up;
+    }
+
+-- one root in place of the one at a place, which were joined
+pub adds_join : (roots : List Root) (place : ℕ) (old root new : Root) → place < length roots → old ≡ get_or roots place old → is_round root.kind ≡ false → JoinsRoots old root new
+    → AddsRoot roots root (set roots place new)
+adds_join roots place old root new lt e n j = λ edges held ranks all sound.
+    All-set (IsSound edges held ranks) roots place new
+    (j edges held ranks (subst (λ (x : Root). IsSound edges held ranks x) (sym e) (all place old lt)) (sound n)) all
+
+-- all but the last of some roots
+pub all_front : (P : Root → Type 0) (xs : List Root) (x : Root) → All P (xs ++ x ∷ []) → All P xs
+all_front P xs x all = λ k d lt. subst P (get_or-append xs (x ∷ []) d k lt) (all k d (omega (arith, length-append xs (x ∷ []), lt)))
+
+-- the last of some roots
+pub all_last : (P : Root → Type 0) (xs : List Root) (x : Root) → All P (xs ++ x ∷ []) → P x
+all_last P xs x all = subst P (get_or-append_seam xs x [] x) (all (length xs) x (omega (arith, length-append xs (x ∷ []))))

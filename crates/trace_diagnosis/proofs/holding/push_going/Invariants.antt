@@ -1,0 +1,7 @@
+use Rattle.std.proofs.Common.{◌≡◌, ◌++◌, filter, map, take}
+use Rattle.trace_diagnosis.specs.Holding.{going}
+use Rattle.trace_diagnosis.specs.Parts.{of_rank}
+use Rattle.trace_diagnosis.proofs.holding.push_going.Given as goal
+
+abbrev pub invariant-loop-rank : goal.invariant-loop-rank
+invariant-loop-rank l = l.needs.items ≡ l.fn.needs.items ++ map of_rank (filter (going l.others) (take l.rank-index l.ranks))

@@ -1,0 +1,6 @@
+use Rattle.std.proofs.Common.{◌≡◌, take}
+use Rattle.trace_diagnosis.specs.Rounds.{missing}
+use Rattle.trace_diagnosis.proofs.rounds.missing_of.Given as goal
+
+abbrev pub invariant-loop-rank : goal.invariant-loop-rank
+invariant-loop-rank l = l.found.items ≡ missing l.entries l.round (take l.rank-index l.members)

@@ -1,0 +1,16 @@
+pub mod Holding
+pub mod Needs
+pub mod Parts
+pub mod Graph
+pub mod Roots
+pub mod LeftOver
+pub mod Standing
+pub mod Called
+pub mod Polls
+pub mod Tails
+pub mod Conditions
+pub mod Askers
+pub mod Rounds
+pub mod Near
+pub mod Missed
+pub mod Waiting

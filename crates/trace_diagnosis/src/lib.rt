@@ -1,0 +1,50 @@
+//! The diagnosis of a run: what holds it up, proved or not, and what is known beside it.
+//!
+//! The stuck ranks of an answer are exact and may be few: MPI leaves ways out of a mismatched collective call, and of a rank
+//! that computes, has died or polls. The diagnosis names what holds up ranks all the same. It is a value, which others print.
+//!
+//! - [`diagnosis`]: the value; [`whole`]: the way there
+//! - [`times`]: when it was; [`standing`]: where each rank stands; [`calls`]: the calls of a rank, as its events tell them
+//! - [`polls`]: which ranks poll, and for what; [`conditions`]: what each rank waits or polls for
+//! - [`holding`]: whether conditions hold, and what those need that don't; [`graph`]: who needs whom; [`roots`]: what holds
+//!   up ranks and is held up by nobody else
+//! - [`rounds`]: mismatched rounds and open ones
+//! - [`loose`]: messages and receives in no pair; [`patterns`]: how receives name messages; [`starved`]: receives that
+//!   starve; [`before`]: what came through; [`unmatched`]: all of these together
+//! - [`near`]: what would be a pair but for one thing, by [`shelf`]s and the [`firsts`] of a pattern; [`taken`]: what
+//!   earlier receives took; [`idle`]: persistent requests that aren't active, by their [`inits`]
+//! - [`doubts`]: what may make it wrong; [`operations`]: what it names
+#![tactic(auto)]
+
+mod before;
+mod calls;
+mod conditions;
+mod diagnosis;
+mod doubts;
+mod firsts;
+mod graph;
+mod holding;
+mod idle;
+mod inits;
+mod loose;
+mod near;
+mod operations;
+mod patterns;
+mod polls;
+mod roots;
+mod rounds;
+mod shelf;
+mod standing;
+mod starved;
+mod taken;
+mod times;
+mod unmatched;
+mod whole;
+
+pub use diagnosis::{
+    Beyond, CallGroup, Diagnosis, Doubts, Foreign, Held, Init, LastCall, LeftOver, MismatchedRound,
+    NearMessage, NearReceive, Need, OpenRound, Operation, Polled, Polling, Root, RootKind, Rounds,
+    Stand, Standing, Starving, Times, Unmatched, Waiting, Why,
+};
+pub use trace_stuck::RoundName;
+pub use whole::diagnose;

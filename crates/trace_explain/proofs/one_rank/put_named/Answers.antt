@@ -1,5 +1,0 @@
-use Rattle.trace_explain.proofs.Adding.{then}
-use Rattle.trace_explain.proofs.one_rank.put_named.Goals as goal
-
-pub returns : goal.returns
-returns c = then (then (then c.put.ensures c.put_op_number.ensures) c.put-2.ensures) c.put_number.ensures

@@ -1,6 +1,0 @@
-pub mod Adding
-pub mod Lists
-pub mod Drawn
-pub mod Shapes
-pub mod Waited
-pub mod Alike

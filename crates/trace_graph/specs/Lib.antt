@@ -1,4 +1,0 @@
-pub mod Edges
-pub mod Standing
-pub mod Nodes
-pub mod Graph
