@@ -1,5 +1,5 @@
 -- How the program ends: its status, what it wrote, and what it showed.
-use Rattle.std.specs.Prelude.{◌≡◌, ◌≢◌, ◌⊎◌, ◌∷◌, ◌++◌, ℕ, Bool, false, List, [], Option, Some, Result, Ok, Err, IfErr, codes, length, string_bytes}
+use Rattle.std.specs.Prelude.{◌≡◌, ◌≢◌, ◌⊎◌, ◌∷◌, ◌++◌, ℕ, Bool, false, true, List, [], Option, Some, Result, Ok, Err, IfErr, codes, length, string_bytes}
 use Rattle.std.specs.Io.KnownBytes.{Keeps}
 use Rattle.clap.specs.Words.{Text, subcommand_of}
 use Rattle.mpi_model.specs.Failures.{HasFailed}
@@ -12,6 +12,7 @@ use Rattle.run_files.specs.Manifests.{ManifestParts}
 use Rattle.run_files.specs.Stores.{Files}
 use Rattle.text_layouts.specs.declared.made.Made.{Made}
 use Rattle.command_runs.specs.Advice.{IsShownIn, is_in_words}
+use Rattle.command_runs.specs.Cuts.{may_be_cut}
 use Rattle.command_runs.specs.FaultLines.{fault_line_of}
 use Rattle.command_runs.specs.FileNames.{shown_name}
 use Rattle.command_runs.specs.Files.{IsLength, NamesFailed}
@@ -58,13 +59,19 @@ abbrev pub EndsUnmade : {W : Type 0} → (List ℕ → Option (List ℕ)) → Ve
 EndsUnmade file verb texts old new e = (fault : InitFault) × (NamesPiped file texts fault ⊎ RefusesWords file texts fault)
     × (new ≡ old) × (e.status ≡ 1) × IsInitShown file verb fault (string_bytes e.errors)
 
+-- The texts are refused as those of which one was cut. A verb then runs over as much of them as means something, of which nothing
+-- is said here.
+abbrev pub AreCut : (List ℕ → Option (List ℕ)) → List Text → Type 0
+AreCut file texts = (fault : InitFault) × RefusesWords file texts fault × (may_be_cut fault ≡ true)
+
 -- A verb over the texts of all ranks ends so: they are refused; or it ran over the input that is made of them; or that has no such
--- rank as the verb asks for.
+-- rank as the verb asks for; or one of them was cut.
 abbrev pub EndsTexts : {W : Type 0} → Type 0 → (List ℕ → Option (List ℕ)) → Verb → List Text → (W → Option (List ℕ)) → (W → ℕ) → W → W → Ending → Type 0
-EndsTexts fails file verb texts written failures old new e = EndsUnmade file verb texts old new e
+EndsTexts fails file verb texts written failures old new e = (EndsUnmade file verb texts old new e
     ⊎ ((made : Made) × IsMadeOf file Wait texts made
     × (EndsRun fails file verb made.input.layout made.input.manifest written failures old new e
-    ⊎ (LacksRank (asked_rank verb) made.input.layout × EndsShowing (is_in_words verb) file Outside old new e)))
+    ⊎ (LacksRank (asked_rank verb) made.input.layout × EndsShowing (is_in_words verb) file Outside old new e))))
+    ⊎ AreCut file texts
 
 -- The first of these files that isn't empty begins as the text of a trace.
 abbrev pub BeginsWithText : (List ℕ → Option (List ℕ)) → List Text → Type 0

@@ -31,3 +31,4 @@ pub mod Traces
 pub mod Verbs
 pub mod Whole
 pub mod Writing
+pub mod Cuts

@@ -21,6 +21,7 @@ use crate::load::first_look::begins_as_text;
 use crate::load::input::{has_rank, input_at};
 use crate::load::opener::Opener;
 use crate::load::prepared::prepare;
+use crate::load::uncut::{Uncut, may_be_cut};
 use crate::load::watch::Watcher;
 use crate::run::{Outcome, Run, run_with};
 use crate::verbs::cluster::cluster;
@@ -148,7 +149,12 @@ fn over_texts<R: Eprint, O: Opener, V: Watcher, W: Write>(
     }
     let prepared = match prepare(alloc, Sends::Wait, texts, files) {
         Ok(prepared) => prepared,
-        Err(fault) => return showing_init(alloc, verb, &fault, files),
+        Err(fault) => {
+            if may_be_cut(&fault) {
+                return over_cut(rt, alloc, verb, texts, files, watcher, out);
+            }
+            return showing_init(alloc, verb, &fault, files);
+        }
     };
     show(rt, &prepared.notes);
     let input = &prepared.made.input;
@@ -157,6 +163,30 @@ fn over_texts<R: Eprint, O: Opener, V: Watcher, W: Write>(
     }
     let ran = run_with(verb, &Run::new(alloc, input, files), watcher, out);
     ending_after(alloc, is_in_words(verb), ran, files)
+}
+
+/// Runs a verb over texts of which some were cut, of those over as much as means something.
+fn over_cut<R: Eprint, O: Opener, V: Watcher, W: Write>(
+    rt: &R,
+    alloc: Global,
+    verb: Verb,
+    texts: &[&str],
+    files: &O,
+    watcher: &mut V,
+    out: &mut W,
+) -> Result<Ending, AllocError> {
+    let uncut = Uncut::of(alloc, texts, files)?;
+    let prepared = match prepare(alloc, Sends::Wait, texts, &uncut) {
+        Ok(prepared) => prepared,
+        Err(fault) => return showing_init(alloc, verb, &fault, files),
+    };
+    show(rt, &prepared.notes);
+    let input = &prepared.made.input;
+    if let Err(fault) = has_rank(verb.asked_rank(), &input.layout) {
+        return showing(alloc, is_in_words(verb), &fault, files);
+    }
+    let ran = run_with(verb, &Run::new(alloc, input, &uncut), watcher, out);
+    ending_after(alloc, is_in_words(verb), ran, &uncut)
 }
 
 /// Runs a cluster of a layout and a manifest, by the names of their files.

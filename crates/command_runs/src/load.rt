@@ -1,6 +1,7 @@
 //! Where the input of a run comes from: files, and texts of all ranks.
 
 pub(crate) mod first_look;
+pub(crate) mod front_lines;
 pub(crate) mod input;
 pub(crate) mod opener;
 pub(crate) mod prepared;
@@ -8,6 +9,7 @@ pub(crate) mod reason;
 pub(crate) mod second_look;
 pub(crate) mod terminal;
 pub(crate) mod texts;
+pub(crate) mod uncut;
 pub(crate) mod watch;
 pub(crate) mod watched;
 pub(crate) mod whole;

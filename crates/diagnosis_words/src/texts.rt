@@ -99,6 +99,15 @@ impl TextFacts {
         Ok(())
     }
 
+    /// Adds that a text was cut, by its place among the notes and its last line.
+    pub fn add_cut(&mut self, note: usize, line: u64) -> Result<(), AllocError> {
+        if let Some(noted) = self.notes.as_slice().get(note) {
+            let rank = noted.rank();
+            self.cut.push(CutText { rank, note, line })?;
+        }
+        Ok(())
+    }
+
     /// Puts what was added in order.
     pub fn finish(&mut self) -> Result<(), AllocError> {
         self.sites

@@ -44,6 +44,11 @@ pub trait Opener: Drop {
     fn reason(&self, _path: &str) -> Option<Reason> {
         None
     }
+
+    /// The number of the last line of a text that was cut, and of which less is read.
+    fn cut_at(&self, _path: &str) -> Option<u64> {
+        None
+    }
 }
 
 /// The files of the system.

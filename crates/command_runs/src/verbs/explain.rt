@@ -109,7 +109,8 @@ fn diagnosed<N: Answerer, O: Opener>(
         unreachable!()
     };
     let know = node.knowledge();
-    let diagnosis = diagnose(alloc, layout, answer, know, &[])?;
+    let cut = cut_ranks(alloc, layout, &notes, files)?;
+    let diagnosis = diagnose(alloc, layout, answer, know, &cut)?;
     let texts = facts_of(alloc, &diagnosis, notes, files)?;
     match printing {
         Printing::Words(extent) => in_words(alloc, layout, &diagnosis, &texts, answer, extent),
@@ -119,6 +120,27 @@ fn diagnosed<N: Answerer, O: Opener>(
             diagnosis_picture(alloc, layout, &diagnosis, &texts, extent == Extent::Whole)
         }
     }
+}
+
+/// Of each rank whether a text of it was cut.
+fn cut_ranks<O: Opener>(
+    alloc: Global,
+    layout: &Layout,
+    notes: &[TextNote],
+    files: &O,
+) -> Result<Vec<bool>, AllocError> {
+    let mut cut = Vec::new(alloc);
+    for _ in 0..layout.ranks() {
+        cut.push(false)?;
+    }
+    for note in notes {
+        if files.cut_at(note.path()).is_some() {
+            if let Some(flag) = cut.as_mut_slice().get_mut(note.rank() as usize) {
+                *flag = true;
+            }
+        }
+    }
+    Ok(cut)
 }
 
 /// In words, and below them what is noted of the texts.

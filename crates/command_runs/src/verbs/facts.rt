@@ -70,8 +70,12 @@ pub(crate) fn facts_of<O: Opener>(
         };
         let wanted = wanted_in(alloc, named.as_slice(), note)?;
         let limit = limit_of(diagnosis, note);
+        let cut = files.cut_at(note.path());
         if let Some(look) = looked(alloc, note, &wanted, limit, files) {
             facts.add(alloc, at, look)?;
+        }
+        if let Some(line) = cut {
+            facts.add_cut(at, line)?;
         }
     }
     facts.finish()?;
