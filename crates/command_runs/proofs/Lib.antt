@@ -2,9 +2,12 @@ pub mod AllTold
 pub mod AnyOrder
 pub mod ByPlace
 pub mod ByRank
+pub mod Cuts
 pub mod Ended
 pub mod Endings
+pub mod Fronts
 pub mod GivenFacts
+pub mod Left
 pub mod Looks
 pub mod Nodes
 pub mod Notes

@@ -1,5 +1,5 @@
 -- How the program ends: its status, what it wrote, and what it showed.
-use Rattle.std.specs.Prelude.{◌≡◌, ◌≢◌, ◌⊎◌, ◌∷◌, ◌++◌, ℕ, Bool, false, true, List, [], Option, Some, Result, Ok, Err, IfErr, codes, length, string_bytes}
+use Rattle.std.specs.Prelude.{◌≡◌, ◌≢◌, ◌⊎◌, ◌∷◌, ◌++◌, ℕ, Bool, false, List, [], Option, Some, Result, Ok, Err, IfErr, codes, length, string_bytes}
 use Rattle.std.specs.Io.KnownBytes.{Keeps}
 use Rattle.clap.specs.Words.{Text, subcommand_of}
 use Rattle.mpi_model.specs.Failures.{HasFailed}
@@ -12,7 +12,7 @@ use Rattle.run_files.specs.Manifests.{ManifestParts}
 use Rattle.run_files.specs.Stores.{Files}
 use Rattle.text_layouts.specs.declared.made.Made.{Made}
 use Rattle.command_runs.specs.Advice.{IsShownIn, is_in_words}
-use Rattle.command_runs.specs.Cuts.{may_be_cut}
+use Rattle.command_runs.specs.Cuts.{AreRead, MayAny, MaySay}
 use Rattle.command_runs.specs.FaultLines.{fault_line_of}
 use Rattle.command_runs.specs.FileNames.{shown_name}
 use Rattle.command_runs.specs.Files.{IsLength, NamesFailed}
@@ -20,7 +20,7 @@ use Rattle.command_runs.specs.InitAdvice.{IsInitShown}
 use Rattle.command_runs.specs.Inits.{EndsInit, NamesPiped}
 use Rattle.command_runs.specs.Inputs.{LacksRank, RefusesLoading, TellInput}
 use Rattle.command_runs.specs.Looks.{BeginsAsText}
-use Rattle.command_runs.specs.Prepared.{IsMadeOf, RefusesWords}
+use Rattle.command_runs.specs.Prepared.{IsMadeOf, RefusesLeft}
 use Rattle.command_runs.specs.Verbs.{Ran, RanCluster}
 use Rattle.command_runs.specs.declared.ending.Ending.{Ending}
 use Rattle.command_runs.specs.declared.faults.fault.RunFault.{RunFault}
@@ -48,30 +48,26 @@ EndsShowing in_words file fault old new e = (new ≡ old) × (e.status ≡ 1) ×
 
 -- ---- by what the words ask for
 
--- A verb over the files of a layout and a manifest ends so: it ran over what they tell, or they are refused.
+-- A verb over the files of a layout and a manifest ends so: it ran over what they tell, and read of each text that was cut by the
+-- manifest what is left of it; or they are refused.
 abbrev pub EndsPair : {W : Type 0} → Type 0 → (List ℕ → Option (List ℕ)) → Verb → Text → Text → (W → Option (List ℕ)) → (W → ℕ) → W → W → Ending → Type 0
 EndsPair fails file verb layout manifest written failures old new e =
-    ((l : Parts) × (m : ManifestParts) × TellInput file layout manifest l m × EndsRun fails file verb l m written failures old new e)
+    ((l : Parts) × (m : ManifestParts) × TellInput file layout manifest l m
+    × ((read : List ℕ → Option (List ℕ)) × AreRead (MaySay m.pieces) file read × EndsRun fails read verb l m written failures old new e))
     ⊎ ((fault : RunFault) × RefusesLoading fails file (asked_rank verb) layout manifest fault × EndsShowing (is_in_words verb) file fault old new e)
 
 -- The texts are refused, or one is no file that can be read twice; nothing is written, and this is shown.
 abbrev pub EndsUnmade : {W : Type 0} → (List ℕ → Option (List ℕ)) → Verb → List Text → W → W → Ending → Type 0
-EndsUnmade file verb texts old new e = (fault : InitFault) × (NamesPiped file texts fault ⊎ RefusesWords file texts fault)
+EndsUnmade file verb texts old new e = (fault : InitFault) × (NamesPiped file texts fault ⊎ RefusesLeft file texts fault)
     × (new ≡ old) × (e.status ≡ 1) × IsInitShown file verb fault (string_bytes e.errors)
 
--- The texts are refused as those of which one was cut. A verb then runs over as much of them as means something, of which nothing
--- is said here.
-abbrev pub AreCut : (List ℕ → Option (List ℕ)) → List Text → Type 0
-AreCut file texts = (fault : InitFault) × RefusesWords file texts fault × (may_be_cut fault ≡ true)
-
--- A verb over the texts of all ranks ends so: they are refused; or it ran over the input that is made of them; or that has no such
--- rank as the verb asks for; or one of them was cut.
+-- A verb over the texts of all ranks ends so: they are refused; or it ran over the input that is made of them, and read of each that
+-- was cut what is left of it; or that has no such rank as the verb asks for.
 abbrev pub EndsTexts : {W : Type 0} → Type 0 → (List ℕ → Option (List ℕ)) → Verb → List Text → (W → Option (List ℕ)) → (W → ℕ) → W → W → Ending → Type 0
-EndsTexts fails file verb texts written failures old new e = (EndsUnmade file verb texts old new e
-    ⊎ ((made : Made) × IsMadeOf file Wait texts made
-    × (EndsRun fails file verb made.input.layout made.input.manifest written failures old new e
+EndsTexts fails file verb texts written failures old new e = EndsUnmade file verb texts old new e
+    ⊎ ((read : List ℕ → Option (List ℕ)) × AreRead MayAny file read × ((made : Made) × IsMadeOf read Wait texts made
+    × (EndsRun fails read verb made.input.layout made.input.manifest written failures old new e
     ⊎ (LacksRank (asked_rank verb) made.input.layout × EndsShowing (is_in_words verb) file Outside old new e))))
-    ⊎ AreCut file texts
 
 -- The first of these files that isn't empty begins as the text of a trace.
 abbrev pub BeginsWithText : (List ℕ → Option (List ℕ)) → List Text → Type 0
@@ -95,11 +91,17 @@ EndsFiles fails file verb names written failures old new e = (BeginsWithText fil
     ⊎ (((layout manifest : Text) × (names ≡ layout ∷ manifest ∷ []) × EndsPair fails file verb layout manifest written failures old new e)
     ⊎ ((length names ≢ 2) × (new ≡ old) × (e.status ≡ 2) × (string_bytes e.errors ≡ strange_line names)))
 
--- A cluster of the files of a layout and a manifest ends so: it ran over what they tell, or they are refused.
+-- A cluster of this layout and this manifest ran, over readers that fail so, and the program ends so.
+abbrev pub EndsClusterRun : {W : Type 0} → Type 0 → (List ℕ → Option (List ℕ)) → Parts → ManifestParts → (W → Option (List ℕ)) → (W → ℕ) → W → W → Ending → Type 0
+EndsClusterRun fails file l m written failures old new e = (ran : Result Outcome RunFault) × RanCluster fails file l m ran written failures old new
+    × IfErr ran (NamesFailed ⊥) × IsEndedBy false file ran e
+
+-- A cluster of the files of a layout and a manifest ends so: it ran over what they tell, and read of each text that was cut by the
+-- manifest what is left of it; or they are refused.
 abbrev pub EndsCluster : {W : Type 0} → Type 0 → (List ℕ → Option (List ℕ)) → Text → Text → (W → Option (List ℕ)) → (W → ℕ) → W → W → Ending → Type 0
 EndsCluster fails file layout manifest written failures old new e =
-    ((l : Parts) × (m : ManifestParts) × TellInput file layout manifest l m × (ran : Result Outcome RunFault)
-    × RanCluster fails file l m ran written failures old new × IfErr ran (NamesFailed ⊥) × IsEndedBy false file ran e)
+    ((l : Parts) × (m : ManifestParts) × TellInput file layout manifest l m
+    × ((read : List ℕ → Option (List ℕ)) × AreRead (MaySay m.pieces) file read × EndsClusterRun fails read l m written failures old new e))
     ⊎ ((fault : RunFault) × RefusesLoading fails file None layout manifest fault × EndsShowing false file fault old new e)
 
 -- What the program is run on, and what it leaves: the words, the files that it reads, and the store in which `init` keeps its two.

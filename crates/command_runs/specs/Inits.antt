@@ -8,6 +8,7 @@ use Rattle.run_files.specs.declared.store.PutFault.{PutFault}
 use Rattle.text_layouts.specs.Making.{IsFile, RefusesLayoutFile, RefusesManifestFile, made_layout}
 use Rattle.text_layouts.specs.declared.fault.MadeFault.{MadeFault}
 use Rattle.text_layouts.specs.declared.made.Made.{Made}
+use Rattle.command_runs.specs.Cuts.{AreFlags, AreRead, MayAny}
 use Rattle.command_runs.specs.InitFaults.{IsPutFault, init_fault_line_of}
 use Rattle.command_runs.specs.Prepared.{IsMadeOf, RefusesWords, notes_of}
 use Rattle.command_runs.specs.Writing.{BreaksOff}
@@ -22,15 +23,15 @@ NamesPiped file words _ = ⊥
 
 -- ---- both files
 
--- These are the bytes of both files of what was made, of texts with these names by rank.
-pub record AreFilesOf (made : Made) (names : List (List ℕ)) (layout manifest : List ℕ) : Type 0 where
+-- These are the bytes of both files of what was made, of texts with these names by rank, and of each whether it was cut.
+pub record AreFilesOf (made : Made) (cut : List Bool) (names : List (List ℕ)) (layout manifest : List ℕ) : Type 0 where
   pub layout_is : IsFile (made_layout made) layout
-  pub manifest_is : IsFile (manifest_value names) manifest
+  pub manifest_is : IsFile (manifest_value cut names) manifest
 
 -- One of the two files would be too long, or memory was wanting.
-abbrev pub RefusesFiles : Made → List (List ℕ) → InitFault → Type 0
-RefusesFiles made names fault = (fault ≡ faults.Memory) ⊎ ((cause : MadeFault) × (fault ≡ faults.Made cause)
-    × (RefusesLayoutFile (made_layout made) cause ⊎ RefusesManifestFile (manifest_value names) cause))
+abbrev pub RefusesFiles : Made → List Bool → List (List ℕ) → InitFault → Type 0
+RefusesFiles made cut names fault = (fault ≡ faults.Memory) ⊎ ((cause : MadeFault) × (fault ≡ faults.Made cause)
+    × (RefusesLayoutFile (made_layout made) cause ⊎ RefusesManifestFile (manifest_value cut names) cause))
 
 -- a file
 abbrev pub file_with : List ℕ → List ℕ → File
@@ -60,23 +61,36 @@ pub record IsUnkept (wish : Wish) (old new : Option Files) (failed : Type 0) (fa
 -- ---- `init`
 
 -- Both files of what was made are kept as they are wanted.
-pub record KeepsMade (wish : Wish) (made : Made) (names : List (List ℕ)) (old new : Option Files) : Type 0 where
+pub record KeepsMade (wish : Wish) (made : Made) (cut : List Bool) (names : List (List ℕ)) (old new : Option Files) : Type 0 where
   pub layout : List ℕ
   pub manifest : List ℕ
-  pub are : AreFilesOf made names layout manifest
+  pub are : AreFilesOf made cut names layout manifest
   pub kept : Goes (PutsBoth wish.force (file_with wish.layout layout) (file_with wish.manifest manifest)) old new
 
--- How `init` ran over the texts that these words name, in a store of these files: both files are kept and the notes of them
--- written; or nothing was made, or what was made isn't kept, and nothing written; or only a front of the notes is.
-abbrev pub RanInit : {W : Type 0} → (List ℕ → Option (List ℕ)) → List (List ℕ) → Wish → Option Files → Option Files → Type 0 → Result (Unit {0}) InitFault → (W → Option (List ℕ)) → (W → ℕ) → W → W → Type 0
-RanInit file words wish old new failed (Ok done) written failures before after = (made : Made) × (is : IsMadeOf file wish.sends words made)
-    × KeepsMade wish made is.names old new × Appends (written before) (written after) (notes_of made is)
-RanInit file words wish old new failed (Err fault) written failures before after =
-    (RefusesWords file words fault × Goes Same old new × Keeps (written before) (written after))
-    ⊎ (((made : Made) × (is : IsMadeOf file wish.sends words made) × ((RefusesFiles made is.names fault × Goes Same old new) ⊎ IsUnkept wish old new failed fault)
+-- What was made of the texts that these words name, where this is read of their files, and of each whether it was cut.
+pub record IsMade (file read : List ℕ → Option (List ℕ)) (words : List (List ℕ)) (wish : Wish) : Type 0 where
+  pub made : Made
+  pub is : IsMadeOf read wish.sends words made
+  pub cut : List Bool
+  pub flags : AreFlags file read is.names cut
+
+-- How `init` ran over the texts that these words name, where this is read of their files, in a store of these files: both files are
+-- kept and the notes of them written; or nothing was made, or what was made isn't kept, and nothing written; or only a front of the
+-- notes is.
+abbrev pub RanReading : {W : Type 0} → (file read : List ℕ → Option (List ℕ)) → List (List ℕ) → Wish → Option Files → Option Files → Type 0 → Result (Unit {0}) InitFault → (W → Option (List ℕ)) → (W → ℕ) → W → W → Type 0
+RanReading file read words wish old new failed (Ok done) written failures before after = (m : IsMade file read words wish)
+    × KeepsMade wish m.made m.cut m.is.names old new × Appends (written before) (written after) (notes_of m.made m.is)
+RanReading file read words wish old new failed (Err fault) written failures before after =
+    (RefusesWords read words fault × Goes Same old new × Keeps (written before) (written after))
+    ⊎ (((m : IsMade file read words wish) × ((RefusesFiles m.made m.cut m.is.names fault × Goes Same old new) ⊎ IsUnkept wish old new failed fault)
     × Keeps (written before) (written after))
-    ⊎ ((fault ≡ faults.Write) × ((made : Made) × (is : IsMadeOf file wish.sends words made) × KeepsMade wish made is.names old new
-    × BreaksOff (λ text. text ≡ notes_of made is) written failures before after)))
+    ⊎ ((fault ≡ faults.Write) × ((m : IsMade file read words wish) × KeepsMade wish m.made m.cut m.is.names old new
+    × BreaksOff (λ text. text ≡ notes_of m.made m.is) written failures before after)))
+
+-- How `init` ran over the texts that these words name: of each that was cut what is left is read.
+abbrev pub RanInit : {W : Type 0} → (List ℕ → Option (List ℕ)) → List (List ℕ) → Wish → Option Files → Option Files → Type 0 → Result (Unit {0}) InitFault → (W → Option (List ℕ)) → (W → ℕ) → W → W → Type 0
+RanInit file words wish old new failed ran written failures before after = (read : List ℕ → Option (List ℕ)) × AreRead MayAny file read
+    × RanReading file read words wish old new failed ran written failures before after
 
 -- the ending after such a run of `init`
 abbrev pub IsEndedInit : Result (Unit {0}) InitFault → Ending → Type 0

@@ -1,5 +1,6 @@
 pub mod Advice
 pub mod Clusters
+pub mod Cuts
 pub mod Endings
 pub mod Explains
 pub mod FaultLines
@@ -31,4 +32,3 @@ pub mod Traces
 pub mod Verbs
 pub mod Whole
 pub mod Writing
-pub mod Cuts

@@ -12,6 +12,7 @@ use Rattle.text_layouts.specs.Words.{notes_text}
 use Rattle.text_layouts.specs.declared.made.Made.{Made}
 use Rattle.text_layouts.specs.declared.order.Order.{Order}
 use Rattle.text_layouts.specs.declared.order.Order.TheVariants as orders
+use Rattle.command_runs.specs.Cuts.{AreRead, MayAny}
 use Rattle.command_runs.specs.TextCalls.{AllSay, RefusesOne}
 use Rattle.command_runs.specs.declared.faults.init_fault.InitFault.{InitFault}
 use Rattle.command_runs.specs.declared.faults.init_fault.InitFault.TheVariants.{Memory, TooMany, Twice, Made as NotMade}
@@ -66,6 +67,10 @@ RefusesMade file names _ = ⊥
 abbrev pub RefusesWords : (List ℕ → Option (List ℕ)) → List (List ℕ) → InitFault → Type 0
 RefusesWords file words fault = RefusesNames words fault
     ⊎ ((names : List (List ℕ)) × ((by_digits : Bool) × IsByRank words by_digits names) × (length words ≤ MOST_RANKS) × (RefusesOne file names fault ⊎ RefusesMade file names fault))
+
+-- ..of what is read of them, some of which may have been cut
+abbrev pub RefusesLeft : (List ℕ → Option (List ℕ)) → List (List ℕ) → InitFault → Type 0
+RefusesLeft file words fault = (read : List ℕ → Option (List ℕ)) × AreRead MayAny file read × RefusesWords read words fault
 
 -- ---- what is said of it
 

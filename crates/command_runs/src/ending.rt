@@ -3,32 +3,36 @@
 ghost use Rattle.std.specs.Prelude.{◌≡◌, ◌≢◌, ◌∷◌, [], Contains, IfOk, IfSome, IsTrue, None, Option, length, string_bytes};
 ghost use Rattle.mpi_model.specs.Failures.{HasFailed};
 ghost use Rattle.dumpi_text.specs.Failing.{Fails};
-ghost use Rattle.command_line.specs.Program.{texts_of, wish_of};
+ghost use Rattle.command_line.specs.Program.{asked_rank, texts_of, wish_of};
 ghost use Rattle.run_files.specs.Stores.{Files};
 ghost use Rattle.command_runs.specs.Advice.{IsShownIn};
-ghost use Rattle.command_runs.specs.Endings.{BeginsWithText, EndsCluster, EndsFiles, EndsFor, EndsPair, EndsTexts, IsEndedBy, IsEnding, first_name, strange_line};
+ghost use Rattle.command_runs.specs.Cuts.{read_by};
+ghost use Rattle.command_runs.specs.Endings.{BeginsWithText, EndsCluster, EndsClusterRun, EndsFiles, EndsFor, EndsPair, EndsRun, EndsTexts, IsEndedBy, IsEnding, first_name, strange_line};
 ghost use Rattle.command_runs.specs.FaultLines.{fault_line_of};
 ghost use Rattle.command_runs.specs.Files.{IsLength};
 ghost use Rattle.command_runs.specs.InitAdvice.{IsInitShown};
 ghost use Rattle.command_runs.specs.Inits.{EndsInit};
+ghost use Rattle.command_runs.specs.Inputs.{HasRank};
 
 use crate::faults::advice::{is_in_words, shown_fault};
 use crate::faults::fault::{RunFault, fault_line};
 use crate::faults::file_name::FileName;
 use crate::faults::init_advice::shown_init_fault;
 use crate::faults::init_fault::{InitFault, init_fault_line};
+use crate::load::cut::Cut;
 use crate::load::first_look::begins_as_text;
 use crate::load::input::{has_rank, input_at};
+use crate::load::left::cuts_of;
 use crate::load::opener::Opener;
 use crate::load::prepared::prepare;
-use crate::load::uncut::{Uncut, may_be_cut};
+use crate::load::uncut::Uncut;
 use crate::load::watch::Watcher;
 use crate::run::{Outcome, Run, run_with};
 use crate::verbs::cluster::cluster;
 use crate::verbs::init::init;
 use command_line::{Asked, CommandFault, Verb, Wanted, command_of};
 use mpi_model::{Sends, Write, write_all};
-use run_files::Store;
+use run_files::{RunInput, Store};
 use std::alloc::{AllocError, Global};
 use std::io::Eprint;
 use std::net::{Net, TcpListener, TcpStream};
@@ -103,11 +107,30 @@ fn over_pair<O: Opener, V: Watcher, W: Write>(
     let (layout, manifest) = names;
     match input_at(alloc, verb.asked_rank(), layout, manifest, files) {
         Ok(input) => {
-            let ran = run_with(verb, &Run::new(alloc, &input, files), watcher, out);
-            ending_after(alloc, is_in_words(verb), ran, files)
+            let cuts = cuts_of(alloc, input.manifest.pieces(), files)?;
+            over_input(alloc, verb, &input, files, &cuts, watcher, out)
         }
         Err(fault) => showing(alloc, is_in_words(verb), &fault, files),
     }
+}
+
+/// Runs a verb over an input that has the rank that the verb asks for, and reads its texts by these cuts.
+fn over_input<O: Opener, V: Watcher, W: Write>(
+    alloc: Global,
+    verb: Verb,
+    input: &RunInput,
+    files: &O,
+    cuts: &[Cut],
+    watcher: &mut V,
+    out: &mut W,
+) -> Result<Ending, AllocError>
+    requires rank { HasRank (asked_rank verb) input.now.layout }
+    ensures { IfOk result (EndsRun (Fails O.R.failures) (read_by cuts.now (O.file files.now)) verb input.now.layout input.now.manifest
+        W.written W.failures out.old out.new) }
+{
+    let left = Uncut::new(files, cuts);
+    let ran = run_with(verb, &Run::new(alloc, input, &left), watcher, out);
+    ending_after(alloc, is_in_words(verb), ran, &left)
 }
 
 /// Runs a verb over its files: texts, or a layout and a manifest.
@@ -149,35 +172,6 @@ fn over_texts<R: Eprint, O: Opener, V: Watcher, W: Write>(
     }
     let prepared = match prepare(alloc, Sends::Wait, texts, files) {
         Ok(prepared) => prepared,
-        Err(fault) => {
-            if may_be_cut(&fault) {
-                return over_cut(rt, alloc, verb, texts, files, watcher, out);
-            }
-            return showing_init(alloc, verb, &fault, files);
-        }
-    };
-    show(rt, &prepared.notes);
-    let input = &prepared.made.input;
-    if let Err(fault) = has_rank(verb.asked_rank(), &input.layout) {
-        return showing(alloc, is_in_words(verb), &fault, files);
-    }
-    let ran = run_with(verb, &Run::new(alloc, input, files), watcher, out);
-    ending_after(alloc, is_in_words(verb), ran, files)
-}
-
-/// Runs a verb over texts of which some were cut, of those over as much as means something.
-fn over_cut<R: Eprint, O: Opener, V: Watcher, W: Write>(
-    rt: &R,
-    alloc: Global,
-    verb: Verb,
-    texts: &[&str],
-    files: &O,
-    watcher: &mut V,
-    out: &mut W,
-) -> Result<Ending, AllocError> {
-    let uncut = Uncut::of(alloc, texts, files)?;
-    let prepared = match prepare(alloc, Sends::Wait, texts, &uncut) {
-        Ok(prepared) => prepared,
         Err(fault) => return showing_init(alloc, verb, &fault, files),
     };
     show(rt, &prepared.notes);
@@ -185,8 +179,7 @@ fn over_cut<R: Eprint, O: Opener, V: Watcher, W: Write>(
     if let Err(fault) = has_rank(verb.asked_rank(), &input.layout) {
         return showing(alloc, is_in_words(verb), &fault, files);
     }
-    let ran = run_with(verb, &Run::new(alloc, input, &uncut), watcher, out);
-    ending_after(alloc, is_in_words(verb), ran, &uncut)
+    over_input(alloc, verb, input, files, &prepared.cuts, watcher, out)
 }
 
 /// Runs a cluster of a layout and a manifest, by the names of their files.
@@ -200,11 +193,32 @@ fn over_cluster<
     let (layout, manifest) = names;
     match input_at(alloc, None, layout, manifest, files) {
         Ok(input) => {
-            let ran = cluster(rt, &Run::new(alloc, &input, files), out);
-            ending_after(alloc, false, ran, files)
+            let cuts = cuts_of(alloc, input.manifest.pieces(), files)?;
+            over_cluster_input(rt, alloc, &input, files, &cuts, out)
         }
         Err(fault) => showing(alloc, false, &fault, files),
     }
+}
+
+/// Runs a cluster of an input, and reads its texts by these cuts.
+fn over_cluster_input<
+    R: Net<Listener = TcpListener, Stream = TcpStream> + Threads + Wait + Sync,
+    O: Opener,
+    W: Write,
+>(
+    rt: &R,
+    alloc: Global,
+    input: &RunInput,
+    files: &O,
+    cuts: &[Cut],
+    out: &mut W,
+) -> Result<Ending, AllocError>
+    ensures { IfOk result (EndsClusterRun (Fails O.R.failures) (read_by cuts.now (O.file files.now)) input.now.layout input.now.manifest
+        W.written W.failures out.old out.new) }
+{
+    let left = Uncut::new(files, cuts);
+    let ran = cluster(rt, &Run::new(alloc, input, &left), out);
+    ending_after(alloc, false, ran, &left)
 }
 
 /// Writes the layout and the manifest that are made of texts, both or none, and then what was found.

@@ -1,8 +1,11 @@
 //! Where the input of a run comes from: files, and texts of all ranks.
 
+pub(crate) mod cut;
+pub(crate) mod first_bytes;
 pub(crate) mod first_look;
-pub(crate) mod front_lines;
+pub(crate) mod front;
 pub(crate) mod input;
+pub(crate) mod left;
 pub(crate) mod opener;
 pub(crate) mod prepared;
 pub(crate) mod reason;

@@ -1,6 +1,6 @@
 -- The JSON values of a layout and of a manifest.
-use Rattle.std.specs.Prelude.{◌≡◌, ℕ, ◌+◌, ◌==◌, ◌&&◌, Bool, List, [], ◌∷◌, ◌++◌, Option, Some, None, Result, OnOk, codes, decimal, is_some, not, if◌then◌else◌}
-use Rattle.json.specs.Json.{Json, null, number, string, array, object, Items, no_items, item, Members, no_members, member}
+use Rattle.std.specs.Prelude.{◌≡◌, ℕ, ◌+◌, ◌==◌, ◌&&◌, Bool, true, false, List, [], ◌∷◌, ◌++◌, Option, Some, None, Result, OnOk, codes, decimal, is_some, not, slice_index_or, if◌then◌else◌}
+use Rattle.json.specs.Json.{Json, null, boolean, number, string, array, object, Items, no_items, item, Members, no_members, member}
 use Rattle.json.specs.Print.{print}
 use Rattle.json.specs.Token.{Token}
 use Rattle.json.specs.Token as tokens
@@ -76,18 +76,32 @@ abbrev pub layout_value : Parts → Json
 layout_value l = object (member (codes "ranks") (number_of l.ranks) (member (codes "world") (number_of l.world)
     (member (codes "sends") (string (sends_word l.sends)) (member (codes "comms") (array (items_of communicator_value l.comms)) no_members))))
 
--- the whole text of a rank: `{"rank":R,"first":0,"file":".."}`
-abbrev pub piece_value : ℕ → List ℕ → Json
-piece_value rank file = object (member (codes "rank") (number_of rank) (member (codes "first") (number_of 0) (member (codes "file") (string file) no_members)))
+-- whether the text of a rank was cut, by what is said of each rank; behind the last it wasn't
+abbrev pub is_cut_at : List Bool → ℕ → Bool
+is_cut_at cut rank = slice_index_or cut rank false
+
+-- the field that says that a text was cut, where it was
+abbrev pub cut_field : Bool → Members
+cut_field true = member (codes "cut") (boolean true) no_members
+cut_field false = no_members
+
+-- the tokens of that field
+abbrev pub cut_tokens : Bool → List Token
+cut_tokens true = tokens.key (codes "cut") ∷ tokens.boolean true ∷ []
+cut_tokens false = []
+
+-- the whole text of a rank: `{"rank":R,"first":0,"file":".."}`, with `"cut":true` behind it where it was cut
+abbrev pub piece_value : Bool → ℕ → List ℕ → Json
+piece_value cut rank file = object (member (codes "rank") (number_of rank) (member (codes "first") (number_of 0) (member (codes "file") (string file) (cut_field cut))))
 
 -- the files of this rank and of those behind it
-abbrev pub pieces_from : ℕ → List (List ℕ) → Items
-pieces_from rank [] = no_items
-pieces_from rank (file ∷ files) = item (piece_value rank file) (pieces_from (rank + 1) files)
+abbrev pub pieces_from : List Bool → ℕ → List (List ℕ) → Items
+pieces_from cut rank [] = no_items
+pieces_from cut rank (file ∷ files) = item (piece_value (is_cut_at cut rank) rank file) (pieces_from cut (rank + 1) files)
 
--- `{"pieces":[..]}`
-abbrev pub manifest_value : List (List ℕ) → Json
-manifest_value files = object (member (codes "pieces") (array (pieces_from 0 files)) no_members)
+-- `{"pieces":[..]}`, of the texts of all ranks, and of each whether it was cut
+abbrev pub manifest_value : List Bool → List (List ℕ) → Json
+manifest_value cut files = object (member (codes "pieces") (array (pieces_from cut 0 files)) no_members)
 
 -- a value without spaces, and a line feed
 abbrev pub line_of : Json → List ℕ

@@ -28,12 +28,17 @@ pub fn layout_file_of(alloc: Global, made: &Made) -> Result<Vec<u8>, MadeFault>
     Ok(file)
 }
 
-/// The bytes of the manifest's file, where it isn't too long: the whole texts of the ranks 0, 1 and so on.
-pub fn manifest_file_of(alloc: Global, files: &[String]) -> Result<Vec<u8>, MadeFault>
-    ensures ok { IfOk result (λ file. IsFile (manifest_value (map string_bytes files.now)) file.items) }
-    ensures fault { IfErr result (λ e. RefusesManifestFile (manifest_value (map string_bytes files.now)) e) }
+/// The bytes of the manifest's file, where it isn't too long: the whole texts of the ranks 0, 1 and so on, and of each rank
+/// whether its text was cut.
+pub fn manifest_file_of(
+    alloc: Global,
+    files: &[String],
+    cut: &[bool],
+) -> Result<Vec<u8>, MadeFault>
+    ensures ok { IfOk result (λ file. IsFile (manifest_value cut.now (map string_bytes files.now)) file.items) }
+    ensures fault { IfErr result (λ e. RefusesManifestFile (manifest_value cut.now (map string_bytes files.now)) e) }
 {
-    let file = manifest_bytes(alloc, files)?;
+    let file = manifest_bytes(alloc, files, cut)?;
     if file.len() > LONGEST_FILE {
         return Err(MadeFault::ManifestFile);
     }

@@ -4,9 +4,11 @@ ghost use Rattle.std.specs.Prelude.{◌≡◌, ◌<◌, ◌≤◌, IfErr, IfOk, 
 ghost use Rattle.std.specs.List.{All};
 ghost use Rattle.mpi_model.specs.declared.layout.TheConstants.{MOST_RANKS};
 ghost use Rattle.command_line.specs.Program.{texts_of};
-ghost use Rattle.command_runs.specs.Prepared.{AreAt, IsByRank, IsPrepared, RefusesNames, RefusesWords, made_notes};
+ghost use Rattle.command_runs.specs.Cuts.{AreCuts, MayAny, read_by};
+ghost use Rattle.command_runs.specs.Prepared.{AreAt, IsByRank, IsPrepared, RefusesLeft, RefusesNames, made_notes};
 
 use crate::faults::init_fault::InitFault;
+use crate::load::cut::Cut;
 use crate::load::opener::Opener;
 use crate::load::texts::calls_of_all;
 use call_words::Text;
@@ -22,6 +24,8 @@ pub(crate) struct Prepared {
     pub(crate) texts: Vec<String>,
     /// What was found in the texts, and what is left out, for a person.
     pub(crate) notes: Vec<u8>,
+    /// The cuts of those texts that were cut.
+    pub(crate) cuts: Vec<Cut>,
 }
 
 /// Copies of the words, as names that faults may keep.
@@ -80,15 +84,16 @@ fn notes_of(alloc: Global, by_digits: bool, calls: u64, made: &Made) -> Result<V
 }
 
 /// The input of the run of these texts, rank 0 first, or by the digits at the ends of their names where those are 0 to n - 1.
-/// Each text is read once.
+/// Each text is read once, but for those that were cut.
 pub(crate) fn prepare<O: Opener>(
     alloc: Global,
     sends: Sends,
     words: &[&str],
     files: &O,
 ) -> Result<Prepared, InitFault>
-    ensures made { IfOk result (λ p. IsPrepared (O.file files.now) sends (texts_of words.now) (map string_bytes p.texts.items) p.made p.notes.items) }
-    ensures err { IfErr result (RefusesWords (O.file files.now) (texts_of words.now)) }
+    ensures made { IfOk result (λ p. IsPrepared (read_by p.cuts.items (O.file files.now)) sends (texts_of words.now) (map string_bytes p.texts.items) p.made p.notes.items) }
+    ensures cuts { IfOk result (λ p. AreCuts MayAny (O.file files.now) p.cuts.items) }
+    ensures err { IfErr result (RefusesLeft (O.file files.now) (texts_of words.now)) }
 {
     let (texts, by_digits) = by_rank(alloc, words)?;
     let all = calls_of_all(alloc, &texts, files)?;
@@ -97,5 +102,10 @@ pub(crate) fn prepare<O: Opener>(
         Err(fault) => return Err(InitFault::Made(fault)),
     };
     let notes = notes_of(alloc, by_digits, all.calls, &made)?;
-    Ok(Prepared { made, texts, notes })
+    Ok(Prepared {
+        made,
+        texts,
+        notes,
+        cuts: all.cuts,
+    })
 }

@@ -8,6 +8,7 @@ ghost use Rattle.command_runs.specs.Inits.{AreFilesOf, PutsBoth, RanInit, Refuse
 ghost use Rattle.command_runs.specs.declared.faults.init_fault.InitFault.TheVariants.{Memory};
 
 use crate::faults::init_fault::{InitFault, put_fault};
+use crate::load::left::flags_of;
 use crate::load::opener::Opener;
 use crate::load::prepared::{Prepared, prepare};
 use command_line::Wanted;
@@ -23,17 +24,17 @@ struct BothFiles {
     manifest: Vec<u8>,
 }
 
-/// The bytes of both files of what was made of texts, where neither is too long.
+/// The bytes of both files of what was made of texts, and of each whether it was cut, where neither is too long.
 #[tactic(auto, using(crate::proofs::Ended::layout_too_long, crate::proofs::Ended::manifest_too_long))]
-fn files_of(alloc: Global, prepared: &Prepared) -> Result<BothFiles, InitFault>
-    ensures ok { IfOk result (λ both. AreFilesOf prepared.now.made (map string_bytes prepared.now.texts.items) both.layout.items both.manifest.items) }
-    ensures err { IfErr result (RefusesFiles prepared.now.made (map string_bytes prepared.now.texts.items)) }
+fn files_of(alloc: Global, prepared: &Prepared, cut: &[bool]) -> Result<BothFiles, InitFault>
+    ensures ok { IfOk result (λ both. AreFilesOf prepared.now.made cut.now (map string_bytes prepared.now.texts.items) both.layout.items both.manifest.items) }
+    ensures err { IfErr result (RefusesFiles prepared.now.made cut.now (map string_bytes prepared.now.texts.items)) }
 {
     let layout = match layout_file_of(alloc, &prepared.made) {
         Ok(layout) => layout,
         Err(fault) => return Err(InitFault::Made(fault)),
     };
-    let manifest = match manifest_file_of(alloc, &prepared.texts) {
+    let manifest = match manifest_file_of(alloc, &prepared.texts, cut) {
         Ok(manifest) => manifest,
         Err(fault) => return Err(InitFault::Made(fault)),
     };
@@ -92,7 +93,8 @@ pub(crate) fn init<O: Opener, S: Store, W: Write>(
         (HasFailed (S.failures store.old) (S.failures store.new)) result W.written W.failures out.old out.new }
 {
     let prepared = prepare(alloc, wanted.sends, texts, files)?;
-    let both = files_of(alloc, &prepared)?;
+    let cut = flags_of(alloc, &prepared.texts, &prepared.cuts)?;
+    let both = files_of(alloc, &prepared, &cut)?;
     // (what a fault names, before anything is kept)
     let (layout, manifest) = names_of(alloc, wanted)?;
     if let Err(fault) = keep(alloc, &both, wanted, store) {

@@ -7,5 +7,5 @@ use Rattle.run_files.proofs.write.manifest.put_pieces.Given as goal
 abbrev pub invariant-loop-rank : goal.invariant-loop-rank
 invariant-loop-rank l = record {
   before : l.out.before ≡ l.fn.out.before;
-  put : l.out.tokens ≡ l.fn.out.tokens ++ begin_array ∷ pieces_tokens 0 (take l.rank (map string_bytes l.files));
+  put : l.out.tokens ≡ l.fn.out.tokens ++ begin_array ∷ pieces_tokens l.cut 0 (take l.rank (map string_bytes l.files));
 }
