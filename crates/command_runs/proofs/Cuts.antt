@@ -1,5 +1,5 @@
 -- Where a text was cut, and the files of a run of which some were.
-use Rattle.std.proofs.Common.{◌≡◌, ◌≢◌, ◌∙◌, ◌⊎◌, ◌+◌, ◌-◌, ◌++◌, ◌∷◌, [], arith, ℕ, Bool, true, false, List, Option, Some, None, Result, Ok, Err, IfSome, IsSome, ap, drop, inl, inr, length, length-take, min, option_map, refl, string_bytes, subst, sym, take, if◌then◌else◌}
+use Rattle.std.proofs.Common.{◌≡◌, ◌≢◌, ◌∙◌, ◌⊎◌, ◌+◌, ◌-◌, ◌++◌, ◌∷◌, [], arith, ℕ, Bool, true, false, List, Option, Some, None, Result, Ok, Err, IfSome, ap, drop, inl, inr, length, length-take, min, option_map, refl, string_bytes, subst, sym, take, if◌then◌else◌}
 use Rattle.std.specs.Str.{bytes_eq}
 use Rattle.std.specs.declared.alloc.Global.{Global}
 use Rattle.std.proofs.lemmas.Slice.Eq.{bytes_eq-Decides}
@@ -15,7 +15,7 @@ use Rattle.dumpi_text.specs.declared.fault.TextFault.{TextFault}
 use Rattle.dumpi_text.specs.declared.fault.TextFault.TheVariants as texts
 use Rattle.dumpi_calls.specs.RawWalks.{HandedRaw, IsStoppedRaw, IsWalkedRaw, Taken}
 use Rattle.dumpi_calls.specs.Rows.{Row, row_of, typed}
-use Rattle.dumpi_calls.specs.Seen.{Seen, seen_in, with_seen}
+use Rattle.dumpi_calls.specs.Seen.{Seen, seen_by, seen_in, with_seen}
 use Rattle.dumpi_calls.specs.Walks.{StopsWalk}
 use Rattle.dumpi_calls.specs.declared.collect.Memory.{Memory as NoMemory}
 use Rattle.dumpi_calls.specs.declared.fault.WalkCause.{WalkCause}
@@ -24,7 +24,7 @@ use Rattle.dumpi_calls.specs.declared.fault.WalkFault.{WalkFault}
 use Rattle.dumpi_calls.specs.declared.parameter.CallFault.{CallFault}
 use Rattle.dumpi_calls.specs.declared.typing.TypedCall.{TypedCall}
 use Rattle.dumpi_calls.specs.declared.walking.Walked.{Walked}
-use Rattle.command_runs.specs.Cuts.{AreLeft, IsCount, IsCountOf, IsCutAfter, IsCutSo, IsLeftOf, IsRefusedAt, LacksFrom, StopsAt, cut_named, end_of, feeds_in, first_bytes, first_lines, lost_at, lost_by, most_named, read_by}
+use Rattle.command_runs.specs.Cuts.{AreLeft, CanRead, IsCount, IsCountOf, IsCutAfter, IsCutSo, IsLeftOf, IsRefusedAt, LacksFrom, StopsAt, cut_named, end_of, feeds_in, first_bytes, first_lines, lost_at, lost_by, most_named, read_by}
 use Rattle.command_runs.specs.Files.{IsLength, NamesFailed, StandsAtFirst}
 use Rattle.command_runs.specs.declared.faults.fault.RunFault.{RunFault}
 use Rattle.command_runs.specs.declared.load.cut.Cut.{Cut}
@@ -44,14 +44,16 @@ pub ends_at : (raws : List TextCall) (old new : LastLine) → Taken ending raws 
 ends_at [] old new taken = ap (λ (l : LastLine). l.line) taken
 ends_at (raw ∷ raws) old new taken = ends_at raws taken.1 new taken.4 ∙ ap (λ (n : ℕ). end_of n raws) taken.3
 
-seen_more : (row : Row) (r : Result TypedCall CallFault) (call : TypedCall) (others : Option (List Seen)) → r ≡ Ok call → IsSome others → IsSome (with_seen row r others)
-seen_more row (Ok one) call (Some rest) e is = tt
-seen_more row (Ok one) call None e is = absurd is
-seen_more row (Err fault) call others e is = absurd (cc (e))
+seen_more : (row : Row) (r : Result TypedCall CallFault) (call : TypedCall) (others : Option (List Seen)) (rest : List Seen) → r ≡ Ok call → others ≡ Some rest
+    → with_seen row r others ≡ Some (seen_by row call ∷ rest)
+seen_more row r call others rest e is =
+    ap (λ (x : Result TypedCall CallFault). with_seen row x others) e ∙ ap (λ (o : Option (List Seen)). option_map (λ more. seen_by row call ∷ more) o) is
 
-pub all_seen : (raws : List TextCall) (old new : LastLine) → Taken ending raws old new → IsSome (seen_in raws)
-all_seen [] old new taken = tt
-all_seen (raw ∷ raws) old new taken = seen_more (row_of raw) (typed raw) taken.0 (seen_in raws) taken.2 (all_seen raws taken.1 new taken.4)
+pub all_seen : (raws : List TextCall) (old new : LastLine) → Taken ending raws old new → CanRead raws
+all_seen [] old new taken = ([], refl)
+all_seen (raw ∷ raws) old new taken =
+    let rest = all_seen raws taken.1 new taken.4 in
+    (seen_by (row_of raw) taken.0 ∷ rest.0, seen_more (row_of raw) (typed raw) taken.0 (seen_in raws) rest.0 taken.2 rest.1)
 
 -- ---- a walk that stops
 
@@ -105,8 +107,8 @@ pub refused_at : (text : List ℕ) (calls : List TextCall) (cause : WalkCause No
     → StopsWalk {F = NoMemory} (Some text) calls cause at → IsRefusedAt (Some text) lost
 refused_at text calls (walks.Text texts.Memory) at lost is stops = absurd is
 refused_at text calls (walks.Text texts.Ended) at lost is stops = absurd is
-refused_at text calls (walks.Text (texts.At line cause)) at lost (inl is) stops = inl (is.0, calls, at, stops_as (Some text) calls cause line lost.line at faults.Truncated is.1 is.2 stops)
-refused_at text calls (walks.Text (texts.At line cause)) at lost (inr is) stops = inr (is.0, calls, at, stops_as (Some text) calls cause line lost.line at faults.BadStamp is.1 is.2 stops)
+refused_at text calls (walks.Text (texts.At line cause)) at lost (inl is) stops = inl (is.0, (calls, at, stops_as (Some text) calls cause line lost.line at faults.Truncated is.1 is.2 stops))
+refused_at text calls (walks.Text (texts.At line cause)) at lost (inr is) stops = inr (is.0, (calls, at, stops_as (Some text) calls cause line lost.line at faults.BadStamp is.1 is.2 stops))
 refused_at text calls (walks.Missing parameter) at lost is stops = absurd is
 refused_at text calls (walks.Wrong parameter) at lost is stops = absurd is
 refused_at text calls (walks.Sink fault) at lost is stops = absurd is
@@ -121,14 +123,14 @@ stopped_at (Some text) left calls cause at lost stands stops e =
 
 lacking : (text : Option (List ℕ)) (calls : List TextCall) (cause : WalkCause NoMemory) (at : ℕ) (lost : Lost) → IsCauseOf cause lost → lost.is_stamp ≡ false
     → StopsWalk {F = NoMemory} text calls cause at → StopsWalk {F = NoMemory} text calls (cut_cause lost.line faults.Truncated) at
-lacking text calls (walks.Text texts.Memory) at lost is no stops = absurd is
-lacking text calls (walks.Text texts.Ended) at lost is no stops = absurd is
-lacking text calls (walks.Text (texts.At line cause)) at lost (inl is) no stops = stops_as text calls cause line lost.line at faults.Truncated is.1 is.2 stops
-lacking text calls (walks.Text (texts.At line cause)) at lost (inr is) no stops = let yes = is.0 in absurd (cc (yes, no))
-lacking text calls (walks.Missing parameter) at lost is no stops = absurd is
-lacking text calls (walks.Wrong parameter) at lost is no stops = absurd is
-lacking text calls (walks.Sink fault) at lost is no stops = absurd is
-lacking text calls walks.Memory at lost is no stops = absurd is
+lacking text calls (walks.Text texts.Memory) at lost is plain stops = absurd is
+lacking text calls (walks.Text texts.Ended) at lost is plain stops = absurd is
+lacking text calls (walks.Text (texts.At line cause)) at lost (inl is) plain stops = stops_as text calls cause line lost.line at faults.Truncated is.1 is.2 stops
+lacking text calls (walks.Text (texts.At line cause)) at lost (inr is) plain stops = let stamp = is.0 in absurd (cc (stamp, plain))
+lacking text calls (walks.Missing parameter) at lost is plain stops = absurd is
+lacking text calls (walks.Wrong parameter) at lost is plain stops = absurd is
+lacking text calls (walks.Sink fault) at lost is plain stops = absurd is
+lacking text calls walks.Memory at lost is plain stops = absurd is
 
 -- ---- how many lines are left
 
@@ -138,11 +140,11 @@ left_whole (Some before) lines old new walked w = inl ((w.calls, w.at, w.means, 
 
 pub left_lacking : (left : Option (List ℕ)) (lines : ℕ) (old new : LastLine) (fault : WalkFault NoMemory) (lost : Lost) → IsStoppedRaw ending left old new fault
     → lost_at fault.cause ≡ Some lost → lost.is_stamp ≡ false → old.line ≡ 0 → IsLeftOf left lines new.line
-left_lacking None lines old new fault lost s e no zero = tt
-left_lacking (Some before) lines old new fault lost s e no zero =
+left_lacking None lines old new fault lost s e plain from = tt
+left_lacking (Some before) lines old new fault lost s e plain from =
     inr (s.calls, lost.line, fault.line, all_seen s.calls old new s.handed.taken,
-        lacking (Some before) s.calls fault.cause fault.line lost (of_cause fault.cause lost e) no s.stops,
-        ends_at s.calls old new s.handed.taken ∙ ap (λ (n : ℕ). end_of n s.calls) zero)
+        lacking (Some before) s.calls fault.cause fault.line lost (of_cause fault.cause lost e) plain s.stops,
+        ends_at s.calls old new s.handed.taken ∙ ap (λ (n : ℕ). end_of n s.calls) from)
 
 pub left_told : (file left : Option (List ℕ)) (most lines kept : ℕ) → StandsAtFirst file left → IsLeftOf (first_bytes (Some most) left) lines kept → IsLeftOf (first_bytes (Some most) file) lines kept
 left_told None left most lines kept stands is = tt

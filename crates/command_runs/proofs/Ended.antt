@@ -1,5 +1,5 @@
 -- How `init` ends, and what is no file.
-use Rattle.std.proofs.Common.{◌≡◌, inl, inr, ℕ, List, Option, Some, None, Result, Ok, Err, IsErrAnd, refl, subst, sym}
+use Rattle.std.proofs.Common.{◌≡◌, inl, inr, ℕ, Bool, List, Option, Some, None, Result, Ok, Err, IsErrAnd, refl, subst, sym}
 use Rattle.std.specs.Io.KnownBytes.{Keeps}
 use Rattle.command_line.specs.Program.{Wish}
 use Rattle.run_files.specs.Stores.{Files, Goes, Same}
@@ -7,10 +7,11 @@ use Rattle.run_files.specs.Values.{manifest_value}
 use Rattle.text_layouts.specs.Making.{RefusesLayoutFile, RefusesManifestFile, made_layout}
 use Rattle.text_layouts.specs.declared.fault.MadeFault.{MadeFault}
 use Rattle.text_layouts.specs.declared.made.Made.{Made}
-use Rattle.command_runs.specs.Inits.{RanInit, RefusesFiles}
+use Rattle.command_runs.specs.Cuts.{AreRead, MayAny}
+use Rattle.command_runs.specs.Inits.{IsMade, RanInit, RefusesFiles}
 use Rattle.command_runs.specs.declared.faults.init_fault.InitFault.{InitFault}
 use Rattle.command_runs.specs.declared.faults.init_fault.InitFault.TheVariants as faults
-use Rattle.command_runs.specs.Prepared.{IsMadeOf, RefusesWords}
+use Rattle.command_runs.specs.Prepared.{RefusesLeft, RefusesWords}
 
 pub keeps_same : (bytes : Option (List ℕ)) → Keeps bytes bytes
 keeps_same None = tt
@@ -22,22 +23,22 @@ goes_same (Some old) = (old, refl, λ name. refl)
 
 -- nothing was made, or memory was wanting, before anything was kept
 pub init_refused : {W : Type 0} (file : List ℕ → Option (List ℕ)) (words : List (List ℕ)) (wish : Wish) (store : Option Files) (failed : Type 0) (r : Result (Unit {0}) InitFault) (fault : InitFault)
-    (written : W → Option (List ℕ)) (failures : W → ℕ) (out : W) → IsErrAnd r (λ e. e ≡ fault) → RefusesWords file words fault
+    (written : W → Option (List ℕ)) (failures : W → ℕ) (out : W) → IsErrAnd r (λ e. e ≡ fault) → RefusesLeft file words fault
     → RanInit file words wish store store failed r written failures out out
 init_refused file words wish store failed (Ok done) fault written failures out is h = absurd is
 init_refused file words wish store failed (Err e) fault written failures out is h =
-    inl (subst (RefusesWords file words) (sym is) h, goes_same store, keeps_same (written out))
+    (h.0, h.1, inl (subst (RefusesWords h.0 words) (sym is) h.2, goes_same store, keeps_same (written out)))
 
 -- a file of what was made would be too long
-pub made_refused : {W : Type 0} (file : List ℕ → Option (List ℕ)) (words : List (List ℕ)) (wish : Wish) (store : Option Files) (failed : Type 0) (r : Result (Unit {0}) InitFault) (fault : InitFault)
-    (written : W → Option (List ℕ)) (failures : W → ℕ) (out : W) (made : Made) (is : IsMadeOf file wish.sends words made) → IsErrAnd r (λ e. e ≡ fault) → RefusesFiles made is.names fault
+pub made_refused : {W : Type 0} (file read : List ℕ → Option (List ℕ)) (words : List (List ℕ)) (wish : Wish) (store : Option Files) (failed : Type 0) (r : Result (Unit {0}) InitFault) (fault : InitFault)
+    (written : W → Option (List ℕ)) (failures : W → ℕ) (out : W) (m : IsMade file read words wish) → AreRead MayAny file read → IsErrAnd r (λ e. e ≡ fault) → RefusesFiles m.made m.cut m.is.names fault
     → RanInit file words wish store store failed r written failures out out
-made_refused file words wish store failed (Ok done) fault written failures out made is err h = absurd err
-made_refused file words wish store failed (Err e) fault written failures out made is err h =
-    inr (inl (made, is, inl (subst (RefusesFiles made is.names) (sym err) h, goes_same store), keeps_same (written out)))
+made_refused file read words wish store failed (Ok done) fault written failures out m are err h = absurd err
+made_refused file read words wish store failed (Err e) fault written failures out m are err h =
+    (read, are, inr (inl (m, inl (subst (RefusesFiles m.made m.cut m.is.names) (sym err) h, goes_same store), keeps_same (written out))))
 
-pub layout_too_long : (made : Made) (names : List (List ℕ)) (cause : MadeFault) → RefusesLayoutFile (made_layout made) cause → RefusesFiles made names (faults.Made cause)
-layout_too_long made names cause h = inr (cause, refl, inl h)
+pub layout_too_long : (made : Made) (cut : List Bool) (names : List (List ℕ)) (cause : MadeFault) → RefusesLayoutFile (made_layout made) cause → RefusesFiles made cut names (faults.Made cause)
+layout_too_long made cut names cause h = inr (cause, refl, inl h)
 
-pub manifest_too_long : (made : Made) (names : List (List ℕ)) (cause : MadeFault) → RefusesManifestFile (manifest_value names) cause → RefusesFiles made names (faults.Made cause)
-manifest_too_long made names cause h = inr (cause, refl, inr h)
+pub manifest_too_long : (made : Made) (cut : List Bool) (names : List (List ℕ)) (cause : MadeFault) → RefusesManifestFile (manifest_value cut names) cause → RefusesFiles made cut names (faults.Made cause)
+manifest_too_long made cut names cause h = inr (cause, refl, inr h)

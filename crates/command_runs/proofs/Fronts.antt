@@ -1,5 +1,5 @@
 -- The first lines of a text, and its first bytes.
-use Rattle.std.proofs.Common.{◌≡◌, ◌≢◌, ◌∙◌, ◌⊎◌, ◌+◌, ◌-◌, ◌<◌, ◌≤◌, ◌++◌, ◌∷◌, ◌==◌, [], arith, ℕ, zero, suc, Bool, true, false, List, Option, Some, None, Result, Ok, Err, MatchResult, ap, inl, inr, length, min, option_map, refl, subst, sym, take, if◌then◌else◌}
+use Rattle.std.proofs.Common.{◌≡◌, ◌≢◌, ◌∙◌, ◌⊎◌, ◌+◌, ◌-◌, ◌<◌, ◌≤◌, ◌++◌, ◌∷◌, ◌==◌, [], arith, ℕ, zero, suc, Bool, true, false, List, Option, Some, None, Result, Ok, Err, MatchResult, ap, append-nil, inl, inr, length, min, option_map, refl, subst, sym, take, if◌then◌else◌}
 use Rattle.std.specs.Prelude.{nat_lt}
 use Rattle.std.proofs.lemmas.Bool.Decides.{nat_tests}
 use Rattle.std.specs.Io.KnownBytes.{Consumes, IsAtEnd, Keeps, ReadConsumes}
@@ -45,23 +45,23 @@ feeds_more : (xs : List ℕ) (b : ℕ) → feeds_in (xs ++ b ∷ []) ≡ (if b =
 feeds_more [] b = refl
 feeds_more (x ∷ xs) b = step_feeds (x == line_feed) (b == line_feed) (feeds_in xs) (feeds_in (xs ++ b ∷ [])) (feeds_more xs b)
 
-bytes_by : (t : Bool) (n most : ℕ) (bytes more : ℕ) → (t ≡ true → more ≡ n + 1) → (t ≡ false → more ≡ n) → bytes ≡ (if t then n + 1 else n) → bytes ≡ more
-bytes_by true n most bytes more yes no e = e ∙ sym (yes refl)
-bytes_by false n most bytes more yes no e = e ∙ sym (no refl)
+bytes_by : (t : Bool) (n : ℕ) (bytes more : ℕ) → (t ≡ true → more ≡ n + 1) → (t ≡ false → more ≡ n) → bytes ≡ (if t then n + 1 else n) → bytes ≡ more
+bytes_by true n bytes more below past e = e ∙ sym (below refl)
+bytes_by false n bytes more below past e = e ∙ sym (past refl)
 
 pub count_more : (xs : List ℕ) (lines : ℕ) (front : Front) (byte bytes feeds : ℕ) → IsCount xs lines front
     → bytes ≡ (if nat_lt front.feeds lines then front.bytes + 1 else front.bytes) → feeds ≡ (if byte == line_feed then front.feeds + 1 else front.feeds)
     → IsCount (xs ++ byte ∷ []) lines (record { bytes = bytes; feeds = feeds })
 count_more xs lines front byte bytes feeds is by_bytes by_feeds =
     let more = length (first_lines lines (xs ++ byte ∷ [])) in
-    let yes : nat_lt front.feeds lines ≡ true → more ≡ front.bytes + 1 =
+    let below : nat_lt front.feeds lines ≡ true → more ≡ front.bytes + 1 =
     λ t. let lt : front.feeds < lines = grind (arith, nat_tests, t) in
     let e = first_more lines xs byte (subst (λ (n : ℕ). n < lines) is.feeds lt) in omega (arith, e, is.bytes) in
-    let no : nat_lt front.feeds lines ≡ false → more ≡ front.bytes =
+    let past : nat_lt front.feeds lines ≡ false → more ≡ front.bytes =
     λ t. let ge : lines ≤ front.feeds = grind (arith, nat_tests, t) in
     ap (λ (l : List ℕ). length l) (first_full lines xs byte (subst (λ (n : ℕ). lines ≤ n) is.feeds ge)) ∙ sym is.bytes in
     record {
-      bytes = bytes_by (nat_lt front.feeds lines) front.bytes 0 bytes more yes no by_bytes;
+      bytes = bytes_by (nat_lt front.feeds lines) front.bytes bytes more below past by_bytes;
       feeds = by_feeds ∙ ap (λ (n : ℕ). if byte == line_feed then n + 1 else n) is.feeds ∙ sym (feeds_more xs byte);
     }
 
@@ -79,7 +79,7 @@ pub count_whole : (old new : Option (List ℕ)) (taken : List ℕ) (lines : ℕ)
 count_whole None new taken lines front consumes end is = tt
 count_whole (Some xs) None taken lines front consumes end is = absurd consumes
 count_whole (Some xs) (Some ys) taken lines front consumes end is =
-    let all : taken ≡ xs = grind (arith, consumes, end) in
+    let all : taken ≡ xs = sym (consumes ∙ ap (λ (l : List ℕ). taken ++ l) end ∙ append-nil taken) in
     subst (λ (t : List ℕ). IsCount t lines front) all is
 
 -- that of a file, by a reader at its first byte
@@ -90,7 +90,7 @@ count_told (Some text) left lines front stands is = subst (λ (t : Option (List 
 -- ---- a reader of the first bytes
 
 take_part : (most : ℕ) (front rest : List ℕ) → length front ≤ most → take most (front ++ rest) ≡ front ++ take (most - length front) rest
-take_part most [] rest h = refl
+take_part most [] rest h = let e : most ≡ most - 0 = omega arith in ap (λ (n : ℕ). take n rest) e
 take_part zero (x ∷ front) rest h = absurd (omega (arith, h))
 take_part (suc most) (x ∷ front) rest h =
     let e : suc most - suc (length front) ≡ most - length front = omega arith in

@@ -1,5 +1,5 @@
 -- The texts of a run of which some were cut.
-use Rattle.std.proofs.Common.{◌≡◌, ◌≢◌, ◌∙◌, ◌⊎◌, ◌+◌, ◌++◌, ◌∷◌, [], arith, ℕ, Bool, true, false, List, Option, Some, None, String, IfSome, IsSome, ap, inl, inr, is_some, length, map, option_map, refl, string_bytes, subst, sym, take, if◌then◌else◌}
+use Rattle.std.proofs.Common.{◌≡◌, ◌≢◌, ◌∙◌, ◌⊎◌, ◌+◌, ◌++◌, ◌∷◌, [], arith, ℕ, Bool, true, false, List, Option, Some, None, Result, Ok, Err, String, IfSome, IsSome, ap, ap₂, inl, inr, is_some, length, map, option_map, refl, string_bytes, subst, sym, take, if◌then◌else◌}
 use Rattle.std.specs.Str.{bytes_eq}
 use Rattle.std.specs.declared.alloc.Global.{Global}
 use Rattle.std.proofs.lemmas.Slice.Eq.{bytes_eq-Decides}
@@ -10,8 +10,22 @@ use Rattle.dumpi_calls.specs.declared.fault.WalkCause.{WalkCause}
 use Rattle.dumpi_calls.specs.declared.fault.WalkCause.TheVariants as walks
 use Rattle.comm_makings.specs.declared.calls.RankCalls.{RankCalls}
 use Rattle.command_runs.specs.Cuts.{AddsCut, AreApart, AreCuts, AreFlags, AreLeft, AreRead, IsCutAfter, IsCutSo, IsFlag, IsFrontOf, IsNewCut, IsRefusedAt, LostEnd, MayAny, cut_named, feeds_in, first_bytes, first_lines, lost_in, most_named, read_by}
+use Rattle.command_line.specs.Program.{Wish}
+use Rattle.text_layouts.specs.declared.made.Made.{Made}
+use Rattle.mpi_model.specs.Layouts.{Parts}
+use Rattle.run_files.specs.Manifests.{ManifestParts, PieceParts}
+use Rattle.command_runs.specs.Clusters.{RefusesCluster}
+use Rattle.command_runs.specs.Files.{IsUnreadable}
+use Rattle.command_runs.specs.Inits.{IsMade}
+use Rattle.command_runs.specs.Inputs.{RefusesFile}
+use Rattle.command_runs.specs.NodeTexts.{RefusesBytes}
+use Rattle.command_runs.specs.Prepared.{IsMadeOf, RefusesLeft, RefusesNames, RefusesWords}
 use Rattle.command_runs.specs.TextCalls.{AllSay, RefusesText, Says}
+use Rattle.command_runs.specs.Verbs.{RanCluster}
+use Rattle.command_runs.specs.declared.faults.fault.RunFault.{RunFault}
 use Rattle.command_runs.specs.declared.faults.fault.RunFault.TheVariants as runs
+use Rattle.command_runs.specs.declared.load.whole.TheConstants.{LONGEST_PIECE}
+use Rattle.command_runs.specs.declared.run.Outcome.{Outcome}
 use Rattle.command_runs.specs.declared.faults.init_fault.InitFault.{InitFault}
 use Rattle.command_runs.specs.declared.faults.init_fault.InitFault.TheVariants as inits
 use Rattle.command_runs.specs.declared.load.cut.Cut.{Cut}
@@ -25,6 +39,10 @@ differ xs ys other = by_test (bytes_eq xs ys) refl
     by_test : (b : Bool) → bytes_eq xs ys ≡ b → b ≡ false
     by_test true e = absurd (other ((bytes_eq-Decides xs ys).0 e))
     by_test false e = refl
+
+-- the same files, by the same cuts
+pub same_files : {O : Type 0} (file : O → List ℕ → Option (List ℕ)) (cuts others : List Cut) (one other : O) → cuts ≡ others → one ≡ other → read_by cuts (file one) ≡ read_by others (file other)
+same_files file cuts others one other c o = ap₂ (λ cs f. read_by cs (file f)) c o
 
 -- ---- one cut more
 
@@ -173,3 +191,58 @@ cut_so (Some text) lost cut refused is = (
 pub cut_of_text : (name : List ℕ) (file : Option (List ℕ)) (fault : InitFault) (lost : Lost) (cut : Cut) → lost_in fault ≡ Some lost → RefusesText name file fault → IsCutAfter file lost cut → IsCutSo file cut
 cut_of_text name None fault lost cut e h is = tt
 cut_of_text name (Some text) fault lost cut e h is = cut_so (Some text) lost cut (refused_lost name text fault lost e h) is
+
+-- ---- what is read of files
+
+pub whole_read : (may : List ℕ → Type 0) (file : List ℕ → Option (List ℕ)) → AreRead may file file
+whole_read may file name = inl refl
+
+pub names_refused : (file : List ℕ → Option (List ℕ)) (words : List (List ℕ)) (fault : InitFault) → RefusesNames words fault → RefusesLeft file words fault
+names_refused file words fault h = (file, whole_read MayAny file, inl h)
+
+pub memory_wanted : (file : List ℕ → Option (List ℕ)) (words : List (List ℕ)) → RefusesLeft file words inits.Memory
+memory_wanted file words = (file, whole_read MayAny file, inl tt)
+
+pub left_refused : (file : List ℕ → Option (List ℕ)) (cuts : List Cut) (words : List (List ℕ)) (fault : InitFault) → AreCuts MayAny file cuts → RefusesWords (read_by cuts file) words fault
+    → RefusesLeft file words fault
+left_refused file cuts words fault are h = (read_by cuts file, are_read MayAny file cuts are, h)
+
+-- what was made, with what is said of each text
+pub made_left : (file : List ℕ → Option (List ℕ)) (cuts : List Cut) (words : List (List ℕ)) (wish : Wish) (made : Made) (is : IsMadeOf (read_by cuts file) wish.sends words made)
+    (texts : List (String Global)) (flags : List Bool) → AreCuts MayAny file cuts → is.names ≡ map string_bytes texts
+    → flags ≡ map (λ text. is_some (cut_named cuts (string_bytes text))) texts → AreFlags file (read_by cuts file) is.names flags
+made_left file cuts words wish made is texts flags are names said =
+    subst (λ (ns : List (List ℕ)). AreFlags file (read_by cuts file) ns flags) (sym names)
+    (subst (λ (fs : List Bool). AreFlags file (read_by cuts file) (map string_bytes texts) fs) (sym said) (are_flags file cuts texts are))
+
+pub made_from : (file : List ℕ → Option (List ℕ)) (cuts : List Cut) (words : List (List ℕ)) (wish : Wish) (made : Made) (is : IsMadeOf (read_by cuts file) wish.sends words made)
+    (texts : List (String Global)) (flags : List Bool) → AreCuts MayAny file cuts → is.names ≡ map string_bytes texts
+    → flags ≡ map (λ text. is_some (cut_named cuts (string_bytes text))) texts → IsMade file (read_by cuts file) words wish
+made_from file cuts words wish made is texts flags are names said = record { made = made; is = is; cut = flags; flags = made_left file cuts words wish made is texts flags are names said }
+
+-- ---- readers that fail where others do
+
+unreadable_inner : (P Q : Type 0) (most : ℕ) (file : Option (List ℕ)) → (P → Q) → IsUnreadable most P file → IsUnreadable most Q file
+unreadable_inner P Q most None h u = tt
+unreadable_inner P Q most (Some bytes) h (inl p) = inl (h p)
+unreadable_inner P Q most (Some bytes) h (inr long) = inr long
+
+file_inner : (P Q : Type 0) (most : ℕ) (name : List ℕ) (file : Option (List ℕ)) (fault : RunFault) → (P → Q) → RefusesFile most P name file fault → RefusesFile most Q name file fault
+file_inner P Q most name file fault h (inl e) = inl e
+file_inner P Q most name file fault h (inr r) = inr (r.0, r.1, r.2, unreadable_inner P Q most file h r.3)
+
+bytes_inner : (P Q : Type 0) (file : List ℕ → Option (List ℕ)) (pieces : List PieceParts) (fault : RunFault) → (P → Q) → RefusesBytes P file pieces fault → RefusesBytes Q file pieces fault
+bytes_inner P Q file pieces fault h (inl e) = inl e
+bytes_inner P Q file pieces fault h (inr r) = inr (r.0, r.1, r.2, r.3, file_inner P Q LONGEST_PIECE r.1.file (file r.1.file) fault h r.4)
+
+cluster_inner : (P Q : Type 0) (file : List ℕ → Option (List ℕ)) (ranks : ℕ) (m : ManifestParts) (fault : RunFault) → (P → Q) → RefusesCluster P file ranks m fault → RefusesCluster Q file ranks m fault
+cluster_inner P Q file ranks m fault h (inl e) = inl e
+cluster_inner P Q file ranks m fault h (inr (inl packed)) = inr (inl packed)
+cluster_inner P Q file ranks m fault h (inr (inr (known, inl bytes))) = inr (inr (known, inl (bytes_inner P Q file m.pieces fault h bytes)))
+cluster_inner P Q file ranks m fault h (inr (inr (known, inr crews))) = inr (inr (known, inr crews))
+
+pub ran_inner : {W : Type 0} (P Q : Type 0) (file : List ℕ → Option (List ℕ)) (l : Parts) (m : ManifestParts) (ran : Result Outcome RunFault) (written : W → Option (List ℕ)) (failures : W → ℕ) (old new : W)
+    → (P → Q) → RanCluster P file l m ran written failures old new → RanCluster Q file l m ran written failures old new
+ran_inner P Q file l m (Ok outcome) written failures old new h r = r
+ran_inner P Q file l m (Err fault) written failures old new h (inl broken) = inl broken
+ran_inner P Q file l m (Err fault) written failures old new h (inr r) = inr (cluster_inner P Q file l.ranks m fault h r.0, r.1)

@@ -1,5 +1,5 @@
 -- Texts that were cut: which are, and how much of them is read.
-use Rattle.std.specs.Prelude.{◌≡◌, ◌⊎◌, ◌+◌, ◌-◌, ◌==◌, ◌≢◌, ℕ, zero, suc, Bool, true, false, List, [], ◌∷◌, ◌++◌, Option, Some, None, IfSome, IsSome, String, length, option_map, string_bytes, take, if◌then◌else◌}
+use Rattle.std.specs.Prelude.{◌≡◌, ◌⊎◌, ◌+◌, ◌-◌, ◌==◌, ◌≢◌, ℕ, zero, suc, Bool, true, false, List, [], ◌∷◌, ◌++◌, Option, Some, None, IfSome, String, length, option_map, string_bytes, take, if◌then◌else◌}
 use Rattle.std.specs.Str.{bytes_eq}
 use Rattle.std.specs.declared.alloc.Global.{Global}
 use Rattle.std.specs.List.{Contains}
@@ -13,7 +13,7 @@ use Rattle.dumpi_text.specs.declared.fault.TextCause.{TextCause}
 use Rattle.dumpi_text.specs.declared.fault.TextCause.TheVariants as causes
 use Rattle.dumpi_text.specs.declared.fault.TextFault.TheVariants.{At}
 use Rattle.dumpi_text.specs.declared.step.Position.{Position}
-use Rattle.dumpi_calls.specs.Seen.{seen_in}
+use Rattle.dumpi_calls.specs.Seen.{Seen, seen_in}
 use Rattle.dumpi_calls.specs.Walks.{StopsWalk}
 use Rattle.dumpi_calls.specs.declared.collect.Memory.{Memory as NoMemory}
 use Rattle.dumpi_calls.specs.declared.fault.WalkCause.{WalkCause}
@@ -83,14 +83,18 @@ abbrev pub end_of : ℕ → List TextCall → ℕ
 end_of line [] = line
 end_of line (call ∷ calls) = end_of call.last_line calls
 
+-- None of these calls is refused.
+abbrev pub CanRead : List TextCall → Type 0
+CanRead calls = (seen : List Seen) × (seen_in calls ≡ Some seen)
+
 -- All calls of a text can be read.
 abbrev pub IsSound : List ℕ → Type 0
-IsSound text = (calls : List TextCall) × (at : Position) × MeansAll (Some text) calls (Complete at) × IsSome (seen_in calls)
+IsSound text = (calls : List TextCall) × (at : Position) × MeansAll (Some text) calls (Complete at) × CanRead calls
 
 -- The calls of a text can be read up to this line, and the next one lacks an entry parameter: F9 is that of a call, since no line is
 -- without its line feed.
 abbrev pub LacksFrom : List ℕ → ℕ → Type 0
-LacksFrom text line = (calls : List TextCall) × (last at : ℕ) × IsSome (seen_in calls)
+LacksFrom text line = (calls : List TextCall) × (last at : ℕ) × CanRead calls
     × StopsWalk {F = NoMemory} (Some text) calls (walks.Text (At last (causes.Line Truncated))) at × (line ≡ end_of 0 calls)
 
 -- Of a text that has so many lines before the one that lost its end, this many are left: all of them, or those up to the end of the

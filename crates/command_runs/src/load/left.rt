@@ -72,14 +72,14 @@ pub(crate) fn calls_left<O: Opener>(
     ensures err { IfErr result (RefusesText path.now (read_by cuts.new.items (O.file files.now) path.now)) }
     ensures cuts { AddsCut (O.file files.now path.now) path.now before.now cuts.old.items cuts.new.items }
 {
-    let fault = match calls_by(alloc, path, files, cuts) {
+    let fault = match calls_by(alloc, path, files, cuts.as_slice()) {
         Ok(read) => return Ok(read),
         Err(fault) => fault,
     };
-    match cut_by(alloc, &fault, path, before, files, cuts)? {
+    match cut_by(alloc, &fault, path, before, files, cuts.as_slice())? {
         Some(cut) => {
             cuts.push(cut)?;
-            calls_by(alloc, path, files, cuts)
+            calls_by(alloc, path, files, cuts.as_slice())
         }
         None => Err(fault),
     }

@@ -9,7 +9,6 @@ use crate::load::opener::{OpenFault, Opener};
 use crate::load::reason::Reason;
 
 /// The first cut of the text of a file.
-#[tactic(auto, using(crate::proofs::Cuts::named_next))]
 pub(crate) fn cut_named<'c>(cuts: &'c [Cut], path: &str) -> Option<&'c Cut>
     ensures { option_map (λ cut. cut.now) result ≡ cut_named cuts.now path.now }
 {
@@ -52,7 +51,7 @@ impl<'a, O: Opener> Opener for Uncut<'a, O> {
 
     ghost file = { λ u. read_by u.cuts.now (O.file u.files.now) };
 
-    #[tactic(auto, using(crate::proofs::Cuts::stands_at_first, crate::proofs::Cuts::absent_so))]
+    #[tactic(auto, using(crate::proofs::Cuts::stands_first, crate::proofs::Cuts::absent_first))]
     fn open(&self, path: &str) -> Result<FirstBytes<O::R>, OpenFault> {
         let most = most_named(self.cuts, path);
         match self.files.open(path) {
@@ -61,7 +60,7 @@ impl<'a, O: Opener> Opener for Uncut<'a, O> {
         }
     }
 
-    #[tactic(auto, using(crate::proofs::Cuts::length_so, crate::proofs::Cuts::absent_so))]
+    #[tactic(auto, using(crate::proofs::Cuts::length_first, crate::proofs::Cuts::absent_first))]
     fn length(&self, path: &str) -> Option<u64> {
         let length = self.files.length(path)?;
         match most_named(self.cuts, path) {

@@ -109,7 +109,7 @@ fn diagnosed<N: Answerer, O: Opener>(
         unreachable!()
     };
     let know = node.knowledge();
-    let cut = cut_ranks(alloc, layout, &notes, files)?;
+    let cut = cut_ranks(alloc, layout, know, &notes, files)?;
     let diagnosis = diagnose(alloc, layout, answer, know, &cut)?;
     let texts = facts_of(alloc, &diagnosis, notes, files)?;
     match printing {
@@ -122,10 +122,19 @@ fn diagnosed<N: Answerer, O: Opener>(
     }
 }
 
-/// Of each rank whether a text of it was cut.
+/// Behind how many events of its rank a text ends: an Enter for each call and a Return for each that has returned, and two for
+/// each call before its first.
+fn end_of(note: &TextNote) -> u64 {
+    let calls = note.first().saturating_add(note.calls());
+    let is_open = note.calls() > 0 && note.line_of(note.calls() - 1).is_some();
+    calls.saturating_mul(2).saturating_sub(is_open as u64)
+}
+
+/// Of each rank whether its readable prefix ends where a text of it was cut.
 fn cut_ranks<O: Opener>(
     alloc: Global,
     layout: &Layout,
+    know: &Knowledge,
     notes: &[TextNote],
     files: &O,
 ) -> Result<Vec<bool>, AllocError> {
@@ -134,8 +143,9 @@ fn cut_ranks<O: Opener>(
         cut.push(false)?;
     }
     for note in notes {
-        if files.cut_at(note.path()).is_some() {
-            if let Some(flag) = cut.as_mut_slice().get_mut(note.rank() as usize) {
+        let rank = note.rank();
+        if files.cut_at(note.path()).is_some() && know.prefix(rank) == end_of(note) {
+            if let Some(flag) = cut.as_mut_slice().get_mut(rank as usize) {
                 *flag = true;
             }
         }

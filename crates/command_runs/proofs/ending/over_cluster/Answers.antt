@@ -1,21 +1,29 @@
-use Rattle.std.proofs.Common.{ap, inl, inr, refl}
+use Rattle.std.proofs.Common.{◌≡◌, List, inl, inr, refl, subst}
 use Rattle.std.proofs.lemmas.Result.{IfOk-weaker}
-use Rattle.command_runs.proofs.Endings.{cluster_ran, if_both, shown_so}
+use Rattle.run_files.specs.Manifests.{PieceParts}
+use Rattle.command_runs.specs.Cuts.{AreCuts, MaySay, read_by}
+use Rattle.command_runs.specs.Endings.{EndsClusterRun}
+use Rattle.command_runs.specs.declared.load.cut.Cut.{Cut}
+use Rattle.command_runs.proofs.Endings.{if_both, shown_so}
+use Rattle.command_runs.proofs.Left.{are_read}
 use Rattle.command_runs.proofs.ending.over_cluster.Goals as goal
 
 pub returns-in-Ok : goal.returns-in-Ok
 returns-in-Ok g c =
     let file = g.O.Opener.file c.args.files.now in
-    IfOk-weaker c.ending_after.result _ _ (λ e ended. inl (
-      c.in-Ok.input.layout,
-      c.in-Ok.input.manifest,
+    let input = c.in-Ok.input in
+    let cuts = c.in_ok-cuts.cuts.items in
+    let are : AreCuts (MaySay input.manifest.pieces) file cuts = subst (λ (ps : List PieceParts). AreCuts (MaySay ps) file cuts) c.pieces.ensures c.in_ok-cuts.ensures in
+    IfOk-weaker c.over_cluster_input.result _ _ (λ e ran. inl (
+      input.layout,
+      input.manifest,
       c.in-Ok.ensures.ok,
-      c.cluster-ran.result,
-      cluster_ran _ file (g.O.Opener.file c.new.result.files.now) c.in-Ok.input.layout c.new.result.layout.now c.in-Ok.input.manifest c.new.result.manifest.now c.cluster-ran.result
-          g.W.Write.written g.W.Write.failures c.args.out.now c.cluster-ran.new.out (ap g.O.Opener.file c.new.ensures.files) c.new.ensures.layout c.new.ensures.manifest c.cluster-ran.ensures.ran,
-      c.cluster-ran.ensures.failed,
-      ended,
-    )) c.ending_after.ensures
+      (
+        read_by cuts file,
+        are_read (MaySay input.manifest.pieces) file cuts are,
+        subst (λ (cs : List Cut). EndsClusterRun _ (read_by cs file) input.layout input.manifest g.W.Write.written g.W.Write.failures c.args.out.now c.over_cluster_input.new.out e) c.deref.ensures.value ran,
+      ),
+    )) c.over_cluster_input.ensures
 
 pub returns : goal.returns
 returns g c =

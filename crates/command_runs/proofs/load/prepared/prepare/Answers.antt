@@ -4,8 +4,10 @@ use Rattle.comm_makings.specs.Derived.{IsSound}
 use Rattle.comm_makings.specs.World.{world_of}
 use Rattle.comm_makings.specs.declared.calls.RankCalls.{RankCalls}
 use Rattle.text_layouts.specs.Making.{RefusesMaking, whole_texts}
+use Rattle.command_runs.specs.Cuts.{read_by}
 use Rattle.command_runs.specs.Prepared.{made_notes}
 use Rattle.command_runs.specs.TextCalls.{AllSay}
+use Rattle.command_runs.proofs.Left.{left_refused}
 use Rattle.command_runs.proofs.load.prepared.prepare.Goals as goal
 
 pub returns-in-Err-clause-err : goal.returns-in-Err-clause-err
@@ -13,18 +15,19 @@ returns-in-Err-clause-err g c =
     let texts = c.in_ok-texts.texts.items in
     let ranks = c.in_ok-all.all.ranks.items in
     let told = c.in_ok-all.ensures.ok in
-    let say : AllSay (g.O.Opener.file c.args.files.now) (map string_bytes texts) ranks told.0 =
-    subst (λ (ts : List (String Global)). AllSay (g.O.Opener.file c.args.files.now) (map string_bytes ts) ranks told.0) c.deref.ensures.value told.1 in
+    let say : AllSay (read_by c.in_ok-all.all.cuts.items (g.O.Opener.file c.args.files.now)) (map string_bytes texts) ranks told.0 =
+    subst (λ (ts : List (String Global)). AllSay (read_by c.in_ok-all.all.cuts.items (g.O.Opener.file c.args.files.now)) (map string_bytes ts) ranks told.0) c.deref.ensures.value told.1 in
     let refuses : RefusesMaking ranks c.in-Err.fault = subst (λ (rs : List RankCalls). RefusesMaking rs c.in-Err.fault) c.deref-3.ensures.value c.in-Err.ensures.fault in
-    inr (map string_bytes texts, (c.in_ok-texts.by_digits, c.in_ok-texts.ensures.ok), c.in_ok-texts.ensures.words, inr (ranks, (told.0, say), refuses))
+    left_refused (g.O.Opener.file c.args.files.now) c.in_ok-all.all.cuts.items _ _ c.in_ok-all.ensures.cuts
+    (inr (map string_bytes texts, (c.in_ok-texts.by_digits, c.in_ok-texts.ensures.ok), c.in_ok-texts.ensures.words, inr (ranks, (told.0, say), refuses)))
 
 pub returns-clause-made : goal.returns-clause-made
 returns-clause-made g c =
     let texts = c.in_ok-texts.texts.items in
     let ranks = c.in_ok-all.all.ranks.items in
     let told = c.in_ok-all.ensures.ok in
-    let say : AllSay (g.O.Opener.file c.args.files.now) (map string_bytes texts) ranks told.0 =
-    subst (λ (ts : List (String Global)). AllSay (g.O.Opener.file c.args.files.now) (map string_bytes ts) ranks told.0) c.deref.ensures.value told.1 in
+    let say : AllSay (read_by c.in_ok-all.all.cuts.items (g.O.Opener.file c.args.files.now)) (map string_bytes texts) ranks told.0 =
+    subst (λ (ts : List (String Global)). AllSay (read_by c.in_ok-all.all.cuts.items (g.O.Opener.file c.args.files.now)) (map string_bytes ts) ranks told.0) c.deref.ensures.value told.1 in
     let made = c.in-Ok.made in
     let are : c.deref-3.result.now ≡ ranks = c.deref-3.ensures.value in
     let layout : Holds (length ranks) made.derived.world c.args.sends made.derived.comms.items made.input.layout =
