@@ -1,5 +1,5 @@
 -- Notes, one piece more.
-use Rattle.std.proofs.Common.{◌≡◌, ◌++◌, ◌∷◌, [], ℕ, List, Option, Some, None, ap, refl, subst}
+use Rattle.std.proofs.Common.{◌++◌, ◌∷◌, [], ℕ, List, Option, Some, None, ap, refl, subst}
 use Rattle.dumpi_calls.specs.declared.walking.Walked.{Walked}
 use Rattle.run_files.specs.Manifests.{PieceParts}
 use Rattle.text_notes.specs.Starts.{IsStartOf}

@@ -1,5 +1,5 @@
 -- A file that can't be opened, or read whole, as what it is refused for.
-use Rattle.std.proofs.Common.{◌≡◌, ◌≢◌, ◌<◌, ◌++◌, arith, inl, inr, ℕ, List, Option, Some, None, ap, length, refl, subst, sym}
+use Rattle.std.proofs.Common.{◌≢◌, ◌<◌, arith, inl, inr, ℕ, List, Option, Some, None, ap, length, refl, subst, sym}
 use Rattle.std.proofs.lemmas.List.{length-append}
 use Rattle.std.specs.Io.KnownBytes.{Consumes}
 use Rattle.dumpi_text.specs.Failing.{Fails}
@@ -44,10 +44,10 @@ longer most bytes (Some rest) taken consumes more = omega (arith, more, ap lengt
 
 whole_unread : {R : Type 0} (most : ℕ) (file : Option (List ℕ)) (left : R → Option (List ℕ)) (failures : R → ℕ) (old new : R) (cause : WholeFault)
     → StandsAtFirst file (left old) → IsRefusedFor most left failures old new cause → IsNoWant cause → IsUnreadable most (Fails failures) file
-whole_unread most None left failures old new cause stands refused no = tt
-whole_unread most (Some bytes) left failures old new wholes.Memory stands refused no = absurd no
-whole_unread most (Some bytes) left failures old new wholes.Failed stands refused no = inl (old, new, refused)
-whole_unread most (Some bytes) left failures old new wholes.TooLong stands refused no =
+whole_unread most None left failures old new cause stands refused other = tt
+whole_unread most (Some bytes) left failures old new wholes.Memory stands refused other = absurd other
+whole_unread most (Some bytes) left failures old new wholes.Failed stands refused other = inl (old, new, refused)
+whole_unread most (Some bytes) left failures old new wholes.TooLong stands refused other =
     inr (longer most bytes (left new) refused.0 (subst (λ (l : Option (List ℕ)). Consumes l (left new) refused.0) stands refused.1) refused.2)
 
 -- a file that isn't read whole

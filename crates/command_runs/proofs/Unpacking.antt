@@ -1,9 +1,7 @@
 -- What packed files tell, one file more, and why one is refused.
-use Rattle.std.proofs.Common.{◌≡◌, ◌∙◌, ◌+◌, ◌++◌, ◌∷◌, [], ℕ, List, Option, Some, None, String, IsSome, ap, append_assoc, arith, drop, length, sym, refl, subst, inl, inr, string_bytes, take}
+use Rattle.std.proofs.Common.{◌≡◌, ◌∙◌, ◌+◌, ◌++◌, ◌∷◌, [], ℕ, List, Option, Some, None, IsSome, ap, append_assoc, arith, drop, length, sym, refl, subst, inl, inr, take}
 use Rattle.std.proofs.lemmas.List.{take-append-drop}
 use Rattle.std.specs.FinMap.{empty}
-use Rattle.std.specs.declared.alloc.Global.{Global}
-use Rattle.dumpi_text.specs.declared.fault.TextCause.TheVariants.{Read}
 use Rattle.trace_know.specs.View.{View, cell, join}
 use Rattle.trace_know.specs.declared.cell.Known.{Known}
 use Rattle.trace_wire.specs.Packed.{IsOfRanks, RefusesCause, RefusesPacked, Unpacks}

@@ -1,5 +1,5 @@
 -- How the program ends: its status, what it wrote, and what it showed.
-use Rattle.std.specs.Prelude.{◌≡◌, ◌≢◌, ◌⊎◌, ◌∷◌, ◌++◌, ℕ, Bool, false, List, [], Option, Some, Result, Ok, Err, IfErr, codes, length, string_bytes}
+use Rattle.std.specs.Prelude.{◌≡◌, ◌≢◌, ◌⊎◌, ◌∷◌, ◌++◌, ℕ, Bool, false, List, [], Option, Some, None, Result, Ok, Err, IfErr, codes, length, string_bytes}
 use Rattle.std.specs.Io.KnownBytes.{Keeps}
 use Rattle.clap.specs.Words.{Text, subcommand_of}
 use Rattle.mpi_model.specs.Failures.{HasFailed}

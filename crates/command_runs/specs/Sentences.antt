@@ -1,5 +1,5 @@
 -- The sentences that are said below the line of a fault, each on a line of its own behind two spaces.
-use Rattle.std.specs.Prelude.{◌==◌, ◌++◌, ℕ, Bool, true, false, List, [], ◌∷◌, Option, Some, None, codes, if◌then◌else◌}
+use Rattle.std.specs.Prelude.{◌==◌, ◌++◌, ℕ, Bool, false, List, [], ◌∷◌, Option, Some, None, codes, if◌then◌else◌}
 use Rattle.mpi_model.specs.declared.layout.fault.LayoutFault.{LayoutFault}
 use Rattle.mpi_model.specs.declared.layout.fault.LayoutFault.TheVariants as layouts
 use Rattle.dumpi_text.specs.declared.fault.LineFault.{LineFault}

@@ -79,11 +79,20 @@ fn ran<W: Write>(
     out: &mut W,
 ) -> Result<Outcome, RunFault> {
     let input = input_at(alloc, None, "layout.json", "manifest.json", files)?;
-    let run = Run::new(alloc, &input, files);
     if replays {
-        run_with(Verb::Replay, &run, &mut Unwatched, out)
+        run_with(
+            Verb::Replay,
+            &Run::new(alloc, &input, files),
+            &mut Unwatched,
+            out,
+        )
     } else {
-        run_with(Verb::Report, &run, &mut Unwatched, out)
+        run_with(
+            Verb::Report,
+            &Run::new(alloc, &input, files),
+            &mut Unwatched,
+            out,
+        )
     }
 }
 

@@ -23,7 +23,7 @@ use crate::pieces::gatherer::Gatherer;
 use crate::pieces::knowing::{take_whole, with_stranger};
 use crate::pieces::piece::fault_of_walk;
 use crate::run::Run;
-use dumpi_calls::{walk, whole_texts};
+use dumpi_calls::{walk_with_buffer, whole_texts};
 use run_files::Piece;
 use std::alloc::{AllocError, Global};
 use text_notes::{Noting, Start, TextNote, noted_texts};
@@ -54,13 +54,15 @@ fn start_where<O: Opener>(calls: u64, path: &str, files: &O) -> Option<Start>
     start_at(path, files)
 }
 
-/// The events of a piece whole, none of a text without calls, and what is noted of its text.
+/// The events of a piece whole, none of a text without calls, and what is noted of its text. The buffer is one for all
+/// pieces.
 #[tactic(auto, using(crate::proofs::Opening::piece_unopened, crate::proofs::Opening::unopened_untold, crate::proofs::Told::walked_places_told, crate::proofs::Told::walk_told, crate::proofs::Notes::notes_told))]
 fn noted_piece<O: Opener, V: Watcher>(
     alloc: Global,
     piece: &Piece,
     files: &O,
     watcher: &mut V,
+    buffer: &mut Vec<u8>,
 ) -> Result<NotedPiece, RunFault>
     ensures ok { IfOk result (λ read. AreFactsOf (O.file files.now) piece.now (facts_of_piece read.whole)) }
     ensures note { IfOk result (λ read. IsNoteOf (O.file files.now) piece.now read.note) }
@@ -72,7 +74,8 @@ fn noted_piece<O: Opener, V: Watcher>(
     let path = piece.file();
     let reader = opened(alloc, path, files)?;
     let mut noting = Noting::new(alloc);
-    let walked = match walk(alloc, Watched::new(reader, watcher), &mut noting) {
+    let watched = Watched::new(reader, watcher);
+    let walked = match walk_with_buffer(alloc, watched, &mut noting, buffer) {
         Ok(walked) => walked,
         Err(fault) => return Err(fault_of_walk(alloc, path, fault)?),
     };
@@ -120,10 +123,11 @@ pub(crate) fn noted_of<G: Gatherer, O: Opener, V: Watcher>(
     view_laws();
     announce(pieces, run.files, watcher);
     let mut know = gatherer;
+    let mut buffer = Vec::new(run.alloc);
     let mut notes = Vec::new(run.alloc);
     let mut stranger = None;
     for piece in pieces {
-        let read = noted_piece(run.alloc, piece, run.files, watcher)?;
+        let read = noted_piece(run.alloc, piece, run.files, watcher, &mut buffer)?;
         let NotedPiece { whole, note } = read;
         stranger = with_stranger(run.alloc, stranger, run.layout, piece, &whole)?;
         know = take_whole(know, whole)?;

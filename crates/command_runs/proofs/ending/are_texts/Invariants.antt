@@ -1,4 +1,4 @@
-use Rattle.std.proofs.Common.{◌≡◌, drop}
+use Rattle.std.proofs.Common.{drop}
 use Rattle.command_line.specs.Program.{texts_of}
 use Rattle.command_runs.specs.Endings.{BeginsWithText}
 use Rattle.command_runs.proofs.ending.are_texts.Given as goal

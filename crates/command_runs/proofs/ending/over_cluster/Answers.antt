@@ -1,4 +1,4 @@
-use Rattle.std.proofs.Common.{◌≡◌, List, inl, inr, refl, subst}
+use Rattle.std.proofs.Common.{◌≡◌, List, false, inl, inr, refl, subst}
 use Rattle.std.proofs.lemmas.Result.{IfOk-weaker}
 use Rattle.run_files.specs.Manifests.{PieceParts}
 use Rattle.command_runs.specs.Cuts.{AreCuts, MaySay, read_by}
@@ -25,9 +25,9 @@ returns-in-Ok g c =
       ),
     )) c.over_cluster_input.ensures
 
-pub returns : goal.returns
-returns g c =
+pub returns-in-Err : goal.returns-in-Err
+returns-in-Err g c =
     let file = g.O.Opener.file c.args.files.now in
     if_both c.showing.result _ _ _
-    (λ e status shown. inr (c.in-Err.fault, c.in-Err.ensures.err, shown_so file c.in-Err.fault c.args.out.now _ _ e refl status shown))
+    (λ e status shown. inr (c.in-Err.fault, c.in-Err.ensures.err, shown_so file c.in-Err.fault c.args.out.now false false e refl status shown))
     c.showing.ensures.status c.showing.ensures.errors

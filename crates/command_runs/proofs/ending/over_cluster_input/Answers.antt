@@ -1,4 +1,4 @@
-use Rattle.std.proofs.Common.{◌≡◌, ◌∙◌, ap, ℕ, List, Option, subst}
+use Rattle.std.proofs.Common.{◌≡◌, ◌∙◌, ap, ℕ, List, Option, false, subst}
 use Rattle.std.proofs.lemmas.Result.{IfOk-weaker}
 use Rattle.command_runs.specs.Cuts.{read_by}
 use Rattle.command_runs.specs.Endings.{IsEndedBy}
@@ -6,7 +6,6 @@ use Rattle.command_runs.proofs.Cuts.{fails_inner}
 use Rattle.command_runs.proofs.Endings.{cluster_ran}
 use Rattle.command_runs.proofs.Left.{ran_inner, same_files}
 use Rattle.command_runs.proofs.ending.over_cluster_input.Goals as goal
-use Rattle.std.specs.Prelude.{false}
 
 pub returns : goal.returns
 returns g c =

@@ -9,7 +9,7 @@ returns-then-are_texts g c = IfOk-weaker c.over_texts.result _ _ (λ e h. inl (c
 pub returns-in-Some : goal.returns-in-Some
 returns-in-Some g c = IfOk-weaker c.over_pair.result _ _ (λ e h. inr (inl (_, _, c.in-Some.ensures.two, h))) c.over_pair.ensures
 
-pub returns : goal.returns
-returns g c =
+pub returns-in-None : goal.returns-in-None
+returns-in-None g c =
     if_both c.strange_files.result _ _ _ (λ e status errors. inr (inr (c.two_of.ensures.other c.in-None.is, refl, status, errors)))
     c.strange_files.ensures.status c.strange_files.ensures.errors

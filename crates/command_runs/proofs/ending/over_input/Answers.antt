@@ -10,8 +10,8 @@ use Rattle.command_runs.proofs.Endings.{ran_over}
 use Rattle.command_runs.proofs.Left.{same_files}
 use Rattle.command_runs.proofs.ending.over_input.Goals as goal
 
-pub run_with-requires-clause-rank : goal.run_with-requires-clause-rank
-run_with-requires-clause-rank g c = subst (λ (l : Parts). HasRank (asked_rank c.args.verb) l) (sym c.new.ensures.layout) c.requires
+pub run_with-ran-requires : goal.run_with-ran-requires
+run_with-ran-requires g c = record { rank = subst (λ (l : Parts). HasRank (asked_rank c.args.verb) l) (sym c.new.ensures.layout) c.requires.rank }
 
 pub returns : goal.returns
 returns g c =

@@ -11,7 +11,7 @@ use Rattle.command_runs.proofs.Left.{are_read}
 use Rattle.command_runs.proofs.ending.over_pair.Goals as goal
 
 pub over_input-requires : goal.over_input-requires
-over_input-requires g c = rw c.asked_rank.ensures at c.in-Ok.ensures.rank
+over_input-requires g c = record { rank = rw c.asked_rank.ensures at c.in-Ok.ensures.rank }
 
 pub returns-in-Ok : goal.returns-in-Ok
 returns-in-Ok g c =
@@ -30,8 +30,8 @@ returns-in-Ok g c =
       ),
     )) c.over_input.ensures
 
-pub returns : goal.returns
-returns g c =
+pub returns-in-Err : goal.returns-in-Err
+returns-in-Err g c =
     let file = g.O.Opener.file c.args.files.now in
     let refuses : RefusesLoading _ file (asked_rank c.args.verb) c.args.names.0.now c.args.names.1.now c.in-Err.fault = rw c.asked_rank.ensures at c.in-Err.ensures.err in
     if_both c.showing.result _ _ _

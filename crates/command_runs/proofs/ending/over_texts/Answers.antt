@@ -42,7 +42,7 @@ returns-in-Err-has_rank g c =
     c.showing.ensures.status c.showing.ensures.errors
 
 pub over_input-requires : goal.over_input-requires
-over_input-requires g c = rw c.asked_rank.ensures at c.in_default-has_rank.ensures.ok
+over_input-requires g c = record { rank = rw c.asked_rank.ensures at c.in_default-has_rank.ensures.ok }
 
 pub returns : goal.returns
 returns g c =

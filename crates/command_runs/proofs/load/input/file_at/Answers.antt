@@ -8,4 +8,6 @@ returns-in_err-reader-clause-err g c =
 
 pub returns-clause-err : goal.returns-clause-err
 returns-clause-err g c =
-    whole_refused c.args.most c.args.path.now _ _ _ _ _ c.in-Err.fault c.in_ok-fault_of_whole-in-Err.field-0 c.in_ok-reader.ensures.ok c.in-Err.ensures.err c.in_ok-fault_of_whole-in-Err.ensures
+    let file = g.O.Opener.file c.args.files.now c.args.path.now in
+    whole_refused c.args.most c.args.path.now file g.O.R.Read.left g.O.R.Read.failures c.in_ok-reader.reader c.read_whole.new.reader c.in-Err.fault c.in_ok-fault_of_whole-in-Err.field-0
+    c.in_ok-reader.ensures.ok c.in-Err.ensures.err c.in_ok-fault_of_whole-in-Err.ensures

@@ -1,7 +1,6 @@
-use Rattle.std.proofs.Common.{◌≡◌, ◌∙◌, refl, sym, subst, List}
+use Rattle.std.proofs.Common.{◌∙◌, refl, sym, subst, List}
 use Rattle.std.proofs.lemmas.Result.{IfErr-weaker}
 use Rattle.std.specs.FinMap.{empty}
-use Rattle.trace_know.specs.View.{join}
 use Rattle.run_files.specs.Manifests.{PackedParts}
 use Rattle.command_runs.specs.Packed.{TellPacked}
 use Rattle.command_runs.proofs.AllTold.{answers_all, texts_named}

@@ -1,4 +1,4 @@
-use Rattle.std.proofs.Common.{◌≡◌, take}
+use Rattle.std.proofs.Common.{take}
 use Rattle.trace_know.specs.View.{View}
 use Rattle.command_runs.specs.Traces.{IsKnown}
 use Rattle.command_runs.proofs.pieces.any_order.look_for_refused.Given as goal

@@ -1,4 +1,4 @@
-use Rattle.std.proofs.Common.{◌≡◌, take}
+use Rattle.std.proofs.Common.{take}
 use Rattle.std.specs.List.{All}
 use Rattle.command_runs.specs.Traces.{IsInside}
 use Rattle.command_runs.proofs.pieces.any_order.look_for_strangers.Given as goal

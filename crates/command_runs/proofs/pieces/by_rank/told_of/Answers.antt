@@ -1,4 +1,4 @@
-use Rattle.std.proofs.Common.{◌∙◌, inl, inr, refl, arith, take, drop}
+use Rattle.std.proofs.Common.{inl, inr, arith, take, drop}
 use Rattle.std.specs.Prelude.{slice_range}
 use Rattle.command_runs.specs.Refusals.{RefusesFirst}
 use Rattle.command_runs.specs.Traces.{IsKnown}

@@ -1,4 +1,4 @@
-use Rattle.std.proofs.Common.{◌≡◌, ◌≤◌, length, take}
+use Rattle.std.proofs.Common.{◌≤◌, length, take}
 use Rattle.std.specs.List.{AllWithin}
 use Rattle.command_runs.specs.Ranks.{TellRanks}
 use Rattle.command_runs.proofs.pieces.by_rank.told_of.Given as goal

@@ -1,5 +1,5 @@
-use Rattle.std.proofs.Common.{◌≡◌, ◌∙◌, sym, subst}
-use Rattle.trace_know.specs.View.{View, join}
+use Rattle.std.proofs.Common.{◌∙◌, sym, subst}
+use Rattle.trace_know.specs.View.{View}
 use Rattle.trace_wire.specs.Packed.{IsOfRanks}
 use Rattle.command_runs.proofs.Unpacking.{of_both}
 use Rattle.command_runs.proofs.pieces.packed.joined.Goals as goal

@@ -1,11 +1,10 @@
-use Rattle.std.proofs.Common.{rules, refl, arith, ◌≡◌, ◌∙◌, ◌+◌, ◌<◌, ◌++◌, ◌∷◌, [], ℕ, List, ap, sym, subst, inl, inr, length, take, drop}
+use Rattle.std.proofs.Common.{arith, ◌≡◌, ◌∙◌, ◌+◌, ◌<◌, ◌++◌, ◌∷◌, [], ℕ, List, ap, sym, subst, inr, length, take, drop}
 use Rattle.std.proofs.Math.Seq.{take-length}
-use Rattle.std.proofs.lemmas.List.{take_more, take-append-drop}
-use Rattle.std.proofs.lemmas.List as lists
+use Rattle.std.proofs.lemmas.List.{take_more}
 use Rattle.trace_know.specs.View.{View}
 use Rattle.trace_wire.specs.Packed.{IsOfRanks, Unpacks}
 use Rattle.run_files.specs.Manifests.{PackedParts}
-use Rattle.command_runs.specs.Packed.{RefusesFirstPacked, RefusesPackedFile, TellPacked}
+use Rattle.command_runs.specs.Packed.{RefusesPackedFile, TellPacked}
 use Rattle.command_runs.proofs.Unpacking.{cut_at, of_both, packed_more, packed_untold}
 use Rattle.command_runs.proofs.Within.{within_nothing}
 use Rattle.command_runs.proofs.Runs.{handed_on}

@@ -1,4 +1,4 @@
-use Rattle.std.proofs.Common.{◌≡◌, take}
+use Rattle.std.proofs.Common.{take}
 use Rattle.trace_wire.specs.Packed.{IsOfRanks}
 use Rattle.command_runs.specs.Packed.{TellPacked}
 use Rattle.command_runs.proofs.pieces.packed.packed_of.Given as goal

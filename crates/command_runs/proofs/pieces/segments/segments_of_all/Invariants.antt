@@ -1,4 +1,4 @@
-use Rattle.std.proofs.Common.{◌≡◌, take}
+use Rattle.std.proofs.Common.{take}
 use Rattle.command_runs.specs.Schedules.{TellSegments, held_lists}
 use Rattle.command_runs.proofs.pieces.segments.segments_of_all.Given as goal
 

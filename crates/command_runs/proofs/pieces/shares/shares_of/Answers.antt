@@ -1,8 +1,7 @@
-use Rattle.std.proofs.Common.{rules, refl, arith, ◌≡◌, ◌∙◌, ◌+◌, ◌<◌, ◌++◌, ◌∷◌, [], ℕ, List, ap, sym, subst, inr, length, take, drop}
+use Rattle.std.proofs.Common.{refl, arith, ◌≡◌, ◌∙◌, ◌+◌, ◌<◌, ◌++◌, ◌∷◌, [], ℕ, List, ap, sym, subst, inr, length, take, drop}
 use Rattle.std.proofs.Math.Seq.{take-length}
-use Rattle.std.proofs.lemmas.List.{take_more, take-append-drop}
+use Rattle.std.proofs.lemmas.List.{take_more}
 use Rattle.std.specs.FinMap.{empty}
-use Rattle.std.proofs.lemmas.List as lists
 use Rattle.trace_know.specs.View.{View, join}
 use Rattle.trace_wire.specs.Packed.{IsOfRanks, Unpacks}
 use Rattle.run_files.specs.Manifests.{PackedParts}

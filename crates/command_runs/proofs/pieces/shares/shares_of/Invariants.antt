@@ -1,4 +1,4 @@
-use Rattle.std.proofs.Common.{◌≡◌, take}
+use Rattle.std.proofs.Common.{take}
 use Rattle.trace_know.specs.View.{View}
 use Rattle.command_runs.specs.Packed.{TellPacked}
 use Rattle.command_runs.specs.Shares.{TellShares, so_far}

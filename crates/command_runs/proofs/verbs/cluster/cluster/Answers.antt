@@ -11,7 +11,7 @@ returns-in-Ok-clause-ran g c =
     let wrote = c.in-Ok.ensures.ok in
     (refl, (wrote.0, (c.in_ok-nodes.nodes.0, c.in_ok-nodes.nodes.1, c.in_ok-nodes.ensures.ok, wrote.1), wrote.2))
 
-pub returns-clause-ran : goal.returns-clause-ran
-returns-clause-ran g c =
+pub returns-in-Err-clause-ran : goal.returns-in-Err-clause-ran
+returns-in-Err-clause-ran g c =
     let wrote = c.in-Err.ensures.err in
     inl (refl, ((wrote.0, (c.in_ok-nodes.nodes.0, c.in_ok-nodes.nodes.1, c.in_ok-nodes.ensures.ok, wrote.1), wrote.2), c.in-Err.ensures.failed))
