@@ -1,5 +1,5 @@
 -- What pieces tell in one order they tell in any other, and what refuses them in another order can be told of them where they are whole.
-use Rattle.std.proofs.Common.{◌≡◌, ◌∙◌, inl, inr, ℕ, ◌+◌, ◌<◌, List, [], ◌∷◌, ◌++◌, Option, String, length, map, set, take, get_or, refl, sym, ap, ap₂, subst, arith}
+use Rattle.std.proofs.Common.{◌≡◌, ◌∙◌, inl, inr, ℕ, ◌+◌, ◌<◌, false, List, [], ◌∷◌, ◌++◌, Option, String, length, map, set, take, get_or, refl, sym, ap, ap₂, subst, arith}
 use Rattle.std.specs.Prelude.{Contains, IsPermutation}
 use Rattle.std.specs.List.{All, flat_map, swap}
 use Rattle.std.specs.declared.alloc.Global.{Global}
@@ -55,7 +55,7 @@ tells_each file (told ∷ all) h =
 -- ---- in another order
 
 some : Told
-some = (record { rank = 0; first = 0; file = []; node = 0; worker = 0 }, [])
+some = (record { rank = 0; first = 0; file = []; node = 0; worker = 0; cut = false }, [])
 
 swapped : (all : List Told) (pieces : List PieceParts) (i j : ℕ) → map piece_of all ≡ pieces → i < length all → j < length all → map piece_of (swap all i j) ≡ swap pieces i j
 swapped all pieces i j e low high =
