@@ -1,5 +1,5 @@
 -- Where a text was cut, and the files of a run of which some were.
-use Rattle.std.proofs.Common.{◌≡◌, ◌≢◌, ◌∙◌, ◌⊎◌, ◌+◌, ◌-◌, ◌++◌, ◌∷◌, [], arith, ℕ, Bool, true, false, List, Option, Some, None, Result, Ok, Err, IfSome, ap, drop, inl, inr, length, length-take, min, option_map, refl, string_bytes, subst, sym, take, if◌then◌else◌}
+use Rattle.std.proofs.Common.{◌≡◌, ◌≢◌, ◌∙◌, ◌⊎◌, ◌+◌, ◌-◌, ◌++◌, ◌∷◌, [], arith, ℕ, Bool, true, false, List, Option, Some, None, Result, Ok, Err, IfSome, ap, drop, inl, inr, length, length-take, min, not, option_map, refl, string_bytes, subst, sym, take, if◌then◌else◌}
 use Rattle.std.specs.Str.{bytes_eq}
 use Rattle.std.specs.declared.alloc.Global.{Global}
 use Rattle.std.proofs.lemmas.Slice.Eq.{bytes_eq-Decides}
@@ -131,6 +131,15 @@ lacking text calls (walks.Missing parameter) at lost is plain stops = absurd is
 lacking text calls (walks.Wrong parameter) at lost is plain stops = absurd is
 lacking text calls (walks.Sink fault) at lost is plain stops = absurd is
 lacking text calls walks.Memory at lost is plain stops = absurd is
+
+pub stopped_if : (file left : Option (List ℕ)) (calls : List TextCall) (cause : WalkCause NoMemory) (at : ℕ) (lost : Option Lost) → StandsAtFirst file left
+    → StopsWalk {F = NoMemory} left calls cause at → lost ≡ lost_at cause → IfSome lost (IsRefusedAt file)
+stopped_if file left calls cause at None stands stops e = tt
+stopped_if file left calls cause at (Some lost) stands stops e = stopped_at file left calls cause at lost stands stops (sym e)
+
+pub not_so : (b : Bool) → not b ≡ true → b ≡ false
+not_so true e = absurd (cc (e))
+not_so false e = refl
 
 -- ---- how many lines are left
 

@@ -1,7 +1,8 @@
 -- The first lines of a text, and its first bytes.
-use Rattle.std.proofs.Common.{◌≡◌, ◌≢◌, ◌∙◌, ◌⊎◌, ◌+◌, ◌-◌, ◌<◌, ◌≤◌, ◌++◌, ◌∷◌, ◌==◌, [], arith, ℕ, zero, suc, Bool, true, false, List, Option, Some, None, Result, Ok, Err, MatchResult, ap, append-nil, inl, inr, length, min, option_map, refl, subst, sym, take, if◌then◌else◌}
+use Rattle.std.proofs.Common.{◌≡◌, ◌≢◌, ◌∙◌, ◌⊎◌, ◌+◌, ◌-◌, ◌<◌, ◌≤◌, ◌++◌, ◌∷◌, ◌==◌, [], arith, ℕ, zero, suc, Bool, true, false, List, Option, Some, None, Result, Ok, Err, MatchResult, ap, append-nil, length-take, inl, inr, length, min, option_map, refl, subst, sym, take, if◌then◌else◌}
 use Rattle.std.specs.Prelude.{nat_lt}
 use Rattle.std.proofs.lemmas.Bool.Decides.{nat_tests}
+use Rattle.std.proofs.lemmas.List.{take-append-le}
 use Rattle.std.specs.Io.KnownBytes.{Consumes, IsAtEnd, Keeps, ReadConsumes}
 use Rattle.std.proofs.KnownBytes.{Consumes-nil, Consumes-trans}
 use Rattle.dumpi_text.specs.Bytes.{line_feed}
@@ -65,6 +66,10 @@ count_more xs lines front byte bytes feeds is by_bytes by_feeds =
       feeds = by_feeds ∙ ap (λ (n : ℕ). if byte == line_feed then n + 1 else n) is.feeds ∙ sym (feeds_more xs byte);
     }
 
+-- no byte
+pub count_none : (lines : ℕ) → IsCount [] lines (record { bytes = 0; feeds = 0 })
+count_none lines = record { bytes = sym (ap (λ (l : List ℕ). length l) (none_first lines)); feeds = refl }
+
 -- ---- what is taken of a text
 
 pub take_first : (k : ℕ) (xs : List ℕ) → take (length (first_lines k xs)) xs ≡ first_lines k xs
@@ -117,3 +122,23 @@ pub keeps_first : (most : ℕ) (old new : Option (List ℕ)) → Keeps old new �
 keeps_first most None new h = tt
 keeps_first most (Some xs) None h = absurd h
 keeps_first most (Some xs) (Some ys) h = ap (λ (l : List ℕ). take most l) h
+
+at_end : (most count : ℕ) (new : Option (List ℕ)) (part rest : List ℕ) → (count ≡ 0 → 0 < length part → IsAtEnd new) → (0 < length (part ++ rest) → length part ≡ 0 → most ≡ 0)
+    → count ≡ 0 → 0 < length (part ++ rest) → (most - count ≡ 0) ⊎ IsAtEnd new
+at_end most count new [] rest end none zero some = let e = none some refl in inl (omega (arith, e))
+at_end most count new (x ∷ part) rest end none zero some = inr (end zero (omega arith))
+
+-- what a read of so much room gives of the first bytes: the room is no more than what is still to come
+pub read_first : (most count : ℕ) (old new : Option (List ℕ)) (part rest : List ℕ) → count ≤ length part → length part ≤ most → Consumes old new (take count part)
+    → (count ≡ 0 → 0 < length part → IsAtEnd new) → (0 < length (part ++ rest) → length part ≡ 0 → most ≡ 0)
+    → Consumes (first_bytes (Some most) old) (first_bytes (Some (most - count)) new) (take count (part ++ rest))
+    × (count ≡ 0 → 0 < length (part ++ rest) → IsAtEnd (first_bytes (Some (most - count)) new))
+read_first most count old new part rest within room consumes end none =
+    let given = take count part in
+    let long : length given ≡ count = omega (arith, length-take count part) in
+    let same : take count (part ++ rest) ≡ given = take-append-le count part rest within in
+    let taken : Consumes (first_bytes (Some most) old) (first_bytes (Some (most - count)) new) given =
+    subst (λ (n : ℕ). Consumes (first_bytes (Some most) old) (first_bytes (Some (most - n)) new) given) long (consumes_first most old new given (omega (arith, long)) consumes) in (
+      subst (λ (t : List ℕ). Consumes (first_bytes (Some most) old) (first_bytes (Some (most - count)) new) t) (sym same) taken,
+      λ zero some. end_first (most - count) new (at_end most count new part rest end none zero some),
+    )

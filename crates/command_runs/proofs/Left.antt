@@ -74,15 +74,16 @@ cuts_more may file (one ∷ cuts) cut are m is = (are.0, cuts_more may file cuts
 found_so : (may : List ℕ → Type 0) (file : List ℕ → Option (List ℕ)) (cuts : List Cut) (name : List ℕ) (cut : Cut) → AreCuts may file cuts → cut_named cuts name ≡ Some cut
     → may name × IsCutSo (file name) cut
 found_so may file [] name cut are e = absurd (cc (e))
-found_so may file (one ∷ cuts) name cut are e = by_test (bytes_eq (string_bytes one.path) name) refl e
+found_so may file (one ∷ cuts) name cut are e = by_test (bytes_eq (string_bytes one.path) name) refl e (λ later. found_so may file cuts name cut are.1 later)
   where
-    by_test : (b : Bool) → bytes_eq (string_bytes one.path) name ≡ b → (if b then Some one else cut_named cuts name) ≡ Some cut → may name × IsCutSo (file name) cut
-    by_test true t is =
+    by_test : (b : Bool) → bytes_eq (string_bytes one.path) name ≡ b → (if b then Some one else cut_named cuts name) ≡ Some cut
+        → (cut_named cuts name ≡ Some cut → may name × IsCutSo (file name) cut) → may name × IsCutSo (file name) cut
+    by_test true t is later =
         let same : one ≡ cut = cc (is) in
         let named : string_bytes one.path ≡ name = (bytes_eq-Decides (string_bytes one.path) name).0 t in
         let here : may name × IsCutSo (file name) one = subst (λ (n : List ℕ). may n × IsCutSo (file n) one) named are.0 in
         subst (λ (c : Cut). may name × IsCutSo (file name) c) same here
-    by_test false t is = found_so may file cuts name cut are.1 is
+    by_test false t is later = later is
 
 -- what is read of a file whose text was cut
 cut_front : (text : Option (List ℕ)) (cut : Cut) → IsCutSo text cut → (first_bytes (Some cut.bytes) text ≡ text) ⊎ IsFrontOf text (first_bytes (Some cut.bytes) text)
@@ -183,9 +184,9 @@ pub cut_so : (file : Option (List ℕ)) (lost : Lost) (cut : Cut) → IsRefusedA
 cut_so None lost cut refused is = tt
 cut_so (Some text) lost cut refused is = (
   subst (λ (n : ℕ). LostEnd text n) (sym is.1) (lost_end text lost refused is.0),
-  is.2,
-  subst (λ (n : ℕ). AreLeft text n is.2) (sym is.1) is.3,
-  is.4,
+  is.2.0,
+  subst (λ (n : ℕ). AreLeft text n is.2.0) (sym is.1) is.2.1,
+  is.2.2,
 )
 
 pub cut_of_text : (name : List ℕ) (file : Option (List ℕ)) (fault : InitFault) (lost : Lost) (cut : Cut) → lost_in fault ≡ Some lost → RefusesText name file fault → IsCutAfter file lost cut → IsCutSo file cut

@@ -6,9 +6,25 @@ use Rattle.comm_makings.specs.declared.calls.RankCalls.{RankCalls}
 use Rattle.text_layouts.specs.Making.{RefusesMaking, whole_texts}
 use Rattle.command_runs.specs.Cuts.{read_by}
 use Rattle.command_runs.specs.Prepared.{made_notes}
-use Rattle.command_runs.specs.TextCalls.{AllSay}
-use Rattle.command_runs.proofs.Left.{left_refused}
+use Rattle.command_runs.specs.TextCalls.{AllSay, RefusesOne}
+use Rattle.command_runs.proofs.Left.{left_refused, names_refused}
+use Rattle.command_runs.proofs.Runs.{handed_on}
 use Rattle.command_runs.proofs.load.prepared.prepare.Goals as goal
+
+pub returns-in_err-texts-clause-err : goal.returns-in_err-texts-clause-err
+returns-in_err-texts-clause-err g c =
+    handed_on c.from_residual.result _ _ c.from_residual.ensures.1 (names_refused (g.O.Opener.file c.args.files.now) _ c.in_err-texts.field-0.0 c.in_err-texts.ensures.err)
+
+pub returns-in_err-all-clause-err : goal.returns-in_err-all-clause-err
+returns-in_err-all-clause-err g c =
+    let file = g.O.Opener.file c.args.files.now in
+    let texts = c.in_ok-texts.texts.items in
+    let fault = c.in_err-all.field-0.0 in
+    let h = c.in_err-all.ensures.err in
+    let refuses : RefusesOne (read_by h.0 file) (map string_bytes texts) fault =
+    subst (λ (ts : List (String Global)). RefusesOne (read_by h.0 file) (map string_bytes ts) fault) c.deref.ensures.value h.2 in
+    handed_on c.from_residual-in_err-all.result _ _ c.from_residual-in_err-all.ensures.1
+    (left_refused file h.0 _ fault h.1 (inr (map string_bytes texts, (c.in_ok-texts.by_digits, c.in_ok-texts.ensures.ok), c.in_ok-texts.ensures.words, inl refuses)))
 
 pub returns-in-Err-clause-err : goal.returns-in-Err-clause-err
 returns-in-Err-clause-err g c =
