@@ -259,6 +259,7 @@ fn world_comm(alloc: Global, world: u32, ranks: u32) -> Result<Comm, AllocError>
         id: world,
         object: Object::Communicator,
         members: first_places(alloc, ranks)?,
+        remote: Vec::new(alloc),
         numbers: Vec::new(alloc),
     })
 }
@@ -281,12 +282,14 @@ fn written_comm(
             id,
             object: Object::Communicator,
             members,
+            remote: Vec::new(alloc),
             numbers: Vec::new(alloc),
         }),
         None => Ok(Comm {
             id: other,
             object: Object::Communicator,
             members,
+            remote: Vec::new(alloc),
             numbers: entries_of(alloc, views, uses, &comm.members)?,
         }),
     }

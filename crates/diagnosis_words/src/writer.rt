@@ -297,7 +297,8 @@ impl<'a> Writer<'a> {
         let object = self.named(rank, call, comm)?;
         self.source
             .layout
-            .members(object)?
+            .peers(object, rank)?
+            .ranks
             .get(peer as usize)
             .copied()
     }

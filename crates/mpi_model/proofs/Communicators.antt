@@ -1,5 +1,5 @@
 -- What the tests of a group tell.
-use Rattle.std.proofs.Common.{◌≡◌, ◌≤◌, ◌<◌, ℕ, ◌+◌, ◌==◌, ◌&&◌, ◌||◌, ◌∙◌, Bool, true, false, List, [], ◌∷◌, nat_le, length, refl, ap, arith, Option, Some, None, IfSome, eqb, option_map, rules}
+use Rattle.std.proofs.Common.{◌≡◌, ◌≤◌, ◌<◌, ℕ, ◌+◌, ◌==◌, ◌&&◌, ◌||◌, ◌∙◌, Bool, true, false, not, List, [], ◌∷◌, ◌++◌, append-nil, nat_le, length, length-append, refl, ap, arith, Option, Some, None, IfSome, eqb, option_map, rules}
 use Rattle.std.proofs.lemmas.Grind.{common_steps}
 use Rattle.std.proofs.lemmas.List.Elements.{All-from_recursion, All-head, All-tail}
 use Rattle.std.proofs.lemmas.Map.Keys.{IsDistinct-cons}
@@ -8,8 +8,8 @@ use Rattle.std.specs.List.{All, AllByRecursion, IsDistinct, list_any, range_with
 use Rattle.mpi_model.specs.declared.object.Object.{Object}
 use Rattle.mpi_model.specs.declared.object.Object.TheVariants.{Communicator as a_communicator, Window, File}
 use Rattle.mpi_model.specs.Kinds.{object_number}
-use Rattle.mpi_model.specs.Communicators.{Communicator, has_double, members_of}
-use Rattle.mpi_model.specs.Layouts.{IsGroup, counts_from, has_double_member, has_stranger, is_empty_group, is_some_communicator, is_some_whole, is_whole}
+use Rattle.mpi_model.specs.Communicators.{Communicator, all_members, has_double, has_remote, one_of}
+use Rattle.mpi_model.specs.Layouts.{AreGroups, IsGroup, counts_from, has_double_member, has_stranger, is_empty_group, is_some_world, is_whole}
 
 pub or_false : (a b : Bool) → (a || b) ≡ false → (a ≡ false) × (b ≡ false)
 or_false true b h = cc
@@ -42,34 +42,38 @@ each_below n (x ∷ xs) h =
     let first : x < n = grind (arith, common_steps) in
     (first, each_below n xs parts.1)
 
-group_of : (ranks : ℕ) (g : Communicator) → is_empty_group g ≡ false → has_stranger ranks g.members ≡ false → has_double_member g ≡ false → IsGroup ranks g.members
+group_of : (ranks : ℕ) (g : Communicator) → is_empty_group g ≡ false → has_stranger ranks (all_members g) ≡ false → has_double_member g ≡ false → AreGroups ranks g
 group_of ranks g full range single =
+    let first : 0 < length g.members = grind (arith, common_steps, full) in
     record {
-      some = grind (arith, common_steps, full);
-      in_range = All-from_recursion (λ r. r < ranks) g.members (each_below ranks g.members range);
-      distinct = distinct g.members single;
+      all = record {
+        some = omega (arith, length-append g.members g.remote, first);
+        in_range = All-from_recursion (λ r. r < ranks) (all_members g) (each_below ranks (all_members g) range);
+        distinct = distinct (all_members g) single;
+      };
+      first = first;
     }
 
-each_group : (ranks : ℕ) (gs : List Communicator) → list_any is_empty_group gs ≡ false → list_any (λ g. has_stranger ranks g.members) gs ≡ false
-    → list_any has_double_member gs ≡ false → AllByRecursion (λ g. IsGroup ranks g.members) gs
+each_group : (ranks : ℕ) (gs : List Communicator) → list_any is_empty_group gs ≡ false → list_any (λ g. has_stranger ranks (all_members g)) gs ≡ false
+    → list_any has_double_member gs ≡ false → AllByRecursion (AreGroups ranks) gs
 each_group ranks [] full range single = search rules
 each_group ranks (g ∷ gs) full range single =
     let a = or_false (is_empty_group g) (list_any is_empty_group gs) full in
-    let b = or_false (has_stranger ranks g.members) (list_any (λ g. has_stranger ranks g.members) gs) range in
+    let b = or_false (has_stranger ranks (all_members g)) (list_any (λ g. has_stranger ranks (all_members g)) gs) range in
     let c = or_false (has_double_member g) (list_any has_double_member gs) single in
     (group_of ranks g a.0 b.0 c.0, each_group ranks gs a.1 b.1 c.1)
 
-pub all_groups : (ranks : ℕ) (gs : List Communicator) → list_any is_empty_group gs ≡ false → list_any (λ g. has_stranger ranks g.members) gs ≡ false
-    → list_any has_double_member gs ≡ false → All (λ g. IsGroup ranks g.members) gs
-all_groups ranks gs full range single = All-from_recursion (λ g. IsGroup ranks g.members) gs (each_group ranks gs full range single)
+pub all_groups : (ranks : ℕ) (gs : List Communicator) → list_any is_empty_group gs ≡ false → list_any (λ g. has_stranger ranks (all_members g)) gs ≡ false
+    → list_any has_double_member gs ≡ false → All (AreGroups ranks) gs
+all_groups ranks gs full range single = All-from_recursion (AreGroups ranks) gs (each_group ranks gs full range single)
 
--- what a number names is a group
-pub named_group : (ranks : ℕ) (gs : List Communicator) (n : ℕ) → All (λ g. IsGroup ranks g.members) gs → IfSome (members_of gs n) (IsGroup ranks)
-named_group ranks [] n all = search rules
-named_group ranks (g ∷ gs) n all =
-    step (g.comm == n) refl (All-head (λ g. IsGroup ranks g.members) g gs all) (named_group ranks gs n (All-tail (λ g. IsGroup ranks g.members) g gs all))
+-- what a number names has groups
+pub named_groups : (ranks : ℕ) (gs : List Communicator) (n : ℕ) → All (AreGroups ranks) gs → IfSome (one_of gs n) (AreGroups ranks)
+named_groups ranks [] n all = search rules
+named_groups ranks (g ∷ gs) n all =
+    step (g.comm == n) refl (All-head (AreGroups ranks) g gs all) (named_groups ranks gs n (All-tail (AreGroups ranks) g gs all))
   where
-    step : (t : Bool) → (g.comm == n) ≡ t → IsGroup ranks g.members → IfSome (members_of gs n) (IsGroup ranks) → IfSome (members_of (g ∷ gs) n) (IsGroup ranks)
+    step : (t : Bool) → (g.comm == n) ≡ t → AreGroups ranks g → IfSome (one_of gs n) (AreGroups ranks) → IfSome (one_of (g ∷ gs) n) (AreGroups ranks)
     step true e here rest = rw e here
     step false e here rest = rw e rest
 
@@ -103,9 +107,11 @@ all_ranks ranks members h =
     let same : length members ≡ ranks = grind (arith, common_steps) in
     counted 0 members parts.1 ∙ ap (range_with_len 0) same
 
-pub whole_world : (ranks : ℕ) (named : Option (List ℕ)) → is_some_whole ranks named ≡ true → named ≡ Some (range_with_len 0 ranks)
-whole_world ranks None h = cc
-whole_world ranks (Some members) h = ap Some (all_ranks ranks members h)
+-- what the test of the world tells
+pub record IsTheWorld (ranks : ℕ) (found : Option Communicator) : Type 0 where
+  pub members : option_map all_members found ≡ Some (range_with_len 0 ranks)
+  pub object : option_map (λ g. g.object) found ≡ Some a_communicator
+  pub group : option_map has_remote found ≡ Some false
 
 -- a sort of the number of communicators is that of communicators
 communicator_is : (object : Object) → (object_number object == object_number a_communicator) ≡ true → object ≡ a_communicator
@@ -113,9 +119,22 @@ communicator_is a_communicator h = refl
 communicator_is Window h = cc
 communicator_is File h = cc
 
-pub communicator_world : (named : Option Object) → is_some_communicator named ≡ true → named ≡ Some a_communicator
-communicator_world None h = cc
-communicator_world (Some object) h = ap Some (communicator_is object h)
+-- a list that is tested to be empty
+none_left : (xs : List ℕ) → not (not (length xs == 0)) ≡ true → xs ≡ []
+none_left [] h = refl
+none_left (x ∷ xs) h = cc
+
+pub world_is : (ranks : ℕ) (found : Option Communicator) → is_some_world ranks found ≡ true → IsTheWorld ranks found
+world_is ranks None h = cc
+world_is ranks (Some g) h =
+    let parts = and_true (object_number g.object == object_number a_communicator) (not (has_remote g) && is_whole ranks g.members) h in
+    let group = and_true (not (has_remote g)) (is_whole ranks g.members) parts.1 in
+    let empty = none_left g.remote group.0 in
+    record {
+      members = ap Some (ap (λ r. g.members ++ r) empty ∙ append-nil g.members ∙ all_ranks ranks g.members group.1);
+      object = ap Some (communicator_is g.object parts.0);
+      group = ap (λ r. Some (not (length r == 0))) empty;
+    }
 
 -- what holds of the value that is shown holds of what shows it
 pub under_map : {X Y : Type 0} (f : X → Y) (P : Y → Type 0) (o : Option X) (m : Option Y) → option_map f o ≡ m → IfSome m P → IfSome o (λ x. P (f x))

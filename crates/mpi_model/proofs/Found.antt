@@ -10,7 +10,7 @@ use Rattle.std.specs.List.{list_any}
 use Rattle.std.specs.List.Sorted.{IsPermutation}
 use Rattle.mpi_model.specs.declared.layout.comm.Stretch.{Stretch}
 use Rattle.mpi_model.specs.declared.layout.names.Name.{Name}
-use Rattle.mpi_model.specs.Communicators.{Communicator, has_pair}
+use Rattle.mpi_model.specs.Communicators.{Communicator, all_members, has_pair}
 use Rattle.mpi_model.specs.Names.{AreNames, AreOrdered, always, clashes, has_calls, is_name, name_by, names_by_id, names_by_numbers, names_in, names_of, names_with, numbered}
 use Rattle.mpi_model.specs.declared.object.Object.{Object}
 use Rattle.mpi_model.specs.Names.{is_of}
@@ -146,7 +146,7 @@ calls_in : (object : Object) (g : Communicator) → HaveCalls (names_in object g
 calls_in object g = step (is_of object g) refl
   where
     step : (b : Bool) → is_of object g ≡ b → HaveCalls (names_in object g)
-    step true e = rw e (calls_with g.comm g.members g.numbers)
+    step true e = rw e (calls_with g.comm (all_members g) g.numbers)
     step false e = rw e (All-nil (λ x. has_calls x.stretch ≡ true))
 
 all_calls : (object : Object) (gs : List Communicator) → HaveCalls (names_of object gs)

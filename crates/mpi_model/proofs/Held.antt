@@ -8,9 +8,10 @@ use Rattle.std.proofs.lemmas.List.Elements.{All-head, All-tail}
 use Rattle.std.proofs.lemmas.Map.Keys.{IsDistinct-head, IsDistinct-tail}
 use Rattle.std.specs.List.{All, AllByRecursion, IsDistinct, list_any}
 use Rattle.std.specs.declared.alloc.Global.{Global}
-use Rattle.mpi_model.specs.Communicators.{Communicator, has_member, ids, ids_with}
-use Rattle.mpi_model.specs.Held.{id_by, ids_by, listed}
-use Rattle.mpi_model.specs.Layouts.{IsGroup}
+use Rattle.mpi_model.specs.Communicators.{Communicator, has_member, has_remote, ids, ids_with}
+use Rattle.mpi_model.specs.Held.{id_by, id_in, ids_by, listed}
+use Rattle.mpi_model.specs.Layouts.{AreGroups}
+use Rattle.mpi_model.proofs.Groups.{first_distinct}
 
 -- what stands in front of as many
 pub front : (xs ys : List (Vec ℕ Global)) (n : ℕ) → length xs ≡ n → take n (xs ++ ys) ≡ xs
@@ -46,11 +47,19 @@ id_once rank comm (m ∷ ms) d = by (eqb m rank) refl (id_once rank comm ms (IsD
     by true e rest = ap (λ (l : List ℕ). comm ∷ l) (absent rank comm ms (subst (λ r. AllByRecursion (λ x. eqb r x ≡ false) ms) (eqb-true m rank e) (IsDistinct-head eqb m ms d)))
     by false e rest = rest
 
-pub ids_once : (ranks rank : ℕ) (gs : List Communicator) → All (λ g. IsGroup ranks g.members) gs → ids_by rank gs ≡ ids_with rank gs
+-- an id of an object with one group
+once_in : (ranks rank : ℕ) (g : Communicator) → AreGroups ranks g → id_in rank g ≡ cond (has_member rank g) (g.comm ∷ []) []
+once_in ranks rank g h = by (has_remote g) refl
+  where
+    by : (t : Bool) → has_remote g ≡ t → id_in rank g ≡ cond (has_member rank g) (g.comm ∷ []) []
+    by true e = rw (e, e) refl
+    by false e = rw (e, e) (id_once rank g.comm g.members (first_distinct ranks g h))
+
+pub ids_once : (ranks rank : ℕ) (gs : List Communicator) → All (AreGroups ranks) gs → ids_by rank gs ≡ ids_with rank gs
 ids_once ranks rank [] h = refl
 ids_once ranks rank (g ∷ gs) h =
-    let here = id_once rank g.comm g.members (All-head (λ (c : Communicator). IsGroup ranks c.members) g gs h).distinct in
-    ap (λ (l : List ℕ). l ++ ids_by rank gs) here ∙ by (has_member rank g) (ids_once ranks rank gs (All-tail (λ (c : Communicator). IsGroup ranks c.members) g gs h))
+    let here = once_in ranks rank g (All-head (AreGroups ranks) g gs h) in
+    ap (λ (l : List ℕ). l ++ ids_by rank gs) here ∙ by (has_member rank g) (ids_once ranks rank gs (All-tail (AreGroups ranks) g gs h))
   where
     by : (t : Bool) → ids_by rank gs ≡ ids_with rank gs → cond t (g.comm ∷ []) [] ++ ids_by rank gs ≡ ids (cond t (g ∷ filter (has_member rank) gs) (filter (has_member rank) gs))
     by true rest = ap (λ (l : List ℕ). g.comm ∷ l) rest

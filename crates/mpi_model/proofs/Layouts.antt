@@ -9,12 +9,12 @@ use Rattle.std.specs.List.Sorted.{IsNonDecreasing, IsNonDecreasingBy, IsStrictly
 use Rattle.mpi_model.specs.declared.layout.Sends.{Sends}
 use Rattle.mpi_model.specs.declared.object.Object.TheVariants.{Communicator as a_communicator}
 use Rattle.mpi_model.specs.declared.layout.fault.LayoutFault.TheVariants.{CommCount}
-use Rattle.mpi_model.specs.Communicators.{Communicator, InOrder, has_double, members_of, object_of_comm, ids}
-use Rattle.mpi_model.specs.Layouts.{IsGroup, IsLayout, comm_fault, fault_of, has_double_member, has_stranger, has_world, has_wrong_numbers, is_empty_group, is_some_communicator, is_some_whole}
+use Rattle.mpi_model.specs.Communicators.{Communicator, InOrder, all_members, has_double, has_remote, ids, one_of}
+use Rattle.mpi_model.specs.Layouts.{AreGroups, IsLayout, comm_fault, fault_of, has_double_member, has_stranger, has_world, has_wrong_numbers, is_empty_group}
 use Rattle.mpi_model.specs.declared.object.Object.{Object}
 use Rattle.mpi_model.specs.declared.object.Object.TheVariants.{Window, File}
 use Rattle.mpi_model.specs.Names.{has_clash, has_clash_of}
-use Rattle.mpi_model.proofs.Communicators.{all_groups, and_true, communicator_world, distinct, or_false, whole_world}
+use Rattle.mpi_model.proofs.Communicators.{all_groups, distinct, or_false, world_is}
 
 -- the numbers of ranks and of communicators are allowed
 pub within : (ranks world : ℕ) (gs : List Communicator) → 0 < ranks → ranks ≤ 1024 → length gs ≤ 65536 → fault_of ranks world gs ≡ comm_fault ranks world gs
@@ -34,10 +34,9 @@ too_many ranks world gs some few long =
 record Passes (ranks world : ℕ) (gs : List Communicator) : Type 0 where
   pub single : has_double (ids gs) ≡ false
   pub full : list_any is_empty_group gs ≡ false
-  pub in_range : list_any (λ g. has_stranger ranks g.members) gs ≡ false
+  pub in_range : list_any (λ g. has_stranger ranks (all_members g)) gs ≡ false
   pub no_double : list_any has_double_member gs ≡ false
-  pub world_there : is_some_whole ranks (members_of gs world) ≡ true
-  pub world_object : is_some_communicator (object_of_comm gs world) ≡ true
+  pub world_there : has_world ranks world gs ≡ true
   pub clear : has_clash gs ≡ false
 
 passes_by : {F : Type 0} (a b c d e m n : Bool) (f g h i j k : F)
@@ -54,17 +53,16 @@ passes_by false false false false false m n f g h i j k h' = cc
 
 passes : (ranks world : ℕ) (gs : List Communicator) → comm_fault ranks world gs ≡ None → Passes ranks world gs
 passes ranks world gs n =
-    let all = passes_by (has_double (ids gs)) (list_any is_empty_group gs) (list_any (λ g. has_stranger ranks g.members) gs) (list_any has_double_member gs) (has_world ranks world gs)
+    let all = passes_by (has_double (ids gs)) (list_any is_empty_group gs) (list_any (λ g. has_stranger ranks (all_members g)) gs) (list_any has_double_member gs) (has_world ranks world gs)
     (list_any has_wrong_numbers gs) (has_clash gs) _ _ _ _ _ _ n in
-    let of_world = and_true (is_some_communicator (object_of_comm gs world)) (is_some_whole ranks (members_of gs world)) all.4 in
-    record { single = all.0; full = all.1; in_range = all.2; no_double = all.3; world_there = of_world.1; world_object = of_world.0; clear = all.5 }
+    record { single = all.0; full = all.1; in_range = all.2; no_double = all.3; world_there = all.4; clear = all.5 }
 
 flips : (x y : ℕ) → eqb x y ≡ eqb y x
 flips x y = grind (arith, common_steps)
 
 never_falls : (gs : List Communicator) → IsNonDecreasingBy (λ g. g.comm) gs → IsNonDecreasing (ids gs)
 never_falls gs up i j d le lt =
-    let none : Communicator = record { comm = 0; object = a_communicator; members = []; numbers = [] } in
+    let none : Communicator = record { comm = 0; object = a_communicator; members = []; remote = []; numbers = [] } in
     let in_list : j < length gs = grind (arith, common_steps, lt) in
     rw (get_or-map (λ (g : Communicator). g.comm) gs i none d (omega (arith, le, in_list)), get_or-map (λ (g : Communicator). g.comm) gs j none d in_list) (up i j none le in_list)
 
@@ -77,14 +75,17 @@ pub layout_known : (ranks world : ℕ) (sends : Sends) (given sorted : List Comm
     → comm_fault ranks world given ≡ None → InOrder given sorted → IsLayout (record { ranks = ranks; world = world; sends = sends; comms = sorted })
 layout_known ranks world sends given sorted some few short n o =
     let p = passes ranks world given n in
+    let w = world_is ranks (one_of given world) p.world_there in
+    let found = o.found world in
     record {
       some_rank = some;
       few_ranks = few;
       few_comms = omega (arith, length_permutation given sorted o.same);
       rising = rising given sorted o p.single;
-      groups = All-permutation (λ g. IsGroup ranks g.members) given sorted o.same (all_groups ranks given p.full p.in_range p.no_double);
-      world = ap (option_map (λ (g : Communicator). g.members)) (o.found world) ∙ whole_world ranks (members_of given world) p.world_there;
-      world_object = ap (option_map (λ (g : Communicator). g.object)) (o.found world) ∙ communicator_world (object_of_comm given world) p.world_object;
+      groups = All-permutation (AreGroups ranks) given sorted o.same (all_groups ranks given p.full p.in_range p.no_double);
+      world = ap (option_map all_members) found ∙ w.members;
+      world_object = ap (option_map (λ (g : Communicator). g.object)) found ∙ w.object;
+      world_group = ap (option_map has_remote) found ∙ w.group;
     }
 
 -- no two names of objects of one sort clash

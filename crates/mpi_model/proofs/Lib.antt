@@ -4,6 +4,7 @@ mod EachKind
 mod Communicators
 mod Known
 mod Layouts
+mod Groups
 mod Names
 mod Neighbours
 mod Orders

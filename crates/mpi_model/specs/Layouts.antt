@@ -1,5 +1,5 @@
 -- What a layout is, and why there is none.
-use Rattle.std.specs.Prelude.{◌≡◌, ◌<◌, ◌≤◌, ℕ, ◌+◌, ◌==◌, ◌&&◌, ◌||◌, Bool, true, false, not, List, [], ◌∷◌, Option, Some, None, All, eqb, nat_lt, nat_le, length, if◌then◌else◌}
+use Rattle.std.specs.Prelude.{◌≡◌, ◌<◌, ◌≤◌, ℕ, ◌+◌, ◌==◌, ◌&&◌, ◌||◌, Bool, true, false, not, List, [], ◌∷◌, Option, Some, None, option_map, All, eqb, nat_lt, nat_le, length, if◌then◌else◌}
 use Rattle.std.specs.List.{list_any, IsDistinct, range_with_len}
 use Rattle.std.specs.List.Sorted.{IsPermutation, IsStrictlyIncreasing}
 use Rattle.mpi_model.specs.declared.layout.Sends.{Sends}
@@ -12,7 +12,7 @@ use Rattle.mpi_model.specs.declared.object.Object.{Object}
 use Rattle.mpi_model.specs.declared.object.Object.TheVariants.{Communicator as a_communicator}
 use Rattle.mpi_model.specs.Kinds.{object_number}
 use Rattle.mpi_model.specs.declared.envelope.CommRef.TheVariants as comms
-use Rattle.mpi_model.specs.Communicators.{Communicator, has_double, ids, members_of, object_of_comm}
+use Rattle.mpi_model.specs.Communicators.{Communicator, all_members, has_double, has_remote, ids, members_of, object_of_comm, one_of}
 use Rattle.mpi_model.specs.Names.{has_clash, numbered}
 
 -- what a layout holds
@@ -28,26 +28,31 @@ pub record IsGroup (ranks : ℕ) (members : List ℕ) : Type 0 where
   pub in_range : All (λ r. r < ranks) members
   pub distinct : IsDistinct eqb members
 
+-- The groups of an object: together they are one, and the first has a rank. So has the remote one, where it is there.
+pub record AreGroups (ranks : ℕ) (g : Communicator) : Type 0 where
+  pub all : IsGroup ranks (all_members g)
+  pub first : 0 < length g.members
+
 -- What holds of every layout. The world is a communicator of all ranks, in their order (MPI 4.0, 11.2).
 pub record IsLayout (l : Parts) : Type 0 where
   pub some_rank : 0 < l.ranks
   pub few_ranks : l.ranks ≤ MOST_RANKS
   pub few_comms : length l.comms ≤ MOST_COMMS
   pub rising : IsStrictlyIncreasing (ids l.comms)
-  pub groups : All (λ g. IsGroup l.ranks g.members) l.comms
+  pub groups : All (AreGroups l.ranks) l.comms
   pub world : members_of l.comms l.world ≡ Some (range_with_len 0 l.ranks)
   pub world_object : object_of_comm l.comms l.world ≡ Some a_communicator
+  pub world_group : option_map has_remote (one_of l.comms l.world) ≡ Some false
 
--- The layout holds what was given: the same communicators, each with its members and numbers.
+-- The layout holds what was given: the same communicators, each with its groups and numbers.
 pub record Holds (ranks world : ℕ) (sends : Sends) (given : List Communicator) (l : Parts) : Type 0 where
   pub same_ranks : l.ranks ≡ ranks
   pub same_world : l.world ≡ world
   pub same_sends : l.sends ≡ sends
   pub same_comms : IsPermutation given l.comms
-  pub members : (comm : ℕ) → members_of l.comms comm ≡ members_of given comm
-  pub objects : (comm : ℕ) → object_of_comm l.comms comm ≡ object_of_comm given comm
+  pub found : (comm : ℕ) → one_of l.comms comm ≡ one_of given comm
 
--- a communicator without members
+-- a communicator whose group has no rank
 abbrev pub is_empty_group : Communicator → Bool
 is_empty_group g = length g.members == 0
 
@@ -57,7 +62,7 @@ has_stranger ranks members = list_any (λ r. nat_le ranks r) members
 
 -- a communicator that has a rank twice
 abbrev pub has_double_member : Communicator → Bool
-has_double_member g = has_double g.members
+has_double_member g = has_double (all_members g)
 
 -- the numbers are first, first + 1, and so on
 abbrev pub counts_from : ℕ → List ℕ → Bool
@@ -68,19 +73,18 @@ counts_from first (x ∷ xs) = (x == first) && counts_from (first + 1) xs
 abbrev pub is_whole : ℕ → List ℕ → Bool
 is_whole ranks members = (length members == ranks) && counts_from 0 members
 
--- there is a list, and it is that of all ranks in their order
-abbrev pub is_some_whole : ℕ → Option (List ℕ) → Bool
-is_some_whole ranks None = false
-is_some_whole ranks (Some members) = is_whole ranks members
+-- a communicator of one group, which has all ranks in order
+abbrev pub is_world : ℕ → Communicator → Bool
+is_world ranks g = (object_number g.object == object_number a_communicator) && (not (has_remote g) && is_whole ranks g.members)
 
--- there is an object, and it is a communicator
-abbrev pub is_some_communicator : Option Object → Bool
-is_some_communicator None = false
-is_some_communicator (Some object) = object_number object == object_number a_communicator
+-- there is such a one
+abbrev pub is_some_world : ℕ → Option Communicator → Bool
+is_some_world ranks None = false
+is_some_world ranks (Some g) = is_world ranks g
 
--- the world is there, is a communicator, and has all ranks in order
+-- the world is there, is a communicator of one group, and has all ranks in order
 abbrev pub has_world : ℕ → ℕ → List Communicator → Bool
-has_world ranks world gs = is_some_communicator (object_of_comm gs world) && is_some_whole ranks (members_of gs world)
+has_world ranks world gs = is_some_world ranks (one_of gs world)
 
 -- there is an end, and it comes before a call
 abbrev pub ends_before : Option ℕ → ℕ → Bool
@@ -94,7 +98,7 @@ is_backward (Some s) = ends_before s.end s.first
 
 -- the numbers are neither absent nor one for each member, or some stretch ends before its first call
 abbrev pub has_wrong_numbers : Communicator → Bool
-has_wrong_numbers g = not ((length g.numbers == 0) || (length g.numbers == length g.members)) || list_any is_backward g.numbers
+has_wrong_numbers g = not ((length g.numbers == 0) || (length g.numbers == length (all_members g))) || list_any is_backward g.numbers
 
 -- the numbers are wrong, or some rank gives a number two meanings in one call
 abbrev pub number_fault : List Communicator → Option LayoutFault
@@ -105,7 +109,7 @@ abbrev pub comm_fault : ℕ → ℕ → List Communicator → Option LayoutFault
 comm_fault ranks world gs =
     if has_double (ids gs) then Some DoubleComm
     else if list_any is_empty_group gs then Some EmptyComm
-    else if list_any (λ g. has_stranger ranks g.members) gs then Some MemberRange
+    else if list_any (λ g. has_stranger ranks (all_members g)) gs then Some MemberRange
     else if list_any has_double_member gs then Some DoubleMember
     else if has_world ranks world gs then number_fault gs
     else Some World

@@ -11,6 +11,7 @@ pub mod Communicators
 pub mod Names
 pub mod Starts
 pub mod Layouts
+pub mod Memberships
 pub mod Held
 pub mod Devices
 pub mod Trusts

@@ -8,7 +8,7 @@ use Rattle.mpi_model.specs.declared.layout.names.Name.{Name}
 use Rattle.mpi_model.specs.declared.object.Object.{Object}
 use Rattle.mpi_model.specs.declared.object.Object.TheVariants.{Communicator as a_communicator, Window, File}
 use Rattle.mpi_model.specs.Kinds.{object_number}
-use Rattle.mpi_model.specs.Communicators.{Communicator, has_pair}
+use Rattle.mpi_model.specs.Communicators.{Communicator, all_members, has_pair}
 
 -- a call comes before the end, where there is one
 abbrev pub is_before : ℕ → Option ℕ → Bool
@@ -58,7 +58,7 @@ is_of object g = object_number g.object == object_number object
 
 -- by which numbers, and in which calls, the members of an object of this sort name it
 abbrev pub names_in : Object → Communicator → List Name
-names_in object g = if is_of object g then names_with g.comm g.members g.numbers else []
+names_in object g = if is_of object g then names_with g.comm (all_members g) g.numbers else []
 
 -- all names of the objects of a sort
 abbrev pub names_of : Object → List Communicator → List Name

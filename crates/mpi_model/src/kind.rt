@@ -4,7 +4,7 @@ ghost use Rattle.std.specs.Prelude.{◌≡◌, ◌↔◌, IsTrue, SomeIff, nat_e
 ghost use Rattle.std.proofs.Common.{rules};
 ghost use Rattle.std.specs.Cmp.Rules.{comparing};
 ghost use Rattle.std.specs.Ordering.{on};
-ghost use Rattle.mpi_model.specs.Kinds.{all_kinds, row, has_nonblocking, has_root, is_function, kind_number, kind_of, function_name, short_name};
+ghost use Rattle.mpi_model.specs.Kinds.{all_kinds, row, has_nonblocking, has_root, is_function, is_of_intercomm, kind_number, kind_of, function_name, short_name};
 
 use crate::kind::table::{KINDS, ROWS};
 use crate::object::Object;
@@ -113,6 +113,8 @@ pub enum Kind {
     CommSetInfo,
     WinSetInfo,
     FileSetInfo,
+    // (MPI 4.0, 7.6)
+    IntercommMerge,
 }
 
 /// Which parameters may name the object of a call: the first of them that the call has does.
@@ -126,6 +128,8 @@ pub enum ObjectParameter {
     CommOld,
     /// `local_comm`
     LocalComm,
+    /// `intercomm`, an intercommunicator
+    Intercomm,
     /// `win`
     Win,
     /// `fh`, `file`
@@ -221,6 +225,13 @@ impl Kind {
         ensures { result ≡ has_root self }
     {
         matches!(self.row().category, Category::OneToAll | Category::AllToOne)
+    }
+
+    /// Whether a call of this kind has a meaning on an intercommunicator alone.
+    pub fn is_of_intercomm(self) -> bool
+        ensures { result ≡ is_of_intercomm self }
+    {
+        matches!(self.row().parameter, ObjectParameter::Intercomm)
     }
 
     /// Whether the kind has a nonblocking function.

@@ -1,17 +1,18 @@
 //! The layout of a run: its ranks, its communicators, windows and files, and how its sends complete.
 
-ghost use Rattle.std.specs.Prelude.{◌≡◌, ◌≢◌, ◌==◌, ◌<◌, ◌≤◌, IfOk, IfErr, IfSome, OnOk, Some, None, nat_lt, option_and_then, option_map, slice_get};
-ghost use Rattle.std.specs.List.{position_from};
-ghost use Rattle.mpi_model.specs.Communicators.{communicators, ids_with, members_of, object_of_comm};
+ghost use Rattle.std.specs.Prelude.{◌≡◌, ◌≢◌, ◌<◌, ◌≤◌, IfOk, IfErr, IfSome, OnOk, Some, None, nat_lt, option_map, slice_get};
+ghost use Rattle.mpi_model.specs.Communicators.{communicators, ids_with, members_of, object_of_comm, one_of, peers_of, rank_in};
+ghost use Rattle.mpi_model.specs.Memberships.{plain_peers};
 ghost use Rattle.mpi_model.specs.Names.{numbered};
 ghost use Rattle.mpi_model.specs.Layouts.{Holds, IsGroup, IsLayout, fault_of, named};
 ghost use Rattle.mpi_model.specs.declared.layout.TheConstants.{MOST_RANKS};
 ghost use Rattle.mpi_model.specs.declared.layout.fault.LayoutFault.TheVariants.{Memory};
 
 use crate::envelope::CommRef;
-use crate::layout::comm::{Comm, comms_of, copies, in_order, members_in, object_in, place_of};
+use crate::layout::comm::{Comm, comms_of};
 use crate::layout::fault::LayoutFault;
 use crate::layout::held::{held_by, held_copied, held_in};
+use crate::layout::membership::{Membership, Peers, copies, in_order, memberships, one_in, place_of};
 use crate::layout::names::ordered_names;
 use crate::layout::numbering::Numbering;
 use crate::layout::rules::{SortedNames, fault_in};
@@ -22,6 +23,7 @@ use std::marker::Model;
 pub(crate) mod comm;
 pub(crate) mod fault;
 mod held;
+pub(crate) mod membership;
 mod names;
 mod numbering;
 mod rules;
@@ -48,12 +50,12 @@ pub struct Layout {
     ranks: u32,
     world: u32,
     sends: Sends,
-    comms: Vec<Comm>,
+    comms: Vec<Membership>,
     // by which numbers ranks name the objects of each sort
     communicators: Numbering,
     windows: Numbering,
     files: Numbering,
-    // the objects that hold each rank
+    // the objects of one group that hold each rank
     held: Vec<Vec<u32>>,
 }
 
@@ -114,6 +116,7 @@ impl Layout {
         if comms.len() > MOST_COMMS {
             return Err(LayoutFault::CommCount);
         }
+        let comms = memberships(alloc, comms)?;
         let communicators = ordered_names(alloc, Object::Communicator, &comms)?;
         let windows = ordered_names(alloc, Object::Window, &comms)?;
         let files = ordered_names(alloc, Object::File, &comms)?;
@@ -197,19 +200,42 @@ impl Layout {
     }
 
     /// The members of a communicator, window or file, ranks of the run in the order of their ranks
-    /// in it. It halves the objects: where many questions are asked of one, keep the slice.
+    /// in it: of an intercommunicator those of both groups, the remote one last. It halves the
+    /// objects: where many questions are asked of one, keep the slice.
     pub fn members(&self, comm: u32) -> Option<&[u32]>
         ensures value { option_map (λ m. m.now) result ≡ members_of self.now.comms comm }
         ensures group { IfSome result (λ m. IsGroup self.now.ranks m.now) }
     {
-        members_in(&self.comms, comm)
+        Some(one_in(&self.comms, comm)?.members())
+    }
+
+    /// The ranks of an object's group, and of an intercommunicator those of its first one.
+    pub fn first_group(&self, comm: u32) -> Option<&[u32]>
+        ensures { option_map (λ m. m.now) result ≡ option_map (λ g. g.members) (one_of self.now.comms comm) }
+    {
+        Some(one_in(&self.comms, comm)?.first_group())
+    }
+
+    /// The ranks of the remote group of an intercommunicator: no ranks of all else.
+    pub fn remote_group(&self, comm: u32) -> Option<&[u32]>
+        ensures { option_map (λ m. m.now) result ≡ option_map (λ g. g.remote) (one_of self.now.comms comm) }
+    {
+        Some(one_in(&self.comms, comm)?.remote_group())
+    }
+
+    /// The ranks that the calls of a member name by their ranks in the communicator.
+    pub fn peers(&self, comm: u32, rank: u32) -> Option<Peers<'_>>
+        ensures value { option_map plain_peers result ≡ peers_of self.now.comms comm rank }
+        ensures group { IfSome result (λ p. IsGroup self.now.ranks p.ranks.now) }
+    {
+        Some(one_in(&self.comms, comm)?.peers(rank))
     }
 
     /// The sort of the object of this id.
     pub fn object(&self, comm: u32) -> Option<Object>
         ensures { result ≡ object_of_comm self.now.comms comm }
     {
-        object_in(&self.comms, comm)
+        Some(one_in(&self.comms, comm)?.object())
     }
 
     /// The object that a call of a rank names: the world for each rank of the run, or the one of
@@ -242,14 +268,15 @@ impl Layout {
         rank < self.ranks
     }
 
-    /// The rank in a communicator of a rank of the run, where it is a member.
+    /// The rank in its group of a rank of the run, where it is a member.
     pub fn rank_in(&self, comm: u32, rank: u32) -> Option<u32>
-        ensures { result ≡ option_and_then (position_from (λ r. r == rank) 0) (members_of self.now.comms comm) }
+        ensures { result ≡ rank_in self.now.comms comm rank }
     {
-        place_of(members_in(&self.comms, comm)?, rank)
+        place_of(one_in(&self.comms, comm)?.own_group(rank), rank)
     }
 
-    /// The ids of the communicators, windows and files that hold the rank, in rising order.
+    /// The ids of the communicators, windows and files of one group that hold the rank, in rising
+    /// order: no intercommunicator is among them.
     pub fn comms_with(&self, alloc: Global, rank: u32) -> Result<Vec<u32>, AllocError>
         ensures { IfOk result (λ v. v.items ≡ ids_with rank self.now.comms) }
     {

@@ -44,6 +44,7 @@ pub use event::{Event, Exit, OpName};
 pub use kind::{Category, CollectiveFunction, Kind, KindRow, ObjectParameter, each_kind};
 pub use layout::comm::{Comm, Stretch};
 pub use layout::fault::LayoutFault;
+pub use layout::membership::Peers;
 pub use layout::{Layout, MOST_COMMS, MOST_RANKS, Sends};
 pub use list::{Element, Elements, NULL_REQUEST, Requests, Sources};
 pub use memory::{EndlessReader, MemoryReader, MemoryWriter};

@@ -46,6 +46,16 @@ abbrev pub numbers_field : List (Option Stretch) → Members
 numbers_field [] = no_members
 numbers_field (e ∷ es) = member (codes "numbers") (array (items_of entry_value (e ∷ es))) no_members
 
+-- the field of the remote group, where there is one, before other fields
+abbrev pub with_remote : List ℕ → Members → Members
+with_remote [] others = others
+with_remote (r ∷ rs) others = member (codes "remote") (array (items_of number_of (r ∷ rs))) others
+
+-- the tokens of that field
+abbrev pub remote_tokens : List ℕ → List Token
+remote_tokens [] = []
+remote_tokens (r ∷ rs) = tokens.key (codes "remote") ∷ json_tokens (array (items_of number_of (r ∷ rs)))
+
 -- the field of an object's sort, where it is no communicator, before other fields
 abbrev pub with_object : Object → Members → Members
 with_object sorts.Communicator others = others
@@ -58,9 +68,10 @@ object_tokens sorts.Communicator = []
 object_tokens sorts.Window = tokens.key (codes "object") ∷ tokens.string (codes "window") ∷ []
 object_tokens sorts.File = tokens.key (codes "object") ∷ tokens.string (codes "file") ∷ []
 
--- `{"id":C,"object":"window","members":[..],"numbers":[..]}`, without the second field for a communicator
+-- `{"id":C,"object":"window","members":[..],"numbers":[..]}`, without the second field for a communicator; with `"remote":[..]` behind
+-- the members for an intercommunicator
 abbrev pub communicator_value : Communicator → Json
-communicator_value g = object (member (codes "id") (number_of g.comm) (with_object g.object (member (codes "members") (array (items_of number_of g.members)) (numbers_field g.numbers))))
+communicator_value g = object (member (codes "id") (number_of g.comm) (with_object g.object (member (codes "members") (array (items_of number_of g.members)) (with_remote g.remote (numbers_field g.numbers)))))
 
 -- how sends of standard mode complete
 abbrev pub sends_word : Sends → List ℕ

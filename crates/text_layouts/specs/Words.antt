@@ -1,5 +1,5 @@
 -- What is said of a layout that was made.
-use Rattle.std.specs.Prelude.{◌-◌, ℕ, List, [], ◌++◌, Option, Some, None, length, codes, decimal, nat_lt, take, if◌then◌else◌}
+use Rattle.std.specs.Prelude.{◌-◌, ℕ, List, [], ◌∷◌, ◌++◌, Option, Some, None, length, codes, decimal, nat_lt, take, if◌then◌else◌}
 use Rattle.std.specs.List.{flat_map}
 use Rattle.call_words.specs.More.{more_text}
 use Rattle.call_words.specs.Ranges.{named_ranks_text}
@@ -15,9 +15,14 @@ use Rattle.text_layouts.specs.declared.words.TheConstants.{MOST_SHOWN}
 abbrev pub counts_text : ℕ → ℕ → List ℕ
 counts_text ranks calls = codes "ranks: " ++ decimal ranks ++ codes ", calls: " ++ decimal calls ++ codes "\n"
 
--- `  5: ranks 0, 2`, the members in their order
+-- `; remote ranks 1, 3`, where there is a remote group
+abbrev pub remote_text : List ℕ → List ℕ
+remote_text [] = []
+remote_text (r ∷ rs) = codes "; remote " ++ named_ranks_text (r ∷ rs)
+
+-- `  5: ranks 0, 2`, the members in their order, and the remote group, where there is one
 abbrev pub comm_text : Communicator → List ℕ
-comm_text g = codes "  " ++ decimal g.comm ++ codes ": " ++ named_ranks_text g.members ++ codes "\n"
+comm_text g = codes "  " ++ decimal g.comm ++ codes ": " ++ named_ranks_text g.members ++ remote_text g.remote ++ codes "\n"
 
 -- how many communicators there are, and the first twenty of them
 abbrev pub comms_text : List Communicator → List ℕ

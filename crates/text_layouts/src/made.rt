@@ -48,11 +48,13 @@ fn copy_of(alloc: Global, comm: &Comm) -> Result<Comm, AllocError>
     ensures { IfOk result (λ c. c ≡ comm.now) }
 {
     let members = copy_of_members(alloc, &comm.members)?;
+    let remote = copy_of_members(alloc, &comm.remote)?;
     let numbers = copy_of_numbers(alloc, &comm.numbers)?;
     Ok(Comm {
         id: comm.id,
         object: comm.object,
         members,
+        remote,
         numbers,
     })
 }

@@ -4,7 +4,7 @@ ghost use Rattle.std.specs.Prelude.{◌≡◌, ◌-◌, length, take};
 ghost use Rattle.std.specs.List.{flat_map};
 ghost use Rattle.call_words.specs.Texts.{Adds};
 ghost use Rattle.text_layouts.specs.declared.words.TheConstants.{MOST_SHOWN};
-ghost use Rattle.text_layouts.specs.Words.{comm_text, comms_text, counts_text, function_text, given_text, left_out_text, left_text, notes_text, some_left_text, why_text};
+ghost use Rattle.text_layouts.specs.Words.{comm_text, remote_text, comms_text, counts_text, function_text, given_text, left_out_text, left_text, notes_text, some_left_text, why_text};
 
 use call_words::{Text, put_more, put_named_ranks};
 use comm_makings::{Derived, LeftOut, MadeBy, Why};
@@ -24,7 +24,17 @@ fn shown<T>(items: &[T]) -> &[T]
     }
 }
 
-/// `  5: ranks 0, 2`, the members in their order.
+/// `; remote ranks 1, 3`, where there is a remote group.
+fn put_remote(out: &mut Text, remote: &[u32])
+    ensures { Adds out.old out.new (remote_text remote.now) }
+{
+    if !remote.is_empty() {
+        out.put(b"; remote ");
+        put_named_ranks(out, remote);
+    }
+}
+
+/// `  5: ranks 0, 2`, the members in their order, and the remote group, where there is one.
 fn put_comm(out: &mut Text, comm: &Comm)
     ensures { Adds out.old out.new (comm_text comm.now) }
 {
@@ -32,6 +42,7 @@ fn put_comm(out: &mut Text, comm: &Comm)
     out.put_number(comm.id as u64);
     out.put(b": ");
     put_named_ranks(out, &comm.members);
+    put_remote(out, &comm.remote);
     out.put(b"\n");
 }
 

@@ -8,25 +8,27 @@ use Rattle.mpi_model.specs.Calls.{comm_of, object_of}
 use Rattle.mpi_model.specs.declared.object.Object.{Object}
 use Rattle.mpi_model.specs.declared.call.Call.{Call}
 use Rattle.mpi_model.specs.declared.call.Call.TheVariants as calls
-use Rattle.mpi_model.specs.Kinds.{has_root}
+use Rattle.mpi_model.specs.Kinds.{has_root, is_of_intercomm}
 use Rattle.mpi_model.specs.Ranges.{CollectiveCall}
-use Rattle.mpi_model.specs.Communicators.{members_of}
+use Rattle.mpi_model.specs.Communicators.{peers_of}
 use Rattle.mpi_model.specs.Layouts.{Parts, named}
 
--- The group of an object, and the object's id in the layout: ranks of the trace in the order of their ranks in the group (MPI
--- 4.0, 7.2.1).
+-- The group whose ranks a rank's calls on an object name, and the object's id in the layout: ranks of the trace in the order of
+-- their ranks in the group (MPI 4.0, 7.2.1). It is the other group of an intercommunicator (7.6), and else the one that the rank
+-- is in.
 pub record Group : Type 0 where
   pub comm : ℕ
   pub members : List ℕ
+  pub is_other : Bool
 
--- the group of the object that has this id in the layout
-abbrev pub group_at : Parts → ℕ → Option Group
-group_at layout comm = option_map (λ members. record { comm = comm; members = members }) (members_of layout.comms comm)
+-- the group of a rank's peers on the object that has this id in the layout
+abbrev pub group_at : Parts → ℕ → ℕ → Option Group
+group_at layout rank comm = option_map (λ p. record { comm = comm; members = p.ranks; is_other = p.are_other }) (peers_of layout.comms comm rank)
 
--- The group of the object of this sort that call n of a rank names. It has one just where the layout says that the rank, which
+-- The group on the object of this sort that call n of a rank names. It has one just where the layout says that the rank, which
 -- is then a member, names an object of the sort so in that call.
 abbrev pub group_named : Parts → ℕ → ℕ → Object → CommRef → Option Group
-group_named layout rank n object comm = option_and_then (group_at layout) (named layout rank n object comm)
+group_named layout rank n object comm = option_and_then (group_at layout rank) (named layout rank n object comm)
 
 -- the rank in the group that a peer names
 abbrev pub peer_rank : Peer → Option ℕ
@@ -44,26 +46,31 @@ is_within members (Some n) = nat_lt n (length members)
 abbrev pub is_root_within : List ℕ → CollectiveCall → Bool
 is_root_within members c = is_within members c.root && (is_some c.root || not (has_root c.kind))
 
+-- The collective call has a meaning in the group. On an intercommunicator it may name no root: `MPI_ROOT` says that the rank is
+-- the root, and `MPI_PROC_NULL` that another one of its own group is (MPI 4.0, 6.2.3). Some calls have a meaning there alone.
+abbrev pub is_collective_within : Group → CollectiveCall → Bool
+is_collective_within g c = if g.is_other then is_within g.members c.root else is_root_within g.members c && not (is_of_intercomm c.kind)
+
 -- the ranks that a call names, its peers or its root, are ranks in the group
-abbrev pub are_within : List ℕ → Call → Bool
-are_within members (calls.Send mode e) = is_within members (peer_rank e.peer)
-are_within members (calls.Isend mode e) = is_within members (peer_rank e.peer)
-are_within members (calls.Recv e) = is_within members (peer_rank e.peer)
-are_within members (calls.Irecv e) = is_within members (peer_rank e.peer)
-are_within members (calls.Sendrecv x) = is_within members (peer_rank x.send.peer) && is_within members (peer_rank x.receive.peer)
-are_within members (calls.Collective c) = is_root_within members c
-are_within members (calls.Icollective c) = is_root_within members c
-are_within members (calls.Probe e) = is_within members (peer_rank e.source)
-are_within members (calls.SendInit mode e) = is_within members (peer_rank e.peer)
-are_within members (calls.RecvInit e) = is_within members (peer_rank e.peer)
-are_within members (calls.Mprobe e) = is_within members (peer_rank e.source)
-are_within members (calls.Improbe e) = is_within members (peer_rank e.source)
-are_within members (calls.Iprobe e) = is_within members (peer_rank e.source)
-are_within members call = true
+abbrev pub are_within : Group → Call → Bool
+are_within g (calls.Send mode e) = is_within g.members (peer_rank e.peer)
+are_within g (calls.Isend mode e) = is_within g.members (peer_rank e.peer)
+are_within g (calls.Recv e) = is_within g.members (peer_rank e.peer)
+are_within g (calls.Irecv e) = is_within g.members (peer_rank e.peer)
+are_within g (calls.Sendrecv x) = is_within g.members (peer_rank x.send.peer) && is_within g.members (peer_rank x.receive.peer)
+are_within g (calls.Collective c) = is_collective_within g c
+are_within g (calls.Icollective c) = is_collective_within g c
+are_within g (calls.Probe e) = is_within g.members (peer_rank e.source)
+are_within g (calls.SendInit mode e) = is_within g.members (peer_rank e.peer)
+are_within g (calls.RecvInit e) = is_within g.members (peer_rank e.peer)
+are_within g (calls.Mprobe e) = is_within g.members (peer_rank e.source)
+are_within g (calls.Improbe e) = is_within g.members (peer_rank e.source)
+are_within g (calls.Iprobe e) = is_within g.members (peer_rank e.source)
+are_within g call = true
 
 -- the group, where the ranks that the call names are within it
 abbrev pub group_with : Call → Group → Option Group
-group_with call g = if are_within g.members call then Some g else None
+group_with call g = if are_within g call then Some g else None
 
 -- The group in which a call takes part: that of the object which it names, where its peers or its root are within.
 abbrev pub group_of : Parts → ℕ → ℕ → Call → Option Group

@@ -1,5 +1,5 @@
 -- The entries of a rank into collective calls (MPI 4.0, 6.1, 6.12 and 6.14).
-use Rattle.std.specs.Prelude.{ℕ, Bool, true, false, ◌&&◌, not, Option, Some, None, List}
+use Rattle.std.specs.Prelude.{ℕ, Bool, true, false, ◌&&◌, not, Option, Some, None, List, if◌then◌else◌}
 use Rattle.std.specs.List.{filter_map}
 use Rattle.mpi_model.specs.declared.call.Call.{Call}
 use Rattle.mpi_model.specs.declared.call.Call.TheVariants.{Collective, Icollective}
@@ -12,9 +12,14 @@ use Rattle.trace_ops.specs.declared.entered.Entered.{Entered}
 use Rattle.trace_ops.specs.Foreign.{Group, group_of}
 use Rattle.trace_ops.specs.Steps.{Step}
 
+-- The root of a call, as that of its round. On an intercommunicator the ranks of one round don't name one root (MPI 4.0, 6.2.3), so
+-- that none is told.
+abbrev pub root_in : Group → CollectiveCall → Option ℕ
+root_in g c = if g.is_other then None else c.root
+
 -- the entry of a collective call into a round of its object
 abbrev pub entry_of : Group → ℕ → CollectiveCall → Bool → Entered
-entry_of g n c nonblocking = record { comm = g.comm; function = record { kind = c.kind; nonblocking = nonblocking }; root = c.root; call = n }
+entry_of g n c nonblocking = record { comm = g.comm; function = record { kind = c.kind; nonblocking = nonblocking }; root = root_in g c; call = n }
 
 -- the entry of a call, where it is collective, blocking or not
 abbrev pub entered_by : Group → ℕ → Call → Option Entered

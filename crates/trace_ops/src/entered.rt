@@ -11,7 +11,7 @@ pub struct Entered {
     /// The id of its object in the layout: of a communicator, a window or a file.
     pub comm: u32,
     pub function: CollectiveFunction,
-    /// The root's rank in the group, where the kind has a root.
+    /// The root's rank in the group, where the kind has a root: none on an intercommunicator.
     pub root: Option<u32>,
     /// The number of the call in its rank.
     pub call: u64,

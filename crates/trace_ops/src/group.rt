@@ -1,21 +1,24 @@
 //! The objects that calls name, communicators, windows and files, and the calls that the layout doesn't know.
 
-ghost use Rattle.std.specs.Prelude.{◌≡◌};
-ghost use Rattle.trace_ops.specs.Foreign.{are_within, group_named, group_of, is_foreign, is_foreign_in, is_root_within, is_within, peer_rank};
-ghost use Rattle.trace_ops.specs.Groups.{IsWorldOf, plain_group};
+ghost use Rattle.std.specs.Prelude.{◌≡◌, if◌then◌else◌};
+ghost use Rattle.trace_ops.specs.Foreign.{are_within, is_collective_within, group_named, group_of, is_foreign, is_foreign_in, is_root_within, is_within, peer_rank};
+ghost use Rattle.trace_ops.specs.Groups.{IsWorldOf, plain, plain_group};
 
 use mpi_model::{Call, Collective, CommRef, Layout, Object, Peer};
 
-/// The group of an object: ranks of the trace in the order of their ranks in it (MPI 4.0,
-/// 7.2.1).
+/// The group whose ranks a rank's calls on an object name: ranks of the trace in the order of their
+/// ranks in it (MPI 4.0, 7.2.1). It is the other one of an intercommunicator (7.6), and else the one
+/// that the rank is in.
 #[derive(Clone, Copy, Debug)]
 pub(crate) struct Group<'a> {
     /// The object's id in the layout.
     pub comm: u32,
     pub members: &'a [u32],
+    /// Whether the object is an intercommunicator.
+    pub is_other: bool,
 }
 
-/// The group of the object of this sort that call `n` of the rank names, where the layout has one.
+/// The group on the object of this sort that call `n` of the rank names, where the layout has one.
 #[inline(always)]
 pub(crate) fn group_named<'a>(
     layout: &'a Layout,
@@ -27,8 +30,12 @@ pub(crate) fn group_named<'a>(
     ensures { plain_group result ≡ group_named layout.now rank n object comm }
 {
     let comm = layout.named(rank, n, object, comm)?;
-    let members = layout.members(comm)?;
-    Some(Group { comm, members })
+    let peers = layout.peers(comm, rank)?;
+    Some(Group {
+        comm,
+        members: peers.ranks,
+        is_other: peers.are_other,
+    })
 }
 
 /// The rank in the group that a peer names.
@@ -58,11 +65,24 @@ fn is_root_within(members: &[u32], c: Collective) -> bool
     is_within(members, c.root()) && (c.root().is_some() || !c.kind().has_root())
 }
 
+/// Whether a collective call has a meaning in the group: on an intercommunicator it may name no root,
+/// and some calls have none on any other object.
+fn is_collective_within(group: Group<'_>, c: Collective) -> bool
+    ensures { result ≡ is_collective_within (plain group.entry) c }
+{
+    if group.is_other {
+        is_within(group.members, c.root())
+    } else {
+        is_root_within(group.members, c) && !c.kind().is_of_intercomm()
+    }
+}
+
 /// Whether the ranks that a call names, its peers or its root, are ranks in the group.
 #[inline(always)]
-fn are_within(members: &[u32], call: &Call) -> bool
-    ensures { result ≡ are_within members.now call.now }
+fn are_within(group: Group<'_>, call: &Call) -> bool
+    ensures { result ≡ are_within (plain group.entry) call.now }
 {
+    let members = group.members;
     match call {
         Call::Send(_, e) | Call::Isend(_, e) | Call::SendInit(_, e) => {
             is_within(members, peer_rank(e.envelope().peer))
@@ -74,8 +94,8 @@ fn are_within(members: &[u32], call: &Call) -> bool
             is_within(members, peer_rank(both.send().peer))
                 && is_within(members, peer_rank(both.receive().peer))
         }
-        Call::Collective(c) => is_root_within(members, *c),
-        Call::Icollective(c) => is_root_within(members, c.call()),
+        Call::Collective(c) => is_collective_within(group, *c),
+        Call::Icollective(c) => is_collective_within(group, c.call()),
         Call::Probe(e) | Call::Mprobe(e) | Call::Improbe(e) | Call::Iprobe(e) => {
             is_within(members, peer_rank(e.source()))
         }
@@ -123,7 +143,7 @@ pub(crate) fn group_given_world<'a>(
     ensures { plain_group result ≡ group_of layout.now rank n call.now }
 {
     let group = named_given_world(layout, rank, n, call.object(), call.comm()?, world)?;
-    if are_within(group.members, call) {
+    if are_within(group, call) {
         Some(group)
     } else {
         None

@@ -4,7 +4,7 @@ ghost use Rattle.std.specs.Prelude.{◌≡◌, true, false};
 ghost use Rattle.trace_ops.specs.Fate.{OfPost};
 ghost use Rattle.trace_ops.specs.Groups.{plain, plain_group};
 ghost use Rattle.trace_ops.specs.Message.{message_in, message_to, sent_by, sent_with, tag_of};
-ghost use Rattle.trace_ops.specs.Round.{entered_by, entered_in, entry_of};
+ghost use Rattle.trace_ops.specs.Round.{entered_by, entered_in, entry_of, root_in};
 ghost use Rattle.trace_ops.specs.Steps.{starting};
 
 use crate::entered::Entered;
@@ -95,6 +95,14 @@ pub(crate) fn message_in(
     sent_by(group?, name, call, fate)
 }
 
+/// The root of a call, as that of its round: none on an intercommunicator, where the ranks of one round
+/// don't name one root (MPI 4.0, 6.2.3).
+fn root_in(group: Group<'_>, c: Collective) -> Option<u32>
+    ensures { result ≡ root_in (plain group.entry) c }
+{
+    if group.is_other { None } else { c.root() }
+}
+
 /// The entry of a blocking collective call into a round of its object.
 fn entry_of_blocking(group: Group<'_>, n: u64, c: Collective) -> Entered
     ensures { result ≡ entry_of (plain group.entry) n c false }
@@ -102,7 +110,7 @@ fn entry_of_blocking(group: Group<'_>, n: u64, c: Collective) -> Entered
     Entered {
         comm: group.comm,
         function: c.function(),
-        root: c.root(),
+        root: root_in(group, c),
         call: n,
     }
 }
@@ -114,7 +122,7 @@ fn entry_of_nonblocking(group: Group<'_>, n: u64, c: NonblockingCollective) -> E
     Entered {
         comm: group.comm,
         function: c.function(),
-        root: c.call().root(),
+        root: root_in(group, c.call()),
         call: n,
     }
 }

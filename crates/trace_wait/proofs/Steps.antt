@@ -1,5 +1,5 @@
 -- One element more, at the end of a list.
-use Rattle.std.proofs.Common.{◌≡◌, ℕ, ◌+◌, ◌<◌, ◌≤◌, eq-eqb, Bool, true, false, List, [], ◌∷◌, ◌++◌, map, take, get_or, refl, sym, ◌∙◌, ap, arith, length, ℤ, zero, suc}
+use Rattle.std.proofs.Common.{◌≡◌, ℕ, ◌+◌, ◌<◌, ◌≤◌, eq-eqb, Bool, true, false, List, [], ◌∷◌, ◌++◌, map, take, get_or, drop, refl, sym, ◌∙◌, ap, arith, length, ℤ, zero, suc}
 use Rattle.std.specs.Prelude.{◌==◌, not, nat_lt, slice_index, if◌then◌else◌, Option}
 use Rattle.std.specs.Option.{option_map}
 use Rattle.std.proofs.lemmas.Bool.Decides.{nat_tests}
@@ -66,6 +66,13 @@ front_at f xs zero i lt = absurd (omega (arith, lt))
 front_at f [] (suc n) i lt = refl
 front_at f (x ∷ xs) (suc n) zero lt = refl
 front_at f (x ∷ xs) (suc n) (suc i) lt = front_at f xs n i (omega (arith, lt))
+
+-- what is told of a member is told of it among those from a place on
+pub part_at : (f : ℕ → ℕ) (xs : List ℕ) (n i j : ℕ) → j ≡ n + i → slice_index (map f xs) j ≡ slice_index (map f (drop n xs)) i
+part_at f xs zero i j e = let same : j ≡ i = omega (arith, e) in ap (slice_index (map f xs)) same
+part_at f [] (suc n) i j e = refl
+part_at f (x ∷ xs) (suc n) i zero e = absurd (omega (arith, e))
+part_at f (x ∷ xs) (suc n) i (suc j) e = part_at f xs n i j (omega (arith, e))
 
 -- the first members, up to one that is this rank, or all
 pub lower_is : (members : List ℕ) (r i : ℕ) → i ≤ length members → ((k : ℕ) → k < i → get_or members k 0 ≡ r → ⊥) → (i < length members → get_or members i 0 ≡ r) →

@@ -4,7 +4,7 @@ use Rattle.std.specs.Prelude.{slice_get, ◌==◌, eqb, cond, unwrap_or, slice_i
 use Rattle.std.specs.List.{find}
 use Rattle.std.specs.Option.{option_map}
 use Rattle.std.proofs.lemmas.Bool.Decides.{nat_tests}
-use Rattle.mpi_model.specs.Communicators.{Communicator, members_of}
+use Rattle.mpi_model.specs.Communicators.{Communicator, all_members, members_of}
 use Rattle.trace_ops.specs.Ops.{Ops}
 use Rattle.trace_wait.specs.Calls.{CallsOn, calls_of, counts, table, row_of}
 
@@ -25,10 +25,10 @@ module _ (comms : List Communicator) (ops : List Ops) where
   no_row (g ∷ gs) c h =
       ⊎_elim
       (λ (e : eqb g.comm c ≡ true).
-      let k : option_map (λ (g : Communicator). g.members) (cond true (Some g) (find (λ g. g.comm == c) gs)) ≡ None =
-      subst (λ (b : Bool). option_map (λ (g : Communicator). g.members) (cond b (Some g) (find (λ g. g.comm == c) gs)) ≡ None) e h in absurd (cc))
+      let k : option_map all_members (cond true (Some g) (find (λ g. g.comm == c) gs)) ≡ None =
+      subst (λ (b : Bool). option_map all_members (cond b (Some g) (find (λ g. g.comm == c) gs)) ≡ None) e h in absurd (cc))
       (λ (e : eqb g.comm c ≡ false).
-      let k : members_of gs c ≡ None = subst (λ (b : Bool). option_map (λ (g : Communicator). g.members) (cond b (Some g) (find (λ g. g.comm == c) gs)) ≡ None) e h in
+      let k : members_of gs c ≡ None = subst (λ (b : Bool). option_map all_members (cond b (Some g) (find (λ g. g.comm == c) gs)) ≡ None) e h in
       subst (λ (b : Bool). in_row (cond b (Some (record { comm = g.comm; calls = counts comms ops g.comm })) (find (λ t. t.comm == c) (table comms ops gs))) ≡ []) (sym e) (no_row gs c k))
       (two_cases (eqb g.comm c))
 
@@ -40,7 +40,7 @@ module _ (comms : List Communicator) (ops : List Ops) where
       subst (λ (b : Bool). in_row (cond b (Some (record { comm = g.comm; calls = counts comms ops g.comm })) (find (λ t. t.comm == c) (table comms ops gs))) ≡ counts comms ops c) (sym e)
       (ap (counts comms ops) (same_comm g.comm c e)))
       (λ (e : eqb g.comm c ≡ false).
-      let k : members_of gs c ≡ Some m = subst (λ (b : Bool). option_map (λ (g : Communicator). g.members) (cond b (Some g) (find (λ g. g.comm == c) gs)) ≡ Some m) e h in
+      let k : members_of gs c ≡ Some m = subst (λ (b : Bool). option_map all_members (cond b (Some g) (find (λ g. g.comm == c) gs)) ≡ Some m) e h in
       subst (λ (b : Bool). in_row (cond b (Some (record { comm = g.comm; calls = counts comms ops g.comm })) (find (λ t. t.comm == c) (table comms ops gs))) ≡ counts comms ops c) (sym e) (some_row gs c m k))
       (two_cases (eqb g.comm c))
 

@@ -17,7 +17,8 @@ use Rattle.trace_wait.specs.declared.round.Standing.{Standing}
 use Rattle.trace_wait.specs.declared.round.Standing.TheVariants.{Mismatched, Complete, Partial}
 use Rattle.trace_ops.specs.Ops.{Ops}
 use Rattle.trace_wait.specs.Ranks.{ops_of}
-use Rattle.trace_wait.specs.Parts.{Run, members}
+use Rattle.trace_ops.specs.Round.{is_barrier_kind}
+use Rattle.trace_wait.specs.Parts.{Run, are_other, members, peers}
 
 -- the rank has entered round k of communicator c
 abbrev pub has_entered : Run → ℕ → ℕ → ℕ → Bool
@@ -129,6 +130,19 @@ may_be_owed_nothing sends.Buffer kind = (row kind).may_be_owed_nothing
 abbrev pub by_kind : Run → ℕ → Entered → ℕ → waits.Wait
 by_kind s r e k = if may_be_owed_nothing s.layout.sends e.function.kind then OnNothing else by_category s r e k
 
+-- What a call on an intercommunicator waits for. Under `wait` all members of both groups that have not entered. Under `buffer`,
+-- in a Barrier the peers, since a rank leaves it when all of the other group have entered (MPI 4.0, 6.3), and else nothing.
+abbrev pub between_groups : Run → ℕ → Entered → ℕ → waits.Wait
+between_groups s r e k = by s.layout.sends
+  where
+    by : Sends → waits.Wait
+    by sends.Wait = absent s e.comm k
+    by sends.Buffer = if is_barrier_kind e.function.kind then absent_of s e.comm k (peers s e.comm r) else OnNothing
+
+-- what a call waits for, by its kind, or on an intercommunicator
+abbrev pub by_object : Run → ℕ → Entered → ℕ → waits.Wait
+by_object s r e k = if are_other s e.comm r then between_groups s r e k else by_kind s r e k
+
 -- the number of the round that a call of the rank entered: so many calls of it on the communicator came before
 abbrev pub round_number : Ops → Entered → ℕ
 round_number o e = count_by (λ d. (d.comm == e.comm) && nat_lt d.call e.call) o.rounds
@@ -139,7 +153,7 @@ round_of_call o n = option_map (λ e. record { object = e.comm; k = round_number
 
 -- what a call waits for by its round
 abbrev pub round_part : Run → ℕ → Entered → ℕ → waits.Wait
-round_part s r e k = if is_mismatched s e.comm k then mismatched_part s e.comm k else by_kind s r e k
+round_part s r e k = if is_mismatched s e.comm k then mismatched_part s e.comm k else by_object s r e k
 
 -- Call n of the rank, where it is collective, or the request that it posted. None was entered where it is local.
 abbrev pub collective_of_call : Run → ℕ → Ops → ℕ → waits.Wait

@@ -1,5 +1,5 @@
 -- The parts of which conditions are made: a send, a receive, a probe.
-use Rattle.std.specs.Prelude.{ℕ, Bool, true, false, ◌==◌, ◌&&◌, ◌||◌, Option, Some, None, is_some, List, [], map, unwrap_or, if◌then◌else◌}
+use Rattle.std.specs.Prelude.{◌≡◌, ℕ, drop, length, take, Bool, true, false, ◌==◌, ◌&&◌, ◌||◌, Option, Some, None, is_some, List, [], map, unwrap_or, if◌then◌else◌}
 use Rattle.std.specs.List.{list_any, find}
 use Rattle.mpi_model.specs.Layouts.{Parts}
 use Rattle.mpi_model.specs.Communicators.{members_of}
@@ -16,6 +16,7 @@ use Rattle.trace_wait.specs.declared.round.Round.{Round}
 use Rattle.trace_ops.specs.Ops.{Ops}
 use Rattle.trace_pair.specs.Table.{taken_by, given_by}
 use Rattle.mpi_model.specs.Fit.{envelopes_fit, fits}
+use Rattle.trace_wait.specs.Groups.{are_other_on, peers_on}
 use Rattle.trace_wait.specs.Matching.{may_take, unpaired_messages, unpaired_receives}
 
 -- what the conditions are made from
@@ -25,9 +26,21 @@ pub record Run : Type 0 where
   pub pairs : List Pair
   pub rounds : List Round
 
--- the members of a communicator, as trace ranks in group order
+-- the members of a communicator, as trace ranks in group order: those of both groups of an intercommunicator
 abbrev pub members : Run → ℕ → List ℕ
 members s c = unwrap_or (members_of s.layout.comms c) []
+
+-- the peers of a rank on a communicator, as trace ranks in group order
+abbrev pub peers : Run → ℕ → ℕ → List ℕ
+peers s c r = peers_on s.layout.comms c r
+
+-- they are another group than the rank's: the communicator has two
+abbrev pub are_other : Run → ℕ → ℕ → Bool
+are_other s c r = are_other_on s.layout.comms c r
+
+-- The peers of the rank stand side by side among all members, from this place on.
+abbrev pub IsFirstPeer : Run → ℕ → ℕ → ℕ → Type 0
+IsFirstPeer s c r first = peers s c r ≡ take (length (peers s c r)) (drop first (members s c))
 
 -- the send is buffered, or it is standard or ready where sends are buffered
 abbrev pub is_buffered : Sends → Mode → Bool
@@ -46,13 +59,13 @@ may_send s m = is_buffered s.layout.sends m.mode || is_some (taken_by s.pairs m.
 abbrev pub send_part : Run → Message → Wait
 send_part s m = if may_send s m then OnNothing else OnRank m.to
 
--- the source that a receive waits for: the told one, or one of all members
+-- the source that a receive waits for: the told one, or one of all peers
 abbrev pub source_part : Run → Receive → Wait
 source_part s q = from q.source
   where
     from : Option ℕ → Wait
     from (Some r) = OnRank r
-    from None = OnOne (waits_of (map OnRank (members s q.comm)))
+    from None = OnOne (waits_of (map OnRank (peers s q.comm q.at)))
 
 -- A receive may go on where it is paired, or an unpaired message fits it; else it waits for its source.
 abbrev pub may_receive : Run → Receive → Bool

@@ -1,10 +1,10 @@
 //! The conditions of collective calls, a function for each row of their table.
 
-ghost use Rattle.std.specs.Prelude.{Some, IfSome, take, length, ◌≤◌, option_map, ◌≡◌, ◌++◌, ◌∷◌, [], if◌then◌else◌, slice_get, IfOk, OnOk};
-ghost use Rattle.trace_wait.specs.Parts.{members};
+ghost use Rattle.std.specs.Prelude.{Some, IfSome, take, drop, length, ◌≤◌, option_map, ◌≡◌, ◌++◌, ◌∷◌, [], if◌then◌else◌, slice_get, IfOk, OnOk};
+ghost use Rattle.trace_wait.specs.Parts.{members, peers};
 ghost use Rattle.trace_stuck.specs.Shape.{shape};
 ghost use Rattle.trace_wait.specs.Ranks.{IsOfRank};
-ghost use Rattle.trace_wait.specs.Collectives.{has_entered, missing, absent, absent_of, lower, other_side, scanned, root_first, root_rank, from_root, to_root, by_category, may_be_owed_nothing, by_kind, round_part, collective_of_call};
+ghost use Rattle.trace_wait.specs.Collectives.{has_entered, missing, absent, absent_of, lower, other_side, scanned, root_first, root_rank, from_root, to_root, by_category, may_be_owed_nothing, by_kind, between_groups, by_object, round_part, collective_of_call};
 
 use crate::counts::has_more;
 use crate::entries::entered_at;
@@ -25,21 +25,23 @@ fn push_missing(has_entered: bool, r: u32, ranks: &mut Vec<u32>) -> Result<(), A
     Ok(())
 }
 
-/// Those of the ranks that have not entered. They are the first members of the group.
+/// Those of the ranks that have not entered. They stand side by side among all members, from the
+/// place `first` on.
 fn missing(
     alloc: Global,
     run: &Overview,
     comm: u32,
     k: u64,
+    first: usize,
     ranks: &[u32],
 ) -> Result<Vec<u32>, AllocError>
-    requires { ranks.now ≡ take (length ranks.now) (members run.now comm) }
+    requires { ranks.now ≡ take (length ranks.now) (drop first (members run.now comm)) }
     ensures { IfOk result (λ found. found.items ≡ missing run.now comm k ranks.now) }
 {
     let mut found = Vec::new(alloc);
     let calls = run.calls_on(comm);
     for (place, r) in ranks.iter().enumerate() {
-        push_missing(has_more(calls, place, k), *r, &mut found)?;
+        push_missing(has_more(calls, first + place, k), *r, &mut found)?;
     }
     Ok(found)
 }
@@ -50,12 +52,13 @@ fn absent_of(
     run: &Overview,
     comm: u32,
     k: u64,
+    first: usize,
     ranks: &[u32],
 ) -> Result<Condition, AllocError>
-    requires { ranks.now ≡ take (length ranks.now) (members run.now comm) }
+    requires { ranks.now ≡ take (length ranks.now) (drop first (members run.now comm)) }
     ensures { IfOk result (λ c. shape c ≡ absent_of run.now comm k ranks.now) }
 {
-    let found = missing(alloc, run, comm, k, ranks)?;
+    let found = missing(alloc, run, comm, k, first, ranks)?;
     Ok(Condition::all_ranks(Arc::new(alloc, found)?))
 }
 
@@ -63,7 +66,7 @@ fn absent_of(
 fn absent(alloc: Global, run: &Overview, comm: u32, k: u64) -> Result<Condition, AllocError>
     ensures { IfOk result (λ c. shape c ≡ absent run.now comm k) }
 {
-    absent_of(alloc, run, comm, k, run.members(comm))
+    absent_of(alloc, run, comm, k, 0, run.members(comm))
 }
 
 /// The members of lower ranks in the group.
@@ -101,7 +104,7 @@ fn scanned(
 {
     match run.layout.sends() {
         Sends::Wait => absent(alloc, run, comm, k),
-        Sends::Buffer => absent_of(alloc, run, comm, k, lower(run.members(comm), r)),
+        Sends::Buffer => absent_of(alloc, run, comm, k, 0, lower(run.members(comm), r)),
     }
 }
 
@@ -227,6 +230,56 @@ fn by_kind(
     }
 }
 
+/// All peers of the rank that have not entered.
+fn absent_peers(
+    alloc: Global,
+    run: &Overview,
+    r: u32,
+    comm: u32,
+    k: u64,
+) -> Result<Condition, AllocError>
+    ensures { IfOk result (λ c. shape c ≡ absent_of run.now comm k (peers run.now comm r)) }
+{
+    let first = run.first_peer(comm, r);
+    absent_of(alloc, run, comm, k, first, run.peers(comm, r))
+}
+
+/// What a call on an intercommunicator waits for (MPI 4.0, 6.2.3 and 6.3).
+fn between_groups(
+    alloc: Global,
+    run: &Overview,
+    r: u32,
+    entered: &Entered,
+    k: u64,
+) -> Result<Condition, AllocError>
+    ensures { IfOk result (λ c. shape c ≡ between_groups run.now r entered.now k) }
+{
+    match run.layout.sends() {
+        Sends::Wait => absent(alloc, run, entered.comm, k),
+        Sends::Buffer => match entered.function.kind() {
+            Kind::Barrier => absent_peers(alloc, run, r, entered.comm, k),
+            _ => Ok(Condition::yes()),
+        },
+    }
+}
+
+/// What a call waits for, by its kind, or on an intercommunicator.
+fn by_object(
+    alloc: Global,
+    run: &Overview,
+    r: u32,
+    entered: &Entered,
+    k: u64,
+) -> Result<Condition, AllocError>
+    ensures { IfOk result (λ c. shape c ≡ by_object run.now r entered.now k) }
+{
+    if run.are_other(entered.comm, r) {
+        between_groups(alloc, run, r, entered, k)
+    } else {
+        by_kind(alloc, run, r, entered, k)
+    }
+}
+
 /// What a call waits for by its round.
 fn round_part(
     alloc: Global,
@@ -240,7 +293,7 @@ fn round_part(
     if run.is_mismatched(entered.comm, k) {
         Ok(run.mismatched_part(entered.comm, k))
     } else {
-        by_kind(alloc, run, r, entered, k)
+        by_object(alloc, run, r, entered, k)
     }
 }
 

@@ -16,7 +16,7 @@
 //! - [`entries`]: collective calls by communicator, found by halves; [`counts`]: how many each member has entered
 //! - [`round`]: how a round stands; [`tally`]: the rounds of all communicators
 //! - [`sets`], [`paired`], [`unpaired`], [`mismatch`]: what is looked up for the conditions; [`overview`]: all of it together
-//! - [`groups`]: the members of each communicator, in one list that all conditions share
+//! - [`groups`]: the groups of each communicator, in lists that all conditions share
 //! - [`posts`]: the message and the receive of a name; [`active`]: which operation a request stands for, and
 //!   which numbers are idle
 //! - [`parts`]: what a send, a receive and a probe wait for; [`collective`]: a collective call;

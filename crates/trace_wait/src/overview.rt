@@ -6,7 +6,7 @@ ghost use Rattle.mpi_model.specs.Fit.{envelopes_fit, fits};
 ghost use Rattle.trace_pair.specs.Table.{taken_by, given_by};
 ghost use Rattle.trace_ops.specs.Order.{AreEntered};
 ghost use Rattle.trace_wait.specs.Matching.{may_take, unpaired_messages, unpaired_receives};
-ghost use Rattle.trace_wait.specs.Parts.{members};
+ghost use Rattle.trace_wait.specs.Parts.{IsFirstPeer, are_other, members, peers};
 ghost use Rattle.trace_wait.specs.Patterns.{offers, pattern_of};
 ghost use Rattle.trace_wait.specs.Calls.{counts};
 ghost use Rattle.trace_wait.specs.Collectives.{is_mismatched, mismatched_part, round_number};
@@ -15,7 +15,7 @@ ghost use Rattle.trace_wait.specs.Ranks.{ops_of};
 
 use crate::counts::{CommCalls, row_of};
 use crate::entries::Entries;
-use crate::groups::{Group, shared_members};
+use crate::groups::{Group, shared_peers};
 use crate::mismatch::Mismatches;
 use crate::round::Round;
 use crate::unpaired::Pattern;
@@ -31,7 +31,7 @@ use trace_stuck::{Condition, RoundName};
 /// The whole run, and what was gathered of it to be looked up: its pairs by their receives, which messages are in no pair, which
 /// of them were cancelled, when the receives end that are in no pair, which messages come after which
 /// receives, which rounds are mismatched, how many calls each member has entered and which, and the
-/// members of each communicator in a list to be shared.
+/// groups of each communicator in lists to be shared.
 #[derive(Drop)]
 pub(crate) struct Overview<'a> {
     pub layout: &'a Layout,
@@ -46,6 +46,7 @@ pub(crate) struct Overview<'a> {
     pub mismatched: &'a Mismatches<'a>,
     pub calls: &'a [CommCalls],
     pub groups: &'a [Group],
+    pub remotes: &'a [Group],
     pub entries: &'a Entries<'a>,
 }
 
@@ -69,7 +70,8 @@ impl<'a> Model for Overview<'a> {
         × (AreLast (free_receives s.ops.now s.pairs.now.pairs) s.asked.now)
         × (s.mismatched.now ≡ s.rounds.now)
         × (s.calls.now ≡ table s.layout.now.comms s.ops.now s.layout.now.comms)
-        × (AreGroups s.layout.now.comms s.groups.now)
+        × (AreGroups false s.layout.now.comms s.groups.now)
+        × (AreGroups true s.layout.now.comms s.remotes.now)
         × ((p : Named) → contains pattern_cmp s.withdrawn.now p ≡ list_any (λ m. offers true m p) (unpaired_messages s.ops.now s.pairs.now.pairs))
         × (s.reaches.now ≡ s.ops.now)
         × (s.entries.now ≡ s.ops.now)
@@ -87,11 +89,57 @@ impl<'a> Overview<'a> {
         }
     }
 
-    /// The members of a communicator, in a list that all conditions share.
-    pub fn shared_members(&self, alloc: Global, comm: u32) -> Result<Arc<Vec<u32>>, AllocError>
-        ensures { IfOk result (λ list. list.value.items ≡ members self.now comm) }
+    /// The peers of a rank on a communicator, in a list that all conditions share.
+    pub fn shared_peers(
+        &self,
+        alloc: Global,
+        comm: u32,
+        rank: u32,
+    ) -> Result<Arc<Vec<u32>>, AllocError>
+        ensures { IfOk result (λ list. list.value.items ≡ peers self.now comm rank) }
     {
-        shared_members(alloc, self.layout, self.groups, comm)
+        shared_peers(
+            alloc,
+            self.layout,
+            self.groups,
+            self.remotes,
+            comm,
+            rank,
+        )
+    }
+
+    /// The peers of a rank on a communicator, as trace ranks in group order.
+    pub fn peers(&self, comm: u32, rank: u32) -> &[u32]
+        ensures { result.now ≡ peers self.now comm rank }
+    {
+        match self.layout.peers(comm, rank) {
+            Some(peers) => peers.ranks,
+            None => &[],
+        }
+    }
+
+    /// The place of the first peer of a rank among all members of the communicator.
+    pub fn first_peer(&self, comm: u32, rank: u32) -> usize
+        ensures { IsFirstPeer self.now comm rank result }
+    {
+        match self.layout.peers(comm, rank) {
+            Some(peers) => if peers.are_remote {
+                self.members(comm).len() - peers.ranks.len()
+            } else {
+                0
+            },
+            None => 0,
+        }
+    }
+
+    /// Whether the communicator has another group than the rank's.
+    pub fn are_other(&self, comm: u32, rank: u32) -> bool
+        ensures { result ≡ are_other self.now comm rank }
+    {
+        match self.layout.peers(comm, rank) {
+            Some(peers) => peers.are_other,
+            None => false,
+        }
     }
 
     /// How many calls on the communicator each of its members has entered.

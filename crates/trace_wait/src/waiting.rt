@@ -13,7 +13,7 @@ ghost use Rattle.trace_wait.specs.Ranks.{IsOfRank};
 use crate::collective::collective_of_call;
 use crate::counts::all_calls;
 use crate::entries::entries_of;
-use crate::groups::groups_of;
+use crate::groups::{groups_of, remotes_of};
 use crate::mismatch::mismatched_rounds;
 use crate::overview::Overview;
 use crate::parts::{probe_part, receive_of_call, send_of_call};
@@ -164,6 +164,7 @@ fn conditions_gathered(
     let entries = entries_of(alloc, ops)?;
     let calls = all_calls(alloc, layout, &entries)?;
     let groups = groups_of(alloc, layout)?;
+    let remotes = remotes_of(alloc, layout)?;
     let run = Overview {
         layout,
         ops,
@@ -177,6 +178,7 @@ fn conditions_gathered(
         mismatched: &mismatched,
         calls: &calls,
         groups: &groups,
+        remotes: &remotes,
         entries: &entries,
     };
     let of_polls = asked_of_all(alloc, &run, ops, polls)?;

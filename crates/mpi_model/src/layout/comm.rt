@@ -1,9 +1,8 @@
-//! One communicator, window or file of a layout, and the look-up of them and of ranks in them.
+//! One communicator, window or file, as it is given to a layout.
 
-ghost use Rattle.std.specs.Prelude.{◌≡◌, ◌==◌, ◌<◌, ◌^◌, IfOk, length, option_map, slice_get};
-ghost use Rattle.std.specs.List.{position_from};
-ghost use Rattle.std.specs.List.Sorted.{IsStrictlyIncreasing};
-ghost use Rattle.mpi_model.specs.Communicators.{InOrder, communicators, ids, members_of, object_of_comm, one_of};
+ghost use Rattle.std.specs.Prelude.{◌≡◌, [], IfOk};
+ghost use Rattle.mpi_model.specs.Communicators.{communicators};
+ghost use Rattle.mpi_model.specs.declared.object.Object.TheVariants.{Communicator};
 
 use crate::object::Object;
 use std::alloc::{AllocError, Global};
@@ -25,8 +24,10 @@ pub struct Comm {
     pub id: u32,
     pub object: Object,
     pub members: Vec<u32>,
-    /// For each member, by which number its own calls name the object, where they do. With no
-    /// entry at all each member names it by its id.
+    /// The other group of an intercommunicator (MPI 4.0, 7.6). All else has none here.
+    pub remote: Vec<u32>,
+    /// For each member, and then for each rank of the remote group, by which number its own calls
+    /// name the object, where they do. With no entry at all each of them names it by its id.
     pub numbers: Vec<Option<Stretch>>,
 }
 
@@ -35,48 +36,21 @@ impl Model for Comm {
 
     ghost Value = { Communicator };
 
-    ghost view = { λ c. record { comm = c.id; object = c.object; members = c.members.items; numbers = c.numbers.items } };
+    ghost view = { λ c. record { comm = c.id; object = c.object; members = c.members.items; remote = c.remote.items; numbers = c.numbers.items } };
 }
 
 impl Comm {
-    pub(crate) fn new(
-        id: u32,
-        object: Object,
-        members: Vec<u32>,
-        numbers: Vec<Option<Stretch>>,
-    ) -> Comm
-        ensures { result ≡ record { comm = id; object = object; members = members.items; numbers = numbers.items } }
+    /// A communicator of one group, which all members name by its id.
+    fn of_members(alloc: Global, id: u32, members: Vec<u32>) -> Comm
+        ensures { result ≡ record { comm = id; object = Communicator; members = members.items; remote = []; numbers = [] } }
     {
         Comm {
             id,
-            object,
+            object: Object::Communicator,
             members,
-            numbers,
+            remote: Vec::new(alloc),
+            numbers: Vec::new(alloc),
         }
-    }
-
-    pub(crate) fn id(&self) -> u32
-        ensures { result ≡ self.now.comm }
-    {
-        self.id
-    }
-
-    pub(crate) fn object(&self) -> Object
-        ensures { result ≡ self.now.object }
-    {
-        self.object
-    }
-
-    pub(crate) fn members(&self) -> &[u32]
-        ensures { result.now ≡ self.now.members }
-    {
-        &self.members
-    }
-
-    pub(crate) fn numbers(&self) -> &[Option<Stretch>]
-        ensures { result.now ≡ self.now.numbers }
-    {
-        &self.numbers
     }
 }
 
@@ -86,123 +60,7 @@ pub(crate) fn comms_of(alloc: Global, given: Vec<(u32, Vec<u32>)>) -> Result<Vec
 {
     let mut comms = Vec::with_capacity(alloc, given.len())?;
     for (id, members) in given {
-        comms.push(Comm::new(id, Object::Communicator, members, Vec::new(alloc)))?;
+        comms.push(Comm::of_members(alloc, id, members))?;
     }
     Ok(comms)
-}
-
-/// The same communicators in rising order.
-pub(crate) fn in_order(given: Vec<Comm>) -> Result<Vec<Comm>, AllocError>
-    ensures { IfOk result (λ v. InOrder given.items v.items) }
-{
-    let mut comms = given;
-    comms.sort_by_key(|comm| comm.id())?;
-    Ok(comms)
-}
-
-fn copy_of_numbers(
-    alloc: Global,
-    numbers: &[Option<Stretch>],
-) -> Result<Vec<Option<Stretch>>, AllocError>
-    ensures { IfOk result (λ v. v.items ≡ numbers.now) }
-{
-    let mut copy = Vec::with_capacity(alloc, numbers.len())?;
-    for number in numbers {
-        copy.push(*number)?;
-    }
-    Ok(copy)
-}
-
-fn copy_of_members(alloc: Global, members: &[u32]) -> Result<Vec<u32>, AllocError>
-    ensures { IfOk result (λ v. v.items ≡ members.now) }
-{
-    let mut copy = Vec::new(alloc);
-    copy.extend_from_slice(members)?;
-    Ok(copy)
-}
-
-fn copy_of(alloc: Global, comm: &Comm) -> Result<Comm, AllocError>
-    ensures { IfOk result (λ c. c ≡ comm.now) }
-{
-    let members = copy_of_members(alloc, comm.members())?;
-    let numbers = copy_of_numbers(alloc, comm.numbers())?;
-    Ok(Comm::new(comm.id(), comm.object(), members, numbers))
-}
-
-/// A copy of the communicators.
-pub(crate) fn copies(alloc: Global, comms: &[Comm]) -> Result<Vec<Comm>, AllocError>
-    ensures { IfOk result (λ v. v.items ≡ comms.now) }
-{
-    let mut all = Vec::with_capacity(alloc, comms.len())?;
-    for comm in comms {
-        all.push(copy_of(alloc, comm)?)?;
-    }
-    Ok(all)
-}
-
-/// The members of the communicator of this id, in a list in any order.
-pub(crate) fn members_among(comms: &[Comm], comm: u32) -> Option<&[u32]>
-    ensures { option_map (λ m. m.now) result ≡ members_of comms.now comm }
-{
-    for candidate in comms {
-        if candidate.id() == comm {
-            return Some(candidate.members());
-        }
-    }
-    None
-}
-
-/// The place of the communicator of this id, found by halves; where it is absent, one behind
-/// the last.
-fn place_in(comms: &[Comm], comm: u32) -> usize
-    requires { IsStrictlyIncreasing (ids comms.now) }
-    ensures { slice_get comms.now result ≡ one_of comms.now comm }
-{
-    match comms.binary_search_by_key(&comm, |candidate| candidate.id()) {
-        Ok(at) => at,
-        Err(_) => comms.len(),
-    }
-}
-
-/// The members of the communicator of this id, found by halves.
-pub(crate) fn members_in(comms: &[Comm], comm: u32) -> Option<&[u32]>
-    requires { IsStrictlyIncreasing (ids comms.now) }
-    ensures { option_map (λ m. m.now) result ≡ members_of comms.now comm }
-{
-    Some(comms.get(place_in(comms, comm))?.members())
-}
-
-/// The sort of the object of this id, in a list in any order.
-pub(crate) fn object_among(comms: &[Comm], comm: u32) -> Option<Object>
-    ensures { result ≡ object_of_comm comms.now comm }
-{
-    for candidate in comms {
-        if candidate.id() == comm {
-            return Some(candidate.object());
-        }
-    }
-    None
-}
-
-/// The sort of the object of this id, found by halves.
-pub(crate) fn object_in(comms: &[Comm], comm: u32) -> Option<Object>
-    requires { IsStrictlyIncreasing (ids comms.now) }
-    ensures { result ≡ object_of_comm comms.now comm }
-{
-    Some(comms.get(place_in(comms, comm))?.object())
-}
-
-/// The place of a rank among the members.
-pub(crate) fn place_of(members: &[u32], rank: u32) -> Option<u32>
-    requires { length members.now < 2 ^ 32 }
-    ensures { result ≡ position_from (λ r. r == rank) 0 members.now }
-{
-    let mut place = 0;
-    for member in members {
-        if *member == rank {
-            return Some(place);
-        }
-        place += 1;
-    }
-    None
 }

@@ -1,10 +1,10 @@
-//! The communicators that hold each rank, listed for all ranks at once.
+//! The communicators of one group that hold each rank, listed for all ranks at once.
 
 ghost use Rattle.std.specs.Prelude.{◌≡◌, ◌++◌, ◌∷◌, ◌<◌, ℕ, [], All, IfOk, OnOk, length, map, vec_len};
-ghost use Rattle.mpi_model.specs.Held.{AreHeld, id_by, ids_by, listed};
-ghost use Rattle.mpi_model.specs.Layouts.{IsGroup};
+ghost use Rattle.mpi_model.specs.Held.{AreHeld, id_by, id_in, ids_by, listed};
+ghost use Rattle.mpi_model.specs.Layouts.{AreGroups};
 
-use crate::layout::comm::Comm;
+use crate::layout::membership::Membership;
 use std::alloc::{AllocError, Global};
 
 /// A list for each rank, without ids.
@@ -39,24 +39,36 @@ fn add_to_lists(lists: &mut [Vec<u32>], comm: u32, members: &[u32]) -> Result<()
     Ok(())
 }
 
+/// Adds the id of a communicator to the lists of its members, where it has one group.
+fn add_one(lists: &mut [Vec<u32>], comm: &Membership) -> Result<(), AllocError>
+    requires { AreGroups (length lists.old) comm.now }
+    ensures { OnOk result ((rank : ℕ) → listed lists.new rank ≡ listed lists.old rank ++ id_in rank comm.now) }
+{
+    if comm.has_remote() {
+        Ok(())
+    } else {
+        add_to_lists(lists, comm.id(), comm.first_group())
+    }
+}
+
 /// Adds the ids of the communicators, each to the lists of its members.
-fn add_all(lists: &mut [Vec<u32>], comms: &[Comm]) -> Result<(), AllocError>
-    requires { All (λ g. IsGroup (length lists.old) g.members) comms.now }
+fn add_all(lists: &mut [Vec<u32>], comms: &[Membership]) -> Result<(), AllocError>
+    requires { All (AreGroups (length lists.old)) comms.now }
     ensures { OnOk result ((rank : ℕ) → listed lists.new rank ≡ listed lists.old rank ++ ids_by rank comms.now) }
 {
     for comm in comms {
-        add_to_lists(lists, comm.id(), comm.members())?;
+        add_one(lists, comm)?;
     }
     Ok(())
 }
 
-/// For each rank, the ids of the communicators that hold it, in the order of the list.
+/// For each rank, the ids of the communicators of one group that hold it, in the order of the list.
 pub(crate) fn held_in(
     alloc: Global,
-    comms: &[Comm],
+    comms: &[Membership],
     ranks: u32,
 ) -> Result<Vec<Vec<u32>>, AllocError>
-    requires { All (λ g. IsGroup ranks g.members) comms.now }
+    requires { All (AreGroups ranks) comms.now }
     ensures { IfOk result (λ v. AreHeld comms.now v.items) }
 {
     let mut lists = empty_lists(alloc, ranks)?;

@@ -7,7 +7,8 @@ ghost use Rattle.mpi_model.specs.Communicators.{has_pair};
 ghost use Rattle.mpi_model.specs.Names.{AreOrdered, PrecedeUpTo, always, clashes, has_calls, holds, is_before, is_name, is_of, name_by, names_by_id, names_by_numbers, names_in, names_of, precedes, shares};
 ghost use Rattle.mpi_model.specs.Starts.{AreStarts, IsStart};
 
-use crate::layout::comm::{Comm, Stretch};
+use crate::layout::comm::Stretch;
+use crate::layout::membership::Membership;
 use crate::object::Object;
 use std::alloc::{AllocError, Global};
 
@@ -137,14 +138,14 @@ fn push_by_numbers(
 }
 
 /// Whether an object is of this sort.
-fn is_of(object: Object, comm: &Comm) -> bool
+fn is_of(object: Object, comm: &Membership) -> bool
     ensures { result ≡ is_of object comm.now }
 {
     comm.object().number() == object.number()
 }
 
 /// Adds by which numbers, and in which calls, the members of an object of this sort name it.
-fn push_names(object: Object, comm: &Comm, names: &mut Vec<Name>) -> Result<(), AllocError>
+fn push_names(object: Object, comm: &Membership, names: &mut Vec<Name>) -> Result<(), AllocError>
     ensures { OnOk result (names.new.items ≡ names.old.items ++ names_in object comm.now) }
 {
     if !is_of(object, comm) {
@@ -158,7 +159,7 @@ fn push_names(object: Object, comm: &Comm, names: &mut Vec<Name>) -> Result<(), 
 }
 
 /// All names of the objects of a sort.
-fn all_names(alloc: Global, object: Object, comms: &[Comm]) -> Result<Vec<Name>, AllocError>
+fn all_names(alloc: Global, object: Object, comms: &[Membership]) -> Result<Vec<Name>, AllocError>
     ensures { IfOk result (λ names. names.items ≡ names_of object comms.now) }
 {
     let mut names = Vec::new(alloc);
@@ -172,7 +173,7 @@ fn all_names(alloc: Global, object: Object, comms: &[Comm]) -> Result<Vec<Name>,
 pub(crate) fn ordered_names(
     alloc: Global,
     object: Object,
-    comms: &[Comm],
+    comms: &[Membership],
 ) -> Result<Vec<Name>, AllocError>
     ensures same { IfOk result (λ names. IsPermutation (names_of object comms.now) names.items) }
     ensures order { IfOk result (λ names. AreOrdered names.items) }

@@ -1,15 +1,16 @@
 //! The rules that the communicators of a layout keep, each a test of the list as it was given.
 
-ghost use Rattle.std.specs.Prelude.{◌≡◌, ◌==◌, IfOk, false, option_map};
+ghost use Rattle.std.specs.Prelude.{◌≡◌, ◌==◌, IfOk, false};
 ghost use Rattle.std.specs.List.{list_any};
 ghost use Rattle.std.specs.List.Sorted.{IsNonDecreasing, IsPermutation};
-ghost use Rattle.mpi_model.specs.Communicators.{has_double, ids};
-ghost use Rattle.mpi_model.specs.Layouts.{comm_fault, ends_before, has_double_member, has_stranger, has_world, has_wrong_numbers, is_some_communicator, is_backward, is_empty_group, is_some_whole, is_whole, number_fault};
+ghost use Rattle.mpi_model.specs.Communicators.{all_members, has_double, ids};
+ghost use Rattle.mpi_model.specs.Layouts.{comm_fault, ends_before, has_double_member, has_stranger, has_world, has_wrong_numbers, is_backward, is_empty_group, is_whole, is_world, number_fault};
 ghost use Rattle.mpi_model.specs.Names.{AreOrdered, has_clash, has_clash_of, names_of};
 ghost use Rattle.mpi_model.specs.declared.object.Object.TheVariants.{Communicator, Window, File};
 
-use crate::layout::comm::{Comm, Stretch, members_among, object_among};
+use crate::layout::comm::Stretch;
 use crate::layout::fault::LayoutFault;
+use crate::layout::membership::{Membership, one_among};
 use crate::layout::names::{Name, has_clash};
 use crate::object::Object;
 use std::alloc::{AllocError, Global};
@@ -25,7 +26,7 @@ pub(crate) struct SortedNames<'a> {
 /// The first fault of the objects, whose names in order are these.
 pub(crate) fn fault_in(
     alloc: Global,
-    comms: &[Comm],
+    comms: &[Membership],
     names: &SortedNames,
     ranks: u32,
     world: u32,
@@ -54,7 +55,7 @@ pub(crate) fn fault_in(
 }
 
 /// Whether two objects of this sort, whose names in order are these, have one number in some rank's call.
-fn has_clash_of(comms: &[Comm], object: Object, names: &[Name]) -> bool
+fn has_clash_of(comms: &[Membership], object: Object, names: &[Name]) -> bool
     requires same { IsPermutation (names_of object comms.now) names.now }
     requires order { AreOrdered names.now }
     ensures { result ≡ has_clash_of object comms.now }
@@ -65,7 +66,7 @@ fn has_clash_of(comms: &[Comm], object: Object, names: &[Name]) -> bool
 }
 
 /// Whether two objects of one sort have one number in some rank's call.
-fn has_double_meaning(comms: &[Comm], names: &SortedNames) -> bool
+fn has_double_meaning(comms: &[Membership], names: &SortedNames) -> bool
     requires communicators { IsPermutation (names_of Communicator comms.now) names.now.communicators.now × AreOrdered names.now.communicators.now }
     requires windows { IsPermutation (names_of Window comms.now) names.now.windows.now × AreOrdered names.now.windows.now }
     requires files { IsPermutation (names_of File comms.now) names.now.files.now × AreOrdered names.now.files.now }
@@ -77,7 +78,7 @@ fn has_double_meaning(comms: &[Comm], names: &SortedNames) -> bool
 }
 
 /// The fault of wrong numbers, or of a number to which some rank gives two meanings in one call.
-fn number_fault(comms: &[Comm], names: &SortedNames) -> Option<LayoutFault>
+fn number_fault(comms: &[Membership], names: &SortedNames) -> Option<LayoutFault>
     requires communicators { IsPermutation (names_of Communicator comms.now) names.now.communicators.now × AreOrdered names.now.communicators.now }
     requires windows { IsPermutation (names_of Window comms.now) names.now.windows.now × AreOrdered names.now.windows.now }
     requires files { IsPermutation (names_of File comms.now) names.now.files.now × AreOrdered names.now.files.now }
@@ -91,7 +92,7 @@ fn number_fault(comms: &[Comm], names: &SortedNames) -> Option<LayoutFault>
 }
 
 /// Whether some communicator has wrong numbers.
-fn some_wrong_numbers(comms: &[Comm]) -> bool
+fn some_wrong_numbers(comms: &[Membership]) -> bool
     ensures { result ≡ list_any has_wrong_numbers comms.now }
 {
     for comm in comms {
@@ -103,7 +104,7 @@ fn some_wrong_numbers(comms: &[Comm]) -> bool
 }
 
 /// Whether the numbers are neither absent nor one for each member, or some stretch ends before its first call.
-fn has_wrong_numbers(comm: &Comm) -> bool
+fn has_wrong_numbers(comm: &Membership) -> bool
     ensures { result ≡ has_wrong_numbers comm.now }
 {
     let numbers = comm.numbers();
@@ -144,7 +145,7 @@ fn ends_before(end: Option<u64>, call: u64) -> bool
 }
 
 /// Whether two communicators have one id.
-fn two_of_one_id(alloc: Global, comms: &[Comm]) -> Result<bool, AllocError>
+fn two_of_one_id(alloc: Global, comms: &[Membership]) -> Result<bool, AllocError>
     ensures { IfOk result (λ two. two ≡ has_double (ids comms.now)) }
 {
     let mut ids = ids_of(alloc, comms)?;
@@ -153,7 +154,7 @@ fn two_of_one_id(alloc: Global, comms: &[Comm]) -> Result<bool, AllocError>
 }
 
 /// The ids of the communicators.
-fn ids_of(alloc: Global, comms: &[Comm]) -> Result<Vec<u32>, AllocError>
+fn ids_of(alloc: Global, comms: &[Membership]) -> Result<Vec<u32>, AllocError>
     ensures { IfOk result (λ v. v.items ≡ ids comms.now) }
 {
     let mut ids = Vec::with_capacity(alloc, comms.len())?;
@@ -176,12 +177,12 @@ fn two_neighbours(numbers: &[u32]) -> bool
     false
 }
 
-/// Whether some communicator has no member.
-fn some_empty(comms: &[Comm]) -> bool
+/// Whether the group of some communicator has no rank.
+fn some_empty(comms: &[Membership]) -> bool
     ensures { result ≡ list_any is_empty_group comms.now }
 {
     for comm in comms {
-        if comm.members().is_empty() {
+        if comm.first_group().is_empty() {
             return true;
         }
     }
@@ -189,8 +190,8 @@ fn some_empty(comms: &[Comm]) -> bool
 }
 
 /// Whether some member of a communicator is no rank of the run.
-fn some_stranger(comms: &[Comm], ranks: u32) -> bool
-    ensures { result ≡ list_any (λ g. has_stranger ranks g.members) comms.now }
+fn some_stranger(comms: &[Membership], ranks: u32) -> bool
+    ensures { result ≡ list_any (λ g. has_stranger ranks (all_members g)) comms.now }
 {
     for comm in comms {
         if stranger_in(comm.members(), ranks) {
@@ -213,8 +214,8 @@ fn stranger_in(members: &[u32], ranks: u32) -> bool
 }
 
 /// Whether some communicator has a rank twice.
-fn some_double_member(alloc: Global, comms: &[Comm], ranks: u32) -> Result<bool, AllocError>
-    requires { list_any (λ g. has_stranger ranks g.members) comms.now ≡ false }
+fn some_double_member(alloc: Global, comms: &[Membership], ranks: u32) -> Result<bool, AllocError>
+    requires { list_any (λ g. has_stranger ranks (all_members g)) comms.now ≡ false }
     ensures { IfOk result (λ d. d ≡ list_any has_double_member comms.now) }
 {
     for comm in comms {
@@ -242,31 +243,22 @@ fn double_in(alloc: Global, members: &[u32], ranks: u32) -> Result<bool, AllocEr
     Ok(false)
 }
 
-/// Whether there is an object, and it is a communicator.
-fn is_communicator(object: Option<Object>) -> bool
-    ensures { result ≡ is_some_communicator object }
+/// Whether it is a communicator of one group, which has all ranks in order.
+fn is_world(comm: &Membership, ranks: u32) -> bool
+    ensures { result ≡ is_world ranks comm.now }
 {
-    match object {
-        Some(object) => object.number() == Object::Communicator.number(),
-        None => false,
-    }
+    comm.object().number() == Object::Communicator.number()
+        && (!comm.has_remote() && are_all_ranks(comm.first_group(), ranks))
 }
 
-/// Whether the members are there, and are the ranks of the run in order.
-fn are_whole(members: Option<&[u32]>, ranks: u32) -> bool
-    ensures { result ≡ is_some_whole ranks (option_map (λ m. m.now) members.entry) }
-{
-    match members {
-        Some(members) => are_all_ranks(members, ranks),
-        None => false,
-    }
-}
-
-/// Whether the world is there, is a communicator, and has all ranks in order.
-fn world_is_there(comms: &[Comm], ranks: u32, world: u32) -> bool
+/// Whether the world is there, is a communicator of one group, and has all ranks in order.
+fn world_is_there(comms: &[Membership], ranks: u32, world: u32) -> bool
     ensures { result ≡ has_world ranks world comms.now }
 {
-    is_communicator(object_among(comms, world)) && are_whole(members_among(comms, world), ranks)
+    match one_among(comms, world) {
+        Some(comm) => is_world(comm, ranks),
+        None => false,
+    }
 }
 
 /// Whether the members are the ranks of the run, in order.

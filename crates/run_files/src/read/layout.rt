@@ -1,12 +1,12 @@
 //! The layout of a run, as its file tells it.
 
-ghost use Rattle.std.specs.Prelude.{◌≡◌, IfErr, IfOk, codes, option_and_then, option_map};
+ghost use Rattle.std.specs.Prelude.{◌≡◌, IfErr, IfOk, Some, codes, option_and_then, option_map};
 ghost use Rattle.serde_json.specs.Find.{as_str, get};
 ghost use Rattle.serde_json.specs.View.{items_view, view};
-ghost use Rattle.run_files.specs.Layouts.{IsLayoutOf, RefusesLayout, communicator_in, communicators_in, object_in, object_named, parts_in, sends_named, unreadable_field};
+ghost use Rattle.run_files.specs.Layouts.{IsLayoutOf, RefusesLayout, communicator_in, communicators_in, object_in, has_empty_remote, object_named, parts_in, remote_in, sends_named, some_empty_remote, tells_empty_remote, unreadable_field, with_empty_remote};
 
 use crate::fault::{Field, InputFault};
-use crate::read::fields::{list_at, str_at, u32_at, u32s_of, value_of};
+use crate::read::fields::{list_at, parted, str_at, u32_at, u32s_of, value_of};
 use crate::read::numbers::numbers_at;
 use mpi_model::{Comm, Layout, LayoutFault, Object, Sends};
 use serde_json::Value;
@@ -24,11 +24,63 @@ pub fn layout_of(alloc: Global, text: &[u8]) -> Result<Layout, InputFault>
         return Err(InputFault::Shape(unreadable_field(&value)));
     };
     match Layout::of_comms(alloc, given.ranks, given.world, given.comms, given.sends) {
-        Ok(layout) => Ok(layout),
+        Ok(layout) => if tells_empty_remote(&value) {
+            Err(InputFault::Layout(LayoutFault::EmptyComm))
+        } else {
+            Ok(layout)
+        },
         Err(fault) => match fault {
             LayoutFault::Memory => Err(InputFault::Memory),
-            broken => Err(InputFault::Layout(broken)),
+            broken => if tells_empty_remote(&value) {
+                Err(InputFault::Layout(with_empty_remote(broken)))
+            } else {
+                Err(InputFault::Layout(broken))
+            },
         },
+    }
+}
+
+/// The first broken rule, where an object has a remote group that is empty: a layout can't hold such a one.
+fn with_empty_remote(broken: LayoutFault) -> LayoutFault
+    ensures { result ≡ with_empty_remote (Some broken) }
+{
+    match broken {
+        LayoutFault::RankCount => LayoutFault::RankCount,
+        LayoutFault::CommCount => LayoutFault::CommCount,
+        LayoutFault::DoubleComm => LayoutFault::DoubleComm,
+        _ => LayoutFault::EmptyComm,
+    }
+}
+
+/// Whether an object has a field for its remote group that is empty.
+fn has_empty_remote(value: &Value) -> bool
+    ensures { result ≡ has_empty_remote (view value.now) }
+{
+    match list_at(value, "remote") {
+        Some(ranks) => parted(ranks).is_none(),
+        None => false,
+    }
+}
+
+/// Whether some object of the list has such a field.
+fn some_empty_remote(values: &[Value]) -> bool
+    ensures { result ≡ some_empty_remote (items_view values.now) }
+{
+    for value in values {
+        if has_empty_remote(value) {
+            return true;
+        }
+    }
+    false
+}
+
+/// Whether some object of a layout has such a field.
+fn tells_empty_remote(value: &Value) -> bool
+    ensures { result ≡ tells_empty_remote (view value.now) }
+{
+    match list_at(value, "comms") {
+        Some(values) => some_empty_remote(values),
+        None => false,
     }
 }
 
@@ -145,7 +197,24 @@ fn object_at(value: &Value) -> Option<Object>
     }
 }
 
-/// A communicator, a window or a file: its id, its sort, its members, and by which numbers these name it.
+/// The remote group of an object of this sort; none at all where it has no such field. Only a communicator may have it.
+fn remote_at(alloc: Global, object: Object, value: &Value) -> Result<Option<Vec<u32>>, AllocError>
+    ensures { IfOk result (λ o. option_map (λ v. v.items) o ≡ remote_in object (get (codes "remote") (view value.now))) }
+{
+    let Some(field) = value.get("remote") else {
+        return Ok(Some(Vec::new(alloc)));
+    };
+    match object {
+        Object::Communicator => match field.as_array() {
+            Some(values) => u32s_of(alloc, values),
+            None => Ok(None),
+        },
+        Object::Window | Object::File => Ok(None),
+    }
+}
+
+/// A communicator, a window or a file: its id, its sort, its members, its remote group, and by which numbers all of these
+/// name it.
 fn communicator_of(alloc: Global, value: &Value) -> Result<Option<Comm>, AllocError>
     ensures { IfOk result (λ o. o ≡ communicator_in (view value.now)) }
 {
@@ -161,11 +230,15 @@ fn communicator_of(alloc: Global, value: &Value) -> Result<Option<Comm>, AllocEr
     let Some(members) = u32s_of(alloc, members)? else {
         return Ok(None);
     };
+    let Some(remote) = remote_at(alloc, object, value)? else {
+        return Ok(None);
+    };
     match numbers_at(alloc, value)? {
         Some(numbers) => Ok(Some(Comm {
             id,
             object,
             members,
+            remote,
             numbers,
         })),
         None => Ok(None),

@@ -1,11 +1,11 @@
-use Rattle.std.proofs.Common.{◌≤◌, ◌-◌, length}
+use Rattle.std.proofs.Common.{◌≤◌, ◌-◌, false, length}
 use Rattle.trace_wait.specs.Groups.{AreGroups}
 use Rattle.trace_wait.proofs.groups.groups_of.Given as goal
 
 abbrev pub invariant-loop-comm : goal.invariant-loop-comm
 invariant-loop-comm l = record {
   within : l.i ≤ length l.layout.comms;
-  groups : AreGroups l.layout.comms l.groups.items;
+  groups : AreGroups false l.layout.comms l.groups.items;
 }
 
 abbrev pub decreases-loop-comm : goal.decreases-loop-comm

@@ -1,10 +1,11 @@
 use Rattle.std.proofs.Common.{◌≡◌, drop, false}
 use Rattle.std.specs.List.{list_any}
+use Rattle.mpi_model.specs.Communicators.{all_members}
 use Rattle.mpi_model.specs.Layouts.{has_double_member, has_stranger}
 use Rattle.mpi_model.proofs.layout.rules.some_double_member.Given as goal
 
 abbrev pub invariant-loop-comm : goal.invariant-loop-comm
 invariant-loop-comm l = record {
-  in_range : list_any (λ g. has_stranger l.ranks g.members) (drop l.comm-index l.comms) ≡ false;
+  in_range : list_any (λ g. has_stranger l.ranks (all_members g)) (drop l.comm-index l.comms) ≡ false;
   rest : list_any has_double_member (drop l.comm-index l.comms) ≡ list_any has_double_member l.comms;
 }

@@ -1,7 +1,9 @@
-use Rattle.std.proofs.Common.{rules, ◌≡◌, ◌∙◌, Some, ap, sym}
+use Rattle.std.proofs.Common.{rules, ◌≡◌, ◌∙◌, Some, None, ap, sym}
 use Rattle.serde_json.specs.View.{view}
-use Rattle.mpi_model.specs.Layouts.{Parts}
-use Rattle.run_files.specs.Layouts.{parts_in}
+use Rattle.mpi_model.specs.Layouts.{Parts, fault_of}
+use Rattle.mpi_model.specs.declared.layout.fault.LayoutFault.{LayoutFault}
+use Rattle.mpi_model.specs.declared.layout.fault.LayoutFault.TheVariants.{EmptyComm}
+use Rattle.run_files.specs.Layouts.{broken_by, parts_in, with_empty_remote}
 use Rattle.run_files.proofs.read.layout.layout_of.Goals as goal
 
 pub returns-in-Ok-clause-ok : goal.returns-in-Ok-clause-ok

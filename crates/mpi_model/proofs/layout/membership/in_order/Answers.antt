@@ -2,7 +2,7 @@ use Rattle.std.proofs.Common.{rules}
 use Rattle.std.proofs.lemmas.List.Sorted.{IsNonDecreasingBy-from_sort_by_key, answers_always}
 use Rattle.mpi_model.specs.Communicators.{Communicator}
 use Rattle.mpi_model.proofs.Orders.{found_stays}
-use Rattle.mpi_model.proofs.layout.comm.in_order.Goals as goal
+use Rattle.mpi_model.proofs.layout.membership.in_order.Goals as goal
 
 pub returns : goal.returns
 returns c =

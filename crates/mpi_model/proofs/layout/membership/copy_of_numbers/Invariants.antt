@@ -1,5 +1,5 @@
 use Rattle.std.proofs.Common.{◌≡◌, take}
-use Rattle.mpi_model.proofs.layout.comm.copy_of_numbers.Given as goal
+use Rattle.mpi_model.proofs.layout.membership.copy_of_numbers.Given as goal
 
 abbrev pub invariant-loop-number : goal.invariant-loop-number
 invariant-loop-number l = l.copy.items ≡ take l.number-index l.numbers

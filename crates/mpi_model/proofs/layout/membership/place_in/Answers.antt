@@ -2,7 +2,7 @@ use Rattle.std.proofs.Common.{rules}
 use Rattle.std.proofs.lemmas.List.Sorted.{answers_always}
 use Rattle.mpi_model.specs.Communicators.{Communicator}
 use Rattle.mpi_model.proofs.Places.{comparisons_rise, none, place_found, place_missed}
-use Rattle.mpi_model.proofs.layout.comm.place_in.Goals as goal
+use Rattle.mpi_model.proofs.layout.membership.place_in.Goals as goal
 
 pub returns-in-Ok : goal.returns-in-Ok
 returns-in-Ok c =

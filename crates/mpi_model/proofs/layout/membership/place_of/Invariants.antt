@@ -1,6 +1,6 @@
 use Rattle.std.proofs.Common.{◌≡◌, ◌==◌, drop}
 use Rattle.std.specs.List.{position_from}
-use Rattle.mpi_model.proofs.layout.comm.place_of.Given as goal
+use Rattle.mpi_model.proofs.layout.membership.place_of.Given as goal
 
 abbrev pub invariant-loop-member : goal.invariant-loop-member
 invariant-loop-member l = record {
