@@ -6,7 +6,6 @@ use Rattle.mpi_model.specs.Layouts.{AreGroups, IsGroup}
 use Rattle.std.specs.List.{AllByRecursion, IsDistinct}
 use Rattle.std.proofs.lemmas.List.Elements.{All-from_recursion, recursion_from_All}
 
-
 apart_front : (x : ℕ) (xs ys : List ℕ) → AllByRecursion (λ y. eqb x y ≡ false) (xs ++ ys) → AllByRecursion (λ y. eqb x y ≡ false) xs
 apart_front x [] ys a = tt
 apart_front x (z ∷ zs) ys a = (a.0, apart_front x zs ys a.1)

@@ -12,7 +12,9 @@ use crate::envelope::CommRef;
 use crate::layout::comm::{Comm, comms_of};
 use crate::layout::fault::LayoutFault;
 use crate::layout::held::{held_by, held_copied, held_in};
-use crate::layout::membership::{Membership, Peers, copies, in_order, memberships, one_in, place_of};
+use crate::layout::membership::{
+    Membership, Peers, copies, in_order, memberships, one_in, place_of,
+};
 use crate::layout::names::ordered_names;
 use crate::layout::numbering::Numbering;
 use crate::layout::rules::{SortedNames, fault_in};

@@ -98,14 +98,7 @@ impl<'a> Overview<'a> {
     ) -> Result<Arc<Vec<u32>>, AllocError>
         ensures { IfOk result (λ list. list.value.items ≡ peers self.now comm rank) }
     {
-        shared_peers(
-            alloc,
-            self.layout,
-            self.groups,
-            self.remotes,
-            comm,
-            rank,
-        )
+        shared_peers(alloc, self.layout, self.groups, self.remotes, comm, rank)
     }
 
     /// The peers of a rank on a communicator, as trace ranks in group order.
