@@ -5,6 +5,7 @@ mod Communicators
 mod Known
 mod Layouts
 mod Groups
+mod Memberships
 mod Names
 mod Neighbours
 mod Orders

@@ -1,3 +1,4 @@
 pub mod Putting
 pub mod Stores
 mod Objects
+pub mod Broken

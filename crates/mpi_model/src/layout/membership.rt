@@ -131,7 +131,10 @@ impl Membership {
     pub(crate) fn is_remote(&self, rank: u32) -> bool
         ensures { result ≡ is_remote rank self.now }
     {
-        self.rising.binary_search(&rank).is_ok()
+        match self.rising.binary_search(&rank) {
+            Ok(_) => true,
+            Err(_) => false,
+        }
     }
 
     /// The group that the rank is in.

@@ -1,6 +1,6 @@
 //! The layout of a run, as its file tells it.
 
-ghost use Rattle.std.specs.Prelude.{◌≡◌, IfErr, IfOk, Some, codes, option_and_then, option_map};
+ghost use Rattle.std.specs.Prelude.{◌≡◌, IfErr, IfOk, Some, if◌then◌else◌, codes, option_and_then, option_map};
 ghost use Rattle.serde_json.specs.Find.{as_str, get};
 ghost use Rattle.serde_json.specs.View.{items_view, view};
 ghost use Rattle.run_files.specs.Layouts.{IsLayoutOf, RefusesLayout, communicator_in, communicators_in, object_in, has_empty_remote, object_named, parts_in, remote_in, sends_named, some_empty_remote, tells_empty_remote, unreadable_field, with_empty_remote};
@@ -23,20 +23,28 @@ pub fn layout_of(alloc: Global, text: &[u8]) -> Result<Layout, InputFault>
     let Some(given) = given_in(alloc, &value)? else {
         return Err(InputFault::Shape(unreadable_field(&value)));
     };
+    let is_empty = tells_empty_remote(&value);
     match Layout::of_comms(alloc, given.ranks, given.world, given.comms, given.sends) {
-        Ok(layout) => if tells_empty_remote(&value) {
+        Ok(layout) => if is_empty {
             Err(InputFault::Layout(LayoutFault::EmptyComm))
         } else {
             Ok(layout)
         },
         Err(fault) => match fault {
             LayoutFault::Memory => Err(InputFault::Memory),
-            broken => if tells_empty_remote(&value) {
-                Err(InputFault::Layout(with_empty_remote(broken)))
-            } else {
-                Err(InputFault::Layout(broken))
-            },
+            broken => Err(InputFault::Layout(broken_rule(is_empty, broken))),
         },
+    }
+}
+
+/// The first broken rule, where one is broken and some remote group may be empty besides.
+fn broken_rule(is_empty: bool, broken: LayoutFault) -> LayoutFault
+    ensures { result ≡ (if is_empty then with_empty_remote (Some broken) else broken) }
+{
+    if is_empty {
+        with_empty_remote(broken)
+    } else {
+        broken
     }
 }
 
