@@ -1,6 +1,7 @@
 -- What the tests of a group tell.
 use Rattle.std.proofs.Common.{◌≡◌, ◌≤◌, ◌<◌, ℕ, ◌+◌, ◌==◌, ◌&&◌, ◌||◌, ◌∙◌, Bool, true, false, not, List, [], ◌∷◌, ◌++◌, append-nil, nat_le, length, length-append, refl, ap, arith, Option, Some, None, IfSome, eqb, option_map, rules}
 use Rattle.std.proofs.lemmas.Grind.{common_steps}
+use Rattle.std.proofs.lemmas.Bool.Decides.{nat_tests}
 use Rattle.std.proofs.lemmas.List.Elements.{All-from_recursion, All-head, All-tail}
 use Rattle.std.proofs.lemmas.Map.Keys.{IsDistinct-cons}
 use Rattle.std.proofs.lemmas.Map.Steps.{length-le_from_distinct_below}
@@ -120,9 +121,12 @@ communicator_is Window h = cc
 communicator_is File h = cc
 
 -- a list that is tested to be empty
+is_zero : (n : ℕ) → not (not (n == 0)) ≡ true → n ≡ 0
+is_zero n h = grind (arith, nat_tests, common_steps)
+
 none_left : (xs : List ℕ) → not (not (length xs == 0)) ≡ true → xs ≡ []
 none_left [] h = refl
-none_left (x ∷ xs) h = cc
+none_left (x ∷ xs) h = let none = is_zero (length (x ∷ xs)) h in absurd (omega (arith, none))
 
 pub world_is : (ranks : ℕ) (found : Option Communicator) → is_some_world ranks found ≡ true → IsTheWorld ranks found
 world_is ranks None h = cc

@@ -1,10 +1,9 @@
 -- The groups of an object, each of which is one.
-use Rattle.std.proofs.Common.{◌≡◌, ℕ, zero, suc, ◌+◌, ◌<◌, ◌≤◌, ◌==◌, ◌&&◌, ◌∙◌, Bool, true, false, not, List, [], ◌∷◌, ◌++◌, length, length-append, get_or, refl, sym, ap, arith, eqb, subst, All, Option, Some, None, IfSome, option_map, drop}
-use Rattle.std.proofs.lemmas.Grind.{common_steps}
+use Rattle.std.proofs.Common.{◌≡◌, ℕ, ◌<◌, ◌≤◌, ◌==◌, Bool, true, false, not, List, [], ◌∷◌, ◌++◌, length, length-append, refl, arith, eqb}
+use Rattle.std.proofs.lemmas.List.Elements.{All-from_recursion, recursion_from_All}
+use Rattle.std.specs.List.{AllByRecursion, IsDistinct}
 use Rattle.mpi_model.specs.Communicators.{Communicator, all_members, has_remote, is_remote, own_group, peers}
 use Rattle.mpi_model.specs.Layouts.{AreGroups, IsGroup}
-use Rattle.std.specs.List.{AllByRecursion, IsDistinct}
-use Rattle.std.proofs.lemmas.List.Elements.{All-from_recursion, recursion_from_All}
 
 apart_front : (x : ℕ) (xs ys : List ℕ) → AllByRecursion (λ y. eqb x y ≡ false) (xs ++ ys) → AllByRecursion (λ y. eqb x y ≡ false) xs
 apart_front x [] ys a = tt

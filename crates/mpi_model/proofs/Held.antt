@@ -52,8 +52,8 @@ once_in : (ranks rank : ℕ) (g : Communicator) → AreGroups ranks g → id_in 
 once_in ranks rank g h = by (has_remote g) refl
   where
     by : (t : Bool) → has_remote g ≡ t → id_in rank g ≡ cond (has_member rank g) (g.comm ∷ []) []
-    by true e = rw (e, e) refl
-    by false e = rw (e, e) (id_once rank g.comm g.members (first_distinct ranks g h))
+    by true e = rw e refl
+    by false e = rw e (id_once rank g.comm g.members (first_distinct ranks g h))
 
 pub ids_once : (ranks rank : ℕ) (gs : List Communicator) → All (AreGroups ranks) gs → ids_by rank gs ≡ ids_with rank gs
 ids_once ranks rank [] h = refl

@@ -1,11 +1,11 @@
 //! The layout of a run: its ranks, its communicators, windows and files, and how its sends complete.
 
-ghost use Rattle.std.specs.Prelude.{◌≡◌, ◌≢◌, ◌<◌, ◌≤◌, IfOk, IfErr, IfSome, OnOk, Some, None, nat_lt, option_map, slice_get};
+ghost use Rattle.std.specs.Prelude.{◌≡◌, ◌≢◌, ◌<◌, ◌≤◌, IfOk, IfErr, IfSome, OnOk, Some, None, length, nat_lt, option_map, slice_get};
 ghost use Rattle.mpi_model.specs.Communicators.{communicators, ids_with, members_of, object_of_comm, one_of, peers_of, rank_in};
 ghost use Rattle.mpi_model.specs.Memberships.{plain_peers};
 ghost use Rattle.mpi_model.specs.Names.{numbered};
 ghost use Rattle.mpi_model.specs.Layouts.{Holds, IsGroup, IsLayout, fault_of, named};
-ghost use Rattle.mpi_model.specs.declared.layout.TheConstants.{MOST_RANKS};
+ghost use Rattle.mpi_model.specs.declared.layout.TheConstants.{MOST_COMMS, MOST_RANKS};
 ghost use Rattle.mpi_model.specs.declared.layout.fault.LayoutFault.TheVariants.{Memory};
 
 use crate::envelope::CommRef;
@@ -118,7 +118,24 @@ impl Layout {
         if comms.len() > MOST_COMMS {
             return Err(LayoutFault::CommCount);
         }
-        let comms = memberships(alloc, comms)?;
+        Layout::of_memberships(alloc, ranks, world, memberships(alloc, comms)?, sends)
+    }
+
+    /// A layout of so many ranks and of these communicators, windows and files, which are not too many.
+    fn of_memberships(
+        alloc: Global,
+        ranks: u32,
+        world: u32,
+        comms: Vec<Membership>,
+        sends: Sends,
+    ) -> Result<Layout, LayoutFault>
+        requires ranks { (0 < ranks) × (ranks ≤ MOST_RANKS) }
+        requires few { length comms.items ≤ MOST_COMMS }
+        ensures ok { IfOk result (λ l. Holds ranks world sends comms.items l) }
+        ensures rules { IfOk result (λ l. IsLayout l) }
+        ensures none { OnOk result (fault_of ranks world comms.items ≡ None) }
+        ensures fault { IfErr result (λ e. e ≢ Memory → fault_of ranks world comms.items ≡ Some e) }
+    {
         let communicators = ordered_names(alloc, Object::Communicator, &comms)?;
         let windows = ordered_names(alloc, Object::Window, &comms)?;
         let files = ordered_names(alloc, Object::File, &comms)?;

@@ -71,11 +71,11 @@ impl<'a> Model for Overview<'a> {
         × (s.mismatched.now ≡ s.rounds.now)
         × (s.calls.now ≡ table s.layout.now.comms s.ops.now s.layout.now.comms)
         × (AreGroups false s.layout.now.comms s.groups.now)
-        × (AreGroups true s.layout.now.comms s.remotes.now)
         × ((p : Named) → contains pattern_cmp s.withdrawn.now p ≡ list_any (λ m. offers true m p) (unpaired_messages s.ops.now s.pairs.now.pairs))
         × (s.reaches.now ≡ s.ops.now)
         × (s.entries.now ≡ s.ops.now)
-        × (s.received.now ≡ s.pairs.now.pairs) };
+        × (s.received.now ≡ s.pairs.now.pairs)
+        × (AreGroups true s.layout.now.comms s.remotes.now) };
 }
 
 impl<'a> Overview<'a> {

@@ -1,10 +1,13 @@
-use Rattle.std.proofs.Common.{◌≡◌, option_map, rules}
-use Rattle.mpi_model.specs.Communicators.{members_of}
-use Rattle.mpi_model.specs.Layouts.{IsGroup}
-use Rattle.mpi_model.proofs.Communicators.{named_group, under_map}
+use Rattle.std.proofs.Common.{All, IfSome, Option, subst, sym}
+use Rattle.mpi_model.specs.Communicators.{Communicator}
+use Rattle.mpi_model.specs.Layouts.{AreGroups}
+use Rattle.mpi_model.proofs.Communicators.{named_groups}
 use Rattle.mpi_model.proofs.layout.Layout.members.Goals as goal
 
 pub returns-clause-group : goal.returns-clause-group
 returns-clause-group c =
-    let found : option_map (λ m. m.now) c.members_in.result ≡ members_of c.self.inside.comms.items c.args.comm = search rules in
-    rw (← c.self.view_is) (under_map (λ m. m.now) (IsGroup c.self.inside.ranks) c.members_in.result _ found (named_group c.self.inside.ranks c.self.inside.comms.items c.args.comm c.self.invariant.0.groups))
+    let ranks = c.self.inside.ranks in
+    let comms = c.deref.result.now in
+    let all : All (AreGroups ranks) comms = rw c.deref.ensures.value c.self.invariant.0.groups in
+    let groups : AreGroups ranks c.in_ok-one_in.field-0.now = subst (λ (o : Option Communicator). IfSome o (AreGroups ranks)) (sym c.in_ok-one_in.ensures) (named_groups ranks comms c.args.comm all) in
+    rw (← c.self.view_is) (rw c.members.ensures groups.all)
