@@ -47,7 +47,7 @@ pub use collect::{Collect, Memory};
 pub use fault::{WalkCause, WalkFault};
 pub use laws::{whole_segments, whole_texts};
 pub use parameter::Parameter;
-pub use raw::{RawSink, walk_raw};
+pub use raw::{RawSink, walk_raw, walk_raw_with_buffer};
 pub use sink::CallSink;
 pub use tally::Tally;
 pub use walking::{Walked, next_call, walk, walk_with_buffer};

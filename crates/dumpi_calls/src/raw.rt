@@ -1,9 +1,10 @@
 //! A walk that hands on the calls of a text as they stand there, with all their parameters.
 
-ghost use Rattle.std.specs.Prelude.{◌≡◌, ◌<◌, ◌≤◌, Option, IfErr, IfOk, IfSome, OnErr, OnOk};
+ghost use Rattle.std.specs.Prelude.{◌≡◌, ◌<◌, ◌≤◌, Option, IfErr, IfOk, IfSome, OnErr, OnOk, vec_len};
 ghost use Rattle.mpi_model.specs.declared.call.Call.{Call};
 ghost use Rattle.dumpi_text.specs.Call.{TextCall};
 ghost use Rattle.dumpi_text.specs.Failing.{Fails};
+ghost use Rattle.dumpi_text.specs.declared.source.TheConstants.{CHUNK};
 ghost use Rattle.dumpi_text.specs.declared.step.TheConstants.{MOST_LINES};
 ghost use Rattle.dumpi_calls.specs.RawWalks.{IsStoppedRaw, IsWalkedRaw, StepsOnRaw, TakesRaw};
 ghost use Rattle.dumpi_calls.specs.Steps.{FailsThere, StopsThere};
@@ -16,6 +17,7 @@ use crate::walking::{HandedCall, Walked, handed, lack, next_call, refusal};
 use dumpi_text::{RawCall, Texts, reading_call_by_call, skipped_lines};
 use mpi_model::{Call, Read};
 use std::alloc::Global;
+use std::mem;
 
 /// What the calls of a text are handed to as they stand there: each with its name and its parameters, also those that its
 /// function has no use for, and as the call that it is.
@@ -90,7 +92,6 @@ fn advance_raw<R: Read, S: RawSink>(
 
 /// Hands the calls of a text to a sink as they stand there, in order, up to the first that can't be read or that the sink
 /// refuses: it ends as [`walk`](crate::walk) does. The text is read in one pass, and memory doesn't grow with it.
-#[tactic(auto, using(crate::proofs::RawWalks::advanced, crate::proofs::RawWalks::walked_all, crate::proofs::RawWalks::walk_stopped, crate::proofs::Failing::fails_in))]
 pub fn walk_raw<R: Read, S: RawSink>(
     alloc: Global,
     reader: R,
@@ -101,11 +102,31 @@ pub fn walk_raw<R: Read, S: RawSink>(
     ensures failed { IfErr result (λ fault. IsReadStop fault.cause → Fails R.failures) }
     ensures failure { IfErr result (λ fault. IsReadStop fault.cause → FailsIn R.left R.failures reader fault.calls fault.line) }
 {
+    let mut buffer = Vec::new(alloc);
+    walk_raw_with_buffer(alloc, reader, sink, &mut buffer)
+}
+
+/// A [`walk_raw`] that reads the text into the buffer that the one before has left, or into one of its own where there is
+/// none, and leaves its own for the next. What the buffer holds before and after means nothing.
+#[tactic(auto, using(crate::proofs::RawWalks::advanced, crate::proofs::RawWalks::walked_all, crate::proofs::RawWalks::walk_stopped, crate::proofs::Failing::fails_in))]
+pub fn walk_raw_with_buffer<R: Read, S: RawSink>(
+    alloc: Global,
+    reader: R,
+    sink: &mut S,
+    buffer: &mut Vec<u8>,
+) -> Result<Walked, WalkFault<S::Fault>>
+    ensures ok { IfOk result (λ walked. IsWalkedRaw S.step (R.left reader) sink.old sink.new walked) }
+    ensures err { IfErr result (λ fault. IsStoppedRaw S.step (R.left reader) sink.old sink.new fault) }
+    ensures failed { IfErr result (λ fault. IsReadStop fault.cause → Fails R.failures) }
+    ensures failure { IfErr result (λ fault. IsReadStop fault.cause → FailsIn R.left R.failures reader fault.calls fault.line) }
+    ensures buffer { OnOk result (vec_len buffer.new ≡ CHUNK) }
+{
     reading_call_by_call();
     skipped_lines();
     let mut calls: u64 = 0;
     let mut unfinished = None;
-    let mut texts = match Texts::new(alloc, reader) {
+    let left = mem::replace(buffer, Vec::new(alloc));
+    let mut texts = match Texts::with_buffer(alloc, reader, left) {
         Ok(texts) => texts,
         Err(_) => {
             return Err(WalkFault {
@@ -123,12 +144,14 @@ pub fn walk_raw<R: Read, S: RawSink>(
                 unfinished = handed.open_line;
             }
             Ok(None) => {
-                return Ok(Walked {
+                let walked = Walked {
                     calls,
                     skipped: texts.skipped(),
                     first_skipped: texts.first_skipped(),
                     unfinished,
-                });
+                };
+                *buffer = texts.into_buffer();
+                return Ok(walked);
             }
             Err(fault) => return Err(fault),
         }

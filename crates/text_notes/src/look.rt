@@ -9,7 +9,7 @@ use crate::function::UnreadFunction;
 use crate::looking::Looking;
 use crate::site::CallSite;
 use crate::value::LookFault;
-use dumpi_calls::{Memory, WalkCause, WalkFault, walk_raw};
+use dumpi_calls::{Memory, WalkCause, WalkFault, walk_raw_with_buffer};
 use dumpi_text::{TextCause, TextFault};
 use mpi_model::Read;
 use std::alloc::Global;
@@ -80,19 +80,21 @@ fn fault_of(fault: WalkFault<Memory>) -> LookFault
 }
 
 /// Looks a second time at a text that was read: for the calls of these numbers, for the local calls whose numbers are below
-/// the limit, and for the size of the world. The text is read in one pass, and memory grows with what is told.
+/// the limit, and for the size of the world. The text is read in one pass, and memory grows with what is told. The buffer is
+/// one for all texts.
 #[tactic(auto, using(crate::proofs::Looked::tells))]
 pub fn look_at<R: Read>(
     alloc: Global,
     reader: R,
     wanted: &BTreeSet<u64>,
     limit: u64,
+    buffer: &mut Vec<u8>,
 ) -> Result<Look, LookFault>
     ensures ok { IfOk result (IsLookOf wanted.now limit (R.left reader)) }
     ensures failed { result ≡ Err LookFault.Read → Fails R.failures }
 {
     let mut looking = Looking::new(alloc, wanted, limit);
-    match walk_raw(alloc, reader, &mut looking) {
+    match walk_raw_with_buffer(alloc, reader, &mut looking, buffer) {
         Ok(_) => Ok(looking.into_look()),
         Err(fault) => Err(fault_of(fault)),
     }

@@ -39,16 +39,17 @@ fn limit_of(diagnosis: &Diagnosis, note: &TextNote) -> u64 {
     }
 }
 
-/// A second look at a text, where it can be had.
+/// A second look at a text, where it can be had. The buffer is one for all texts.
 fn looked<O: Opener>(
     alloc: Global,
     note: &TextNote,
     wanted: &BTreeSet<u64>,
     limit: u64,
     files: &O,
+    buffer: &mut Vec<u8>,
 ) -> Option<Look> {
     let reader = reopened(note.path(), files)?;
-    match look_at(alloc, reader, wanted, limit) {
+    match look_at(alloc, reader, wanted, limit, buffer) {
         Ok(look) => Some(look),
         Err(_) => None,
     }
@@ -64,13 +65,14 @@ pub(crate) fn facts_of<O: Opener>(
     let named = named_calls(alloc, diagnosis)?;
     let mut facts = TextFacts::none(alloc);
     facts.notes = notes;
+    let mut buffer = Vec::new(alloc);
     for at in 0..facts.notes.len() {
         let Some(note) = facts.notes.as_slice().get(at) else {
             break;
         };
         let wanted = wanted_in(alloc, named.as_slice(), note)?;
         let limit = limit_of(diagnosis, note);
-        if let Some(look) = looked(alloc, note, &wanted, limit, files) {
+        if let Some(look) = looked(alloc, note, &wanted, limit, files, &mut buffer) {
             facts.add(alloc, at, look)?;
         }
     }

@@ -4,7 +4,7 @@ use Rattle.dumpi_calls.specs.Walks.{IsRead}
 use Rattle.dumpi_calls.specs.declared.walking.HandedCall.{HandedCall}
 use Rattle.dumpi_calls.proofs.Handed.{is_begun}
 use Rattle.dumpi_calls.proofs.RawWalks.{advanced, not_begun, nothing_handed}
-use Rattle.dumpi_calls.proofs.raw.walk_raw.Goals as goal
+use Rattle.dumpi_calls.proofs.raw.walk_raw_with_buffer.Goals as goal
 
 pub returns-in-Err-clause-err : goal.returns-in-Err-clause-err
 returns-in-Err-clause-err g c = not_begun c.reading_call_by_call.ensures.starts g.S.RawSink.step (g.R.Read.left c.args.reader) c.args.sink.now

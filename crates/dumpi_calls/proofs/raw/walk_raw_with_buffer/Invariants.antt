@@ -2,7 +2,7 @@ use Rattle.std.proofs.Common.{◌≡◌, ◌≤◌, ◌-◌, List}
 use Rattle.dumpi_text.specs.Call.{TextCall}
 use Rattle.dumpi_calls.specs.RawWalks.{HandedRaw}
 use Rattle.dumpi_calls.specs.Walks.{IsRead, unfinished_line}
-use Rattle.dumpi_calls.proofs.raw.walk_raw.Given as goal
+use Rattle.dumpi_calls.proofs.raw.walk_raw_with_buffer.Given as goal
 
 abbrev pub invariant-each : goal.invariant-each
 invariant-each g l = record {
