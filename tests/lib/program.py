@@ -24,7 +24,7 @@ CALLS_OF_A_SEGMENT = 32_768
 LONGEST, COUNT = 67_108_864, 4
 # rank, first place and count of a run; kind of a cell; kind, wall and CPU time of an event
 RUN, CELL, EVENT = 16, 1, 17
-# By docs/formats.md the Enter of a call that waits for requests has their number (4 bytes) and each of them (8), and its Return
+# By docs/formats/frames.md the Enter of a call that waits for requests has their number (4 bytes) and each of them (8), and its Return
 # as many told sources (4 each). So many calls of so many requests, all in one run, fit a frame, and no more.
 REQUESTS = 32_000
 MOST_HEAVY = (LONGEST - COUNT - RUN) // (2 * (CELL + EVENT + 4) + 12 * REQUESTS)

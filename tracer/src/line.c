@@ -10,7 +10,7 @@
 #include <string.h>
 #include <time.h>
 
-/* A reader refuses a longer line (docs/formats.md, "Limits"). */
+/* A reader refuses a longer line (docs/formats/texts.md, "Limits"). */
 #define LONGEST_LINE 65536
 /* A stamp line is shorter. */
 #define LONGEST_STAMP 256

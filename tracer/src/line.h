@@ -1,4 +1,4 @@
-/* line.h: the lines of a call, as docs/formats.md has them. */
+/* line.h: the lines of a call, as docs/formats/texts.md has them. */
 #ifndef MPIMATCH_LINE_H
 #define MPIMATCH_LINE_H
 

@@ -4,7 +4,8 @@
 //! `specs/`, so what is built of them has its bytes proved.
 //!
 //! - [`text`]: a text that grows; [`seconds`]: times
-//! - [`ranges`]: ranks, neighbours joined into ranges, as `0 to 11, 13`; [`more`]: how many more there are than are named
+//! - [`ranges`]: ranks, neighbours joined into ranges, as `0 to 11, 13`; [`more`]: how many more there are than are
+//!   named
 //! - [`envelopes`], [`calls`]: a call with what it names, as
 //!   `MPI_Send to rank 1 of MPI_COMM_WORLD, tag 7, 65536 elements`
 //! - [`functions`]: a call by its function and communicator alone; [`names`]: an operation by its number

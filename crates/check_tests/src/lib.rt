@@ -1,5 +1,5 @@
-//! Tests of `trace_check`, and of what `trace_pair` and `trace_ops` give to a caller who follows ranks: of tables and verdicts
-//! that no run of the built program has.
+//! Tests of `trace_check`, and of what `trace_pair` and `trace_ops` give to a caller who follows ranks: of tables and
+//! verdicts that no run of the built program has.
 //!
 //! | File | Tests |
 //! |---|---|

@@ -4,6 +4,11 @@
 //! - [`color`]: the members of each color, by key (7.4.2)
 //! - [`grid`]: grids of ranks and their parts (8.5); [`laws`]: which ranks are in one part
 //! - [`told`]: the order of ranks that were told theirs
+//!
+//! To change something, open:
+//!
+//! - groups made of others, and of ranges: `specs/Groups.antt`, `specs/Ranges.antt`; [`group`], [`range`]
+//! - the order of a split, the parts of a grid: `specs/Splits.antt`, `specs/Grids.antt`; [`color`], [`grid`]
 #![tactic(auto)]
 
 mod color;

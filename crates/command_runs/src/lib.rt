@@ -1,14 +1,14 @@
 //! From the words of the command line to what mpimatch prints and how it ends.
 //!
-//! The input of a run is loaded once, in one place: a layout and a manifest, from their files or made of the texts of all ranks.
-//! A verb is a function of a [`Run`], which has both and the files of the manifest's pieces, and of the output. `report` reads
-//! the pieces, joins them into one knowledge, and writes its answer; `check` makes it once more straight from the rules
-//! (`trace_check`), `explain` and `graph` tell what holds up the run
-//! (`trace_diagnosis`) in words, as JSON and as a picture (`diagnosis_words`); `pack` writes what the pieces
-//! tell as bytes. `replay` runs the manifest's schedule over nodes that exchange what they know (`trace_world`), and `cluster`
-//! lets two nodes read their pieces and exchange what they know over a socket (`trace_cluster`). `init` writes the layout and the
-//! manifest that are made of texts. Nothing is written before the whole run is good. Files come from an [`Opener`], so that a run
-//! can be proved and tested over files in memory; the program opens those of the system.
+//! The input of a run is loaded once, in one place: a layout and a manifest, from their files or made of the texts of
+//! all ranks. A verb is a function of a [`Run`], which has both and the files of the manifest's pieces, and of the
+//! output. `report` reads the pieces, joins them into one knowledge, and writes its answer; `check` makes it once more
+//! straight from the rules (`trace_check`), `explain` and `graph` tell what holds up the run (`trace_diagnosis`) in
+//! words, as JSON and as a picture (`diagnosis_words`); `pack` writes what the pieces tell as bytes. `replay` runs the
+//! manifest's schedule over nodes that exchange what they know (`trace_world`), and `cluster` lets two nodes read their
+//! pieces and exchange what they know over a socket (`trace_cluster`). `init` writes the layout and the manifest that
+//! are made of texts. Nothing is written before the whole run is good. Files come from an [`Opener`], so that a run can
+//! be proved and tested over files in memory; the program opens those of the system.
 //!
 //! The work is linear in the texts, but for the joins of their pieces (`trace_know`) and the answer
 //! (`trace_node`). Memory holds what is known and the events of one piece; that of a replay also all
@@ -21,18 +21,41 @@
 //!                                                                          ▼ output, or a fault
 //! ```
 //!
-//! | To change | Open |
-//! |---|---|
-//! | how the program ends: its status, what it shows | `src/ending.rt`, `specs/Endings.antt` |
-//! | what a verb prints, and why it is refused | `specs/Verbs.antt`; [`run`], and the verb's file in [`verbs`] |
-//! | where the input comes from: files ([`load::input`]), or texts ([`load::prepared`], [`load::texts`]) | `specs/Inputs.antt`, `Prepared.antt`, `TextCalls.antt` |
-//! | when files are texts ([`load::first_look`]), and what is looked at twice ([`load::second_look`]) | `specs/Looks.antt`, `Notes.antt` |
-//! | where files come from ([`load::opener`]), and who is told how the reading comes along ([`load::watch`], [`load::terminal`]) | `specs/Files.antt` |
-//! | how a piece is read ([`pieces::piece`], with notes in [`pieces::noted`]), and in which order pieces are refused | `specs/Pieces.antt`, `Traces.antt`, `Refusals.antt`, `Notes.antt` |
-//! | what all pieces tell ([`pieces::known`], [`pieces::knowing`]), and the answer to it rank by rank ([`pieces::answering`], [`pieces::by_rank`], [`pieces::any_order`]) | `specs/Known.antt`, `Nodes.antt`, `Ranks.antt` |
-//! | packed files ([`pieces::packed`]), and which node of a cluster has what ([`pieces::shares`], [`pieces::node_texts`]) | `specs/Packed.antt`, `Shares.antt`, `NodeTexts.antt` |
-//! | a fault and its line ([`faults::fault`], of texts [`faults::init_fault`]) | `specs/FaultLines.antt`, `InitFaults.antt` |
-//! | what is said below that line ([`faults::advice`], [`faults::init_advice`], [`faults::sentences`]), by what was [`faults::found`] | `specs/Advice.antt`, `InitAdvice.antt`, `Sentences.antt`, `ShownBytes.antt` |
+//! To change something, open:
+//!
+//! - how the program ends: its status, what it shows: `src/ending.rt`, `specs/Endings.antt`
+//! - what a verb prints, and why it is refused: `specs/Verbs.antt`; [`run`], and the verb's file in [`verbs`]
+//! - where the input comes from: files ([`load::input`]), or texts ([`load::prepared`], [`load::texts`]):
+//!   `specs/Inputs.antt`, `Prepared.antt`, `TextCalls.antt`
+//! - when files are texts ([`load::first_look`]), and what is looked at twice ([`load::second_look`]):
+//!   `specs/Looks.antt`, `Notes.antt`
+//! - where files come from ([`load::opener`]), and who is told how the reading comes along ([`load::watch`],
+//!   [`load::terminal`]): `specs/Files.antt`
+//! - how a piece is read ([`pieces::piece`], with notes in [`pieces::noted`]), and in which order pieces are refused:
+//!   `specs/Pieces.antt`, `Traces.antt`, `Refusals.antt`, `Notes.antt`
+//! - what all pieces tell ([`pieces::known`], [`pieces::knowing`]), and the answer to it rank by rank
+//!   ([`pieces::answering`], [`pieces::by_rank`], [`pieces::any_order`]): `specs/Known.antt`, `Nodes.antt`,
+//!   `Ranks.antt`
+//! - packed files ([`pieces::packed`]), and which node of a cluster has what ([`pieces::shares`],
+//!   [`pieces::node_texts`]): `specs/Packed.antt`, `Shares.antt`, `NodeTexts.antt`
+//! - a fault and its line ([`faults::fault`], of texts [`faults::init_fault`]): `specs/FaultLines.antt`,
+//!   `InitFaults.antt`
+//! - what is said below that line ([`faults::advice`], [`faults::init_advice`], [`faults::sentences`]), by what was
+//!   [`faults::found`]: `specs/Advice.antt`, `InitAdvice.antt`, `Sentences.antt`, `ShownBytes.antt`
+//!
+//! # Choices
+//!
+//! - A run first asks for a block of 31 MB and gives it back (`keep_freed_memory`), so the C library keeps freed lists
+//!   of up to that size, where each fresh page is a fault. No contract and no test but the clock shows it.
+//! - A report of texts reads rank by rank: an answer needs what ranks did, so events go before the next rank is read.
+//!   In another order a refused run may read twice, and with a pipe all is joined first.
+//! - The value below C2 comes from a second look, so no fault on the way of each call owns text. N1 keeps the first
+//!   piece of a strange rank aside, since a node sees no pieces; the piece of a crew's fault is counted once more.
+//! - A cluster runs by a function of its own: it may wait for threads and a socket, and its promises hold if it
+//!   returns. `report` and `replay` promise that they return.
+//! - Files are opened through a shared reference, so no clause has to say that a run leaves its files as they were.
+//! - A check rebuilds its index if there are packed files, since the index follows pieces of one rank.
+//! - The names of a fault of `init` are copied before a file is kept, so want of memory hides none that is left.
 //!
 //! Its tests are in `tests/cases/`, `tests/rows/inputs.txt` and `tests/rows/inits.txt`, which the built program runs;
 //! `crates/command_runs_tests` has what only files in memory show.

@@ -19,7 +19,7 @@ const DISAGREEING: &[Piece] = &[
     (0, 1, &[Does::Send(8)]),
 ];
 
-/// What is reported of them, by `docs/formats.md`: rank 0 is readable up to where they disagree.
+/// What is reported of them, by `docs/formats/report.md`: rank 0 is readable up to where they disagree.
 const DISAGREED: &[u8] = b"mpimatch report 1
 ranks 2 sends wait
 rank 0 prefix 2 free beyond

@@ -1,18 +1,26 @@
 //! The input of a run and its two files: the layout and the manifest, each one JSON text.
 //!
-//! `serde_json` reads a text into a value, and the definitions in `specs/` say which layout or manifest a value is. A key
-//! that stands twice in an object has its last value, and keys that are not named here are passed over. What is written is
-//! one value without spaces and a line feed. The work is linear in the text, but for the order of a layout's communicators
-//! and their names; memory is in proportion to the text.
+//! `serde_json` reads a text into a value, and the definitions in `specs/` say which layout or manifest a value is. A
+//! key that stands twice in an object has its last value, and keys that are not named here are passed over. What is
+//! written is one value without spaces and a line feed. The work is linear in the text, but for the order of a layout's
+//! communicators and their names; memory is in proportion to the text.
 //!
-//! | Module | What it has | Its definitions |
-//! |---|---|---|
-//! | [`input`] | the input of a run | |
-//! | [`manifest`] | the pieces of a trace, and the steps of a schedule | `Manifests.antt` |
-//! | [`read`] | `fields`: the value of a text, and its fields; `layout`, `numbers`: ranks and communicators; `manifest`, `schedule`: pieces, and what nodes are to do with them | `Fields.antt`, `Layouts.antt`, `Numbers.antt`, `Manifests.antt`, `Schedules.antt` |
-//! | [`fault`] | why a text is refused | |
-//! | [`write`] | `layout`, `numbers`, `manifest`: the bytes of both files; `values`: numbers and lists in them | `Values.antt` |
-//! | [`store`] | where both files are kept, or neither; [`folder`]: as files of the system | `Stores.antt` |
+//! - [`input`]: the input of a run
+//! - [`manifest`]: the pieces of a trace, and the steps of a schedule; `Manifests.antt`
+//! - [`read`]: `fields`: the value of a text, and its fields; `layout`, `numbers`: ranks and communicators; `manifest`,
+//!   `schedule`: pieces, and what nodes are to do with them; `Fields.antt`, `Layouts.antt`, `Numbers.antt`,
+//!   `Manifests.antt`, `Schedules.antt`
+//! - [`fault`]: why a text is refused
+//! - [`write`]: `layout`, `numbers`, `manifest`: the bytes of both files; `values`: numbers and lists in them;
+//!   `Values.antt`
+//! - [`store`]: where both files are kept, or neither; [`folder`]: as files of the system; `Stores.antt`
+//!
+//! # Choices
+//!
+//! - A packed piece is a field, not a kind of file, lest a damaged pack is taken for a text without calls. One with
+//!   both `packed` and `file` is refused, lest one of them is lost.
+//! - That what is written is read back as the same is tested, not proved: `json` defines what is printed by tokens,
+//!   `serde_json` what is read by bytes, and no law of the kit ties the two.
 //!
 //! Its tests are rows of `tests/rows/inputs.txt` and `tests/rows/inits.txt`, which the built program runs.
 #![tactic(auto)]

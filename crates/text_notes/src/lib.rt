@@ -6,10 +6,14 @@
 //! - [`function`]: a function whose calls aren't read; [`noting`]: the sink; [`note`]: what was noted of one text;
 //!   [`start`]: what a text without calls is taken for
 //! - [`totals`]: the functions of all texts; [`pieceless`]: the ranks without a text
-//! - [`value`]: a second look at a text, at what it has for a parameter of a call; [`look`]: one at many calls, by a sink
-//!   ([`looking`]) that keeps from where in the program they were made ([`site`])
+//! - [`value`]: a second look at a text, at what it has for a parameter of a call; [`look`]: one at many calls, by a
+//!   sink ([`looking`]) that keeps from where in the program they were made ([`site`])
 //! - [`words`]: what is said of it
 //! - [`laws`]: that a walk into the sink collects what one without notes does
+//!
+//! To change something, open:
+//!
+//! - what a second look at a text tells: `specs/Sites.antt`, `specs/Looks.antt`; [`site`], [`looking`]
 #![tactic(auto)]
 
 mod function;

@@ -14,6 +14,15 @@
 //! - [`lines`]: the two lines that say so
 //! - [`checker`]: what is checked, from pieces to these lines
 //!
+//! To change something, open:
+//!
+//! - a line of a check; when a verdict is right: `specs/Lines.antt`, [`lines`]; `specs/Right.antt`, [`verdict`]
+//!
+//! # Choices
+//!
+//! - How a rank stands and whether it waits are asked here once more: a check that took the node's table of states
+//!   would not see a fault in it.
+//!
 //! Its tests are in `tests/cases/`, which the built program runs, and `tests/run/run_storms`.
 #![tactic(auto)]
 

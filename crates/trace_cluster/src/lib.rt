@@ -21,8 +21,25 @@
 //! A socket tells no bytes, so no contract says that both nodes know the same at the end; nor that a
 //! call which waits returns.
 //!
-//! Its tests are in `crates/node_tests/src/exchange.rt`, `socket.rt` and `unplugged.rt`, in `tests/cases/` and in
-//! `tests/run/run_clusters`.
+//! To change something, open:
+//!
+//! - what two nodes send each other, and what a refused exchange leaves: `src/exchange/leader.rt`,
+//!   `src/exchange/follower.rt`, `specs/Exchange.antt`
+//! - which refusal is named, and in what order: `src/crews.rt`, `src/meeting.rt`, `specs/Stopped.antt`
+//!
+//! # Choices
+//!
+//! - A fault says which step was refused, so what was done before is known. The meeting of both sides is a law, since
+//!   no call sees both.
+//! - The leading thread borrows what the first node knows, and gives back what it heard: the check finds no lemma that
+//!   an answer may cross to a thread (`crates/node_tests/proofs/Crossing.antt` shows one by hand).
+//! - Of two refused sides the one is named that stopped the other: a side that closes the connection makes the other's
+//!   frame end short, or its device fail.
+//! - A stranger at the socket is sent away. Who is accepted has the address of the own end, which is connected before,
+//!   so the wait for it ends; after 1,024 strangers it is `Y3 Net`.
+//!
+//! Its tests are in `crates/node_tests/src/exchange.rt` and `crates/node_tests/src/unplugged.rt`, in `tests/cases/` and
+//! in `tests/run/run_clusters`.
 #![tactic(auto)]
 
 mod crews;

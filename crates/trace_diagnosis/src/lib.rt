@@ -1,19 +1,38 @@
 //! The diagnosis of a run: what holds it up, proved or not, and what is known beside it.
 //!
-//! The stuck ranks of an answer are exact and may be few: MPI leaves ways out of a mismatched collective call, and of a rank
-//! that computes, has died or polls. The diagnosis names what holds up ranks all the same. It is a value, which others print.
+//! The stuck ranks of an answer are exact and may be few: MPI leaves ways out of a mismatched collective call, and of a
+//! rank that computes, has died or polls. The diagnosis names what holds up ranks all the same. It is a value, which
+//! others print.
 //!
 //! - [`diagnosis`]: the value; [`whole`]: the way there
-//! - [`times`]: when it was; [`standing`]: where each rank stands; [`calls`]: the calls of a rank, as its events tell them
+//! - [`times`]: when it was; [`standing`]: where each rank stands; [`calls`]: the calls of a rank, as its events tell
+//!   them
 //! - [`polls`]: which ranks poll, and for what; [`conditions`]: what each rank waits or polls for
-//! - [`holding`]: whether conditions hold, and what those need that don't; [`graph`]: who needs whom; [`roots`]: what holds
-//!   up ranks and is held up by nobody else
+//! - [`holding`]: whether conditions hold, and what those need that don't; [`graph`]: who needs whom; [`roots`]: what
+//!   holds up ranks and is held up by nobody else
 //! - [`rounds`]: mismatched rounds and open ones
 //! - [`loose`]: messages and receives in no pair; [`patterns`]: how receives name messages; [`starved`]: receives that
 //!   starve; [`before`]: what came through; [`unmatched`]: all of these together
 //! - [`near`]: what would be a pair but for one thing, by [`shelf`]s and the [`firsts`] of a pattern; [`taken`]: what
 //!   earlier receives took; [`idle`]: persistent requests that aren't active, by their [`inits`]
 //! - [`doubts`]: what may make it wrong; [`operations`]: what it names
+//!
+//! To change something, open:
+//!
+//! - what a held rank needs, and what is a root: `specs/Holding.antt`, `specs/Needs.antt`, `specs/Graph.antt`,
+//!   `specs/Roots.antt`; [`holding`], [`graph`], [`roots`]
+//! - which messages are left over, which receives starve: `specs/LeftOver.antt`; [`loose`], [`starved`]
+//! - the nearest misses: [`near`], [`shelf`], [`taken`], [`idle`]
+//! - a field of the diagnosis: [`diagnosis`]
+//!
+//! # Choices
+//!
+//! - All mismatched rounds share one node of the graph: nothing leads out of a round, so it tells which ranks need one,
+//!   and each needed round is a root of its own.
+//! - A held rank whose condition names nobody needs nothing and is a component by itself: a cycle of one.
+//! - Each operation that some part names has its call in one table, with the init of what a Start has started, so a
+//!   printer looks nothing up.
+//! - A near miss is tested once more before it is told: the shelves by which they are found are chosen for speed.
 #![tactic(auto)]
 
 mod before;

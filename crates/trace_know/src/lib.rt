@@ -14,8 +14,8 @@
 //! The readable prefix of a rank is one halving, and so is a cell. A walk over all cells takes no memory.
 //!
 //! - [`cell`]: what is known of one place
-//! - [`segment`]: events of one rank at consecutive places; [`ready`]: such whose events stand as cells; [`ready_piece`]: so
-//!   of a whole text
+//! - [`segment`]: events of one rank at consecutive places; [`ready`]: such whose events stand as cells;
+//!   [`ready_piece`]: so of a whole text
 //! - [`run`]: cells of one rank without a gap; [`boxed`]: a run in memory of its own; [`runs`]: such
 //!   runs in their order; [`run_list`]: the list that they stand in, [`chunks`]: what it is cut into;
 //!   [`copies`]: of runs; [`patches`]: joins of whole lists of runs
@@ -24,7 +24,21 @@
 //! - [`knowledge`]: all that is known; [`gathering`]: segments that come in any order
 //! - [`laws`]: what holds of joins and views, as contracts of calls that do nothing
 //!
-//! Its tests are in the crate `reading_tests`; pieces that touch or contradict each other are in `tests/rows/texts.txt`.
+//! To change something, open:
+//!
+//! - how knowledge is kept: `src/run.rt`, `src/runs.rt`: contracts speak of views, so nothing above changes
+//!
+//! # Choices
+//!
+//! - Knowledge is seen as a finite map from (rank, place). Maps with equal cells are equal, so the laws are equations.
+//!   A function from places has no number of cells; a list would be kept in order in every clause.
+//! - An ordered map would pay a search and a node for each event; a hash table has no order; a list of runs for each
+//!   rank has a second order to prove.
+//! - A rank's readable events are lent where they lie: the cells of its first run, and how many of them count. A list
+//!   of references would be a pass over all cells, and 8 bytes an event.
+//!
+//! Its tests are in the crate `reading_tests`; pieces that touch or contradict each other are in
+//! `tests/rows/texts.txt`.
 #![tactic(auto)]
 
 mod boxed;

@@ -24,7 +24,20 @@
 //! - [`follow`]: the index of the pairs, as more is known, and how far each rank was known in it
 //! - [`shared`]: what is known, and an answer, each by one owner or more
 //! - [`node`]: knowledge with its answer; [`by_rank`]: an answer by one rank after another, whose events aren't kept
-//! - [`laws`]: that there is one answer, that its pairs are certain, and that shapes tell who is stuck, as contracts of calls that do nothing
+//! - [`laws`]: that there is one answer, that its pairs are certain, and that shapes tell who is stuck, as contracts of
+//!   calls that do nothing
+//!
+//! # Choices
+//!
+//! - An answer is a relation with a law that there is one. A computing definition of the stuck ranks would be the
+//!   release once more. It is seen as plain data, with conditions as trees; a tree that holds itself has no code of
+//!   Rattle's own, so the crate writes one.
+//! - A stale node stays stale until it is asked: if the next `take` could mend it, staleness would depend on the order
+//!   of calls.
+//! - A node can hold what comes and answer later, since an answer costs as much as all that is known. Each rank of the
+//!   index may be of an older view of its own, and is brought up to what is known rank by rank.
+//! - What a post and a take do to one node of a schedule is said here too, since the crew doesn't stand on
+//!   `trace_world`. That both agree is read, not proved.
 //!
 //! Its tests are in `crates/node_tests/src/node.rt`.
 #![tactic(auto)]

@@ -23,6 +23,27 @@
 //! - `ops::gather`: the way from what is known to all of that
 //! - [`laws`]: how a rank's ops grow with its readable events, as contracts of calls that do nothing
 //!
+//! To change something, open:
+//!
+//! - what counts as a message, a receive or a probe: `src/message.rt`, `src/receive.rt`, and the file of that name in
+//!   `specs/`
+//! - what completes a request; which numbers an init holds or leaves idle: `src/completed.rt`, `src/held.rt`,
+//!   `src/active.rt`
+//! - what a Cancel leaves: `src/trust.rt`, `specs/Trust.antt`
+//! - who waits: `src/rank_state.rt`, `specs/RankState.antt`
+//!
+//! # Choices
+//!
+//! - Calls are gone through from the last to the first, so what later calls tell of a request is known when its post is
+//!   met. Forwards, each completion would search or shift a list of active requests.
+//! - Which init holds a Start's number is looked up before, from the first call on. Each part of a Startall is then a
+//!   step of its own, so all other rules speak of one operation. A rank without inits is gone through once; if an init
+//!   or a start is met, what was gathered is dropped.
+//! - Calls are read where their events lie: call n at 2n and 2n + 1. A call that has to do with no request is added by
+//!   itself.
+//! - What later calls tell of a small request number stands at its place in a list, of others in a map. The list is no
+//!   longer than the rank's calls, so a number alone asks for no memory.
+//!
 //! Its tests are the runs of `tests/rows/runs.txt`.
 #![tactic(auto)]
 

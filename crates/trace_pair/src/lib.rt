@@ -25,11 +25,39 @@
 //! - [`one_or_many`]: a set that has no tree of its own while it has one member; [`groups`],
 //!   [`queues`]: sets of calls, found by a few probes of an ordered map; [`couples`]: the pairs by
 //!   either name; [`slots`]: flat lists of values by such names
-//! - [`matched`]: the sets of an index, as one call comes or goes; [`opened`]: its open receives, by their keys; [`lanes`]:
-//!   those of one key, with their latest ends; [`later`]: which end is later; [`follow`]: as a rank's calls do;
-//!   [`together`]: as those of all ranks come; [`whole`]: whether a call has several parts
+//! - [`matched`]: the sets of an index, as one call comes or goes; [`opened`]: its open receives, by their keys;
+//!   [`lanes`]: those of one key, with their latest ends; [`later`]: which end is later; [`follow`]: as a rank's calls
+//!   do; [`together`]: as those of all ranks come; [`whole`]: whether a call has several parts
 //! - [`index`]: the index
 //! - [`laws`]: what makes the rules easy to believe, as contracts of calls that do nothing
+//!
+//! To change something, open:
+//!
+//! - which message a receive takes: `specs/Pairing.antt`; [`batch`], [`matched`]
+//! - which messages come after a receive: `specs/After.antt`; [`reach`], [`lanes`], [`ends`]
+//!
+//! # Choices
+//!
+//! - A table of pairs has no `partner`: its pairs stand in order of the message, and who follows one message or one
+//!   receive searches that list. Both ends at hand without memory would want a second list in each table, and no report
+//!   asks for it.
+//! - The rules are a `Bool` function with a bound, and a law makes the bound vanish, so worked examples compute. "The
+//!   same sender" is said by `from`, "the same rank" by `at`, as `fits` says it.
+//! - [`pair_all`] is one pass over all calls; the rules as written hold each message against all others. The calls of
+//!   all ranks are put in part by part: rank by rank nearly all messages would wait at once.
+//! - After a refused growth the index is as new: a state within a rank's change is of no use, and taking back could be
+//!   refused as well.
+//! - Open receives stand in lanes by what they name, each with the latest end up to it: a message asks for the ends of
+//!   four lanes. One set by calls would be walked for each message.
+//! - The index follows calls of one part, and keeps no table, which would be made anew at each step; nor a table by the
+//!   receive, for which only the conditions of waiting ranks ask.
+//! - What takes the messages is read for 32 of them at a time: a master's receives stand far apart in the order of its
+//!   messages, and many reads wait for memory together. The row of a key is guessed by what the key mixes to; nothing
+//!   is claimed of the guesses. Keys begin with what tells most apart, the receiver.
+//! - Messages and receives have functions of their own: a generic over one side would need a trait whose laws say of
+//!   each side which sets hold it, and by which keys.
+//! - What comes after a receive counts collective communications alone. Other collective calls are read leniently: if
+//!   they counted, a trace that lacks a communicator would let a message come after a receive too soon.
 //!
 //! Its tests are the runs of `tests/rows/runs.txt`.
 #![tactic(auto)]

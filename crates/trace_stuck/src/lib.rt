@@ -33,6 +33,23 @@
 //! - [`search`]: from where the nodes of any graph are reached; [`backward`]: its edges the other way round;
 //!   [`heart`]: the components that nothing leads out of
 //!
+//! To change something, open:
+//!
+//! - who is stuck: `specs/Stuck.antt`, `src/release.rt`
+//! - which nodes of a graph nothing leads out of: `specs/Graph.antt`, `specs/Hearts.antt`; `src/heart.rt`,
+//!   `src/search.rt`, `src/backward.rt`
+//!
+//! # Choices
+//!
+//! - It knows no MPI; what the conditions are, `trace_wait` says.
+//! - A part that is one or all of some members shares their list. A list for each part would take parts times members:
+//!   65 KB of text could ask for a terabyte. A place in a table would leave a condition that doesn't say what it waits
+//!   for.
+//! - The search passes over a part that lists the same members as another of its condition, found by content: a shared
+//!   list has no identity that a proof can use.
+//! - Hearts are searched in any graph of numbered nodes, with all of them as starts; a node without edges is a heart by
+//!   itself.
+//!
 //! Its tests are the runs that hang in `tests/rows/runs.txt`.
 #![tactic(auto)]
 

@@ -18,7 +18,15 @@
 //! - [`laws`]: nodes that the same segments reached are equal, and equal states refuse the same steps, as
 //!   contracts
 //!
-//! Its tests are in `crates/node_tests/src/world.rt`, `tests/cases/` and `tests/run/run_replays`.
+//! # Choices
+//!
+//! - The contract of `run` is a statement on all states that the world shows, so it takes no ghost list of what
+//!   happened.
+//! - A run makes its answers once, at its end. If one lacks memory, a shared copy of before is put back and the steps
+//!   are done again, each with its answer, so the fault names the step.
+//! - A mail holds its frame's bytes, so what is proved is what a frame carries.
+//!
+//! Its tests are in `tests/cases/` and `tests/run/run_replays`.
 #![tactic(auto)]
 
 mod copies;
