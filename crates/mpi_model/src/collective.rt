@@ -54,6 +54,7 @@ impl Collective {
         let _kind = self.kind;
     }
 
+    /// Its kind, which its blocking and its nonblocking function share.
     pub fn kind(self) -> Kind
         ensures { result ≡ self.kind }
     {

@@ -68,6 +68,7 @@ pub struct Device<T> {
 }
 
 impl<T> Device<T> {
+    /// A device over the inner value, with no failure counted yet.
     pub fn new(inner: T) -> Self
         ensures inner { inside result ≡ inner }
         ensures no_failure { (failed_reads result ≡ 0) × (failed_writes result ≡ 0) }

@@ -20,6 +20,7 @@ pub enum Peer {
     Any,
     /// `MPI_PROC_NULL`: the call completes at once and moves nothing (MPI 4.0, 3.10).
     Null,
+    /// A rank in the communicator's group.
     Rank(u32),
 }
 
@@ -28,6 +29,7 @@ pub enum Peer {
 pub enum CommRef {
     /// `MPI_COMM_WORLD`, whatever number the layout gives to it.
     World,
+    /// A communicator, a window or a file, by the number that the trace gives to it.
     Id(u32),
 }
 

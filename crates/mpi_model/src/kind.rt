@@ -18,6 +18,7 @@ pub use laws::each_kind;
 /// From which members of its group a collective call brings data to which (MPI 4.0, 6.2.2).
 #[derive(Clone, Copy, Debug, PartialEq, Eq)]
 pub enum Category {
+    /// From all members to all.
     AllToAll,
     /// From the root to all.
     OneToAll,
@@ -269,12 +270,14 @@ impl CollectiveFunction {
         let _kind = self.kind;
     }
 
+    /// What the function does, whether it blocks or not.
     pub fn kind(self) -> Kind
         ensures { result ≡ self.kind }
     {
         self.kind
     }
 
+    /// Whether it returns a request and doesn't wait for the operation (MPI 4.0, 6.12).
     pub fn is_nonblocking(self) -> bool
         ensures { result ≡ self.nonblocking }
     {

@@ -183,6 +183,7 @@ impl Layout {
         self.world
     }
 
+    /// How sends of standard mode complete.
     pub fn sends(&self) -> Sends
         ensures { result ≡ self.now.sends }
     {

@@ -19,18 +19,21 @@ pub enum Trust {
 }
 
 impl Trust {
+    /// Whether no Cancel that was read names it, or it completed all the same.
     pub fn is_sure(self) -> bool
         ensures { result ≡ is_sure self }
     {
         matches!(self, Trust::Sure)
     }
 
+    /// Whether a Cancel names it, and the trace doesn't say if it was cancelled.
     pub fn is_doubtful(self) -> bool
         ensures { result ≡ is_doubtful self }
     {
         matches!(self, Trust::Doubtful)
     }
 
+    /// Whether the trace says that it was cancelled: then it moves no message.
     pub fn is_void(self) -> bool
         ensures { result ≡ is_void self }
     {

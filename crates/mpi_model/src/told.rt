@@ -37,6 +37,7 @@ impl GroupRank {
         }
     }
 
+    /// The rank in the group, at most 2^31 - 1.
     pub fn number(self) -> u32
         ensures value { result ≡ self }
         ensures range { result < 2 ^ 31 }
@@ -48,7 +49,9 @@ impl GroupRank {
 /// What a status tells of where its message came from (MPI 4.0, 3.2.5: the field `MPI_SOURCE`).
 #[derive(Clone, Copy, Debug, PartialEq, Eq)]
 pub enum Told {
+    /// The trace doesn't give the source.
     Nothing,
+    /// The rank from which the message came, in the communicator's group.
     Source(GroupRank),
     /// The operation was cancelled (MPI 4.0, 3.8.4), so no message came or went.
     Cancelled,

@@ -16,6 +16,7 @@ pub struct Folder<'a, F: Files> {
 }
 
 impl<'a, F: Files> Folder<'a, F> {
+    /// The files that the system gives, with no failure counted yet.
     pub fn new(rt: &'a F) -> Self {
         Folder { rt, failures: 0 }
     }

@@ -35,6 +35,7 @@ impl Piece {
         Piece::new(rank, 0, file, 0, 0)
     }
 
+    /// A text of the calls of `rank` from call `first` on, which this worker of this node posts; both numbers count from 0.
     pub(crate) fn new(rank: u32, first: u64, file: String, node: u8, worker: u8) -> Piece
         ensures { result ≡ record { rank = rank; first = first; file = string_bytes file; node = node; worker = worker } }
     {
@@ -100,6 +101,7 @@ impl Model for PackedPiece {
 }
 
 impl PackedPiece {
+    /// A packed piece in the file of this name, which this node takes.
     pub(crate) fn new(file: String, node: u8) -> PackedPiece
         ensures { result ≡ record { file = string_bytes file; node = node } }
     {
@@ -172,6 +174,7 @@ impl Manifest {
     ghost use Rattle.std.specs.Prelude.{[]};
     ghost use Rattle.run_files.specs.Manifests.{manifest_of_texts};
 
+    /// A manifest of these texts, packed pieces and steps for so many nodes.
     pub(crate) fn new(
         pieces: Vec<Piece>,
         packed: Vec<PackedPiece>,

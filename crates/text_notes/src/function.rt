@@ -24,6 +24,8 @@ impl Model for UnreadFunction {
 }
 
 impl UnreadFunction {
+    /// A function of this name, which is copied, with the number of its first call and how many calls of it there are.
+    /// `AllocError` comes where memory for the name lacks.
     pub(crate) fn new(
         alloc: Global,
         name: &[u8],
@@ -57,6 +59,7 @@ impl UnreadFunction {
         self.count
     }
 
+    /// The same in memory of its own: `AllocError` comes where that lacks.
     pub(crate) fn try_clone(&self, alloc: Global) -> Result<UnreadFunction, AllocError>
         ensures { IfOk result (λ f. f ≡ self.now) }
     {

@@ -40,12 +40,14 @@ impl Totals {
         }
     }
 
+    /// The first ten functions that aren't read, each with the number of its calls in all texts.
     pub(crate) fn functions(&self) -> &[UnreadFunction]
         ensures { result.now ≡ self.now.functions }
     {
         self.functions.as_slice()
     }
 
+    /// How many calls of other functions that aren't read there are. The count stays at the greatest of its type.
     pub(crate) fn others(&self) -> u64
         ensures { result ≡ self.now.others }
     {

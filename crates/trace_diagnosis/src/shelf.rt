@@ -25,6 +25,7 @@ pub(crate) struct Shelf {
 }
 
 impl Shelf {
+    /// A shelf without keys. It takes no memory.
     pub fn new(alloc: Global) -> Shelf {
         Shelf {
             things: BTreeMap::new(alloc),

@@ -290,6 +290,7 @@ pub(crate) struct Takers<'a> {
 }
 
 impl<'a> Takers<'a> {
+    /// The open receives of these operations: `AllocError` comes where memory for them lacks.
     pub fn of(
         alloc: Global,
         ops: &'a [RankOps],

@@ -36,6 +36,7 @@ impl Model for BoxedRun {
 }
 
 impl BoxedRun {
+    /// The run, moved into memory of its own: `AllocError` comes where that lacks, and the run is dropped.
     pub(crate) fn new(alloc: Global, run: Run) -> Result<BoxedRun, AllocError>
         ensures { IfOk result (λ boxed. boxed ≡ run) }
     {
@@ -43,6 +44,7 @@ impl BoxedRun {
         Ok(BoxedRun { run })
     }
 
+    /// The run, where it stands.
     pub(crate) fn get(&self) -> &Run
         ensures { result.now ≡ self.now }
     {
@@ -61,12 +63,14 @@ impl BoxedRun {
         *Box::allocator(&self.run)
     }
 
+    /// The rank of all its cells.
     pub(crate) fn rank(&self) -> u32
         ensures { result ≡ self.now.rank }
     {
         self.run.rank
     }
 
+    /// The place of its first cell.
     pub(crate) fn first(&self) -> u64
         ensures { result ≡ self.now.first }
     {

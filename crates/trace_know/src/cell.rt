@@ -43,6 +43,7 @@ impl Known {
         }
     }
 
+    /// Whether events that differ reached the place.
     pub(crate) fn is_contradiction(&self) -> bool
         ensures { result ≡ is_contradiction self.now }
     {

@@ -346,6 +346,8 @@ impl Knowledge {
         same_cells(self.cells(), other.cells())
     }
 
+    /// The same knowledge in memory of its own, times included: `AllocError` comes where that lacks. The copy takes time and
+    /// memory by the number of cells.
     pub fn try_clone(&self) -> Result<Knowledge, AllocError>
         ensures { IfOk result (λ copy. copy ≡ self.now) }
     {

@@ -96,6 +96,7 @@ impl ReadySegment {
         let _ = &self.piece;
     }
 
+    /// An equal segment, which stands ready too, in memory of its own: `AllocError` comes where that lacks.
     pub fn try_clone(&self) -> Result<ReadySegment, AllocError>
         ensures { IfOk result (λ copy. copy ≡ self.now) }
     {

@@ -145,6 +145,7 @@ impl Answer {
         self.foreign
     }
 
+    /// The same answer in memory of its own: `AllocError` comes where that lacks.
     pub fn try_clone(&self) -> Result<Answer, AllocError>
         ensures { IfOk result (λ copy. copy ≡ self.now) }
     {

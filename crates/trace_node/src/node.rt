@@ -290,6 +290,7 @@ impl<'a> Node<'a> {
         &self.know
     }
 
+    /// The layout of the run, which stays the same for the whole life of the node.
     pub fn layout(&self) -> &'a Layout
         ensures { result.now ≡ self.now.layout }
     {

@@ -190,6 +190,7 @@ impl<'a> Model for Calls<'a> {
 }
 
 impl<'a> Calls<'a> {
+    /// The calls of these events. `local` is a local call, which stands wherever no call was entered.
     pub fn new(events: Readable<'a>, local: &'a Call) -> Calls<'a>
         requires { local.now ≡ Local }
         ensures { result ≡ calls_of events.entry }

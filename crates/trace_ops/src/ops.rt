@@ -109,6 +109,7 @@ impl RankOps {
         &self.cancelled
     }
 
+    /// How the rank stands at the end of its readable events.
     pub fn state(&self) -> State
         ensures { result ≡ self.now.state }
     {
@@ -132,6 +133,7 @@ impl RankOps {
         self.foreign
     }
 
+    /// The same operations in memory of their own: `AllocError` comes where that lacks.
     pub fn try_clone(&self) -> Result<RankOps, AllocError>
         ensures { IfOk result (λ copy. copy ≡ self.now) }
     {

@@ -131,6 +131,7 @@ impl Lane {
         Ok(Lane { steps })
     }
 
+    /// Whether no receive stands in it.
     pub(crate) fn is_empty(&self) -> bool
         ensures none { IsTrue result → (d : Receive) → contains receive_cmp self.now d ≡ false }
         ensures some { result ≡ false → HasMember receive_cmp self.now }

@@ -35,6 +35,7 @@ impl Model for Messages {
 }
 
 impl Messages {
+    /// No message. It takes no memory.
     pub(crate) fn empty(alloc: Global) -> Messages
         ensures { result ≡ [] }
     {
@@ -107,6 +108,7 @@ pub(crate) struct Kinds {
     pub(crate) untold_any_tag: bool,
 }
 
+/// The kinds of a set that never had a receive.
 pub(crate) const NO_KINDS: Kinds = Kinds {
     told: false,
     told_any_tag: false,
@@ -166,6 +168,7 @@ impl Model for Receives {
 }
 
 impl Receives {
+    /// No receive. It takes no memory.
     pub(crate) fn empty(alloc: Global) -> Receives
         ensures { result ≡ [] }
     {

@@ -33,6 +33,7 @@ impl Model for RankedReceives {
 }
 
 impl RankedReceives {
+    /// No receive. It takes no memory.
     pub(crate) fn empty(alloc: Global) -> RankedReceives
         ensures { result ≡ [] }
     {

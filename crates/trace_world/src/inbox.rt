@@ -24,6 +24,7 @@ impl Model for SegmentQueue {
 }
 
 impl SegmentQueue {
+    /// A queue without segments. It takes no memory.
     pub(crate) fn new(alloc: Global) -> SegmentQueue
         ensures { result ≡ [] }
     {
@@ -57,12 +58,14 @@ impl SegmentQueue {
         let _ = self.queue.pop_front();
     }
 
+    /// Drops all segments of the queue.
     pub(crate) fn clear(&mut self)
         ensures { self.new ≡ [] }
     {
         self.queue.clear();
     }
 
+    /// How many segments wait in the queue.
     pub(crate) fn len(&self) -> usize
         ensures { result ≡ length self.now }
     {

@@ -15,6 +15,7 @@ pub(crate) struct Letter<'a> {
 }
 
 impl<'a> Letter<'a> {
+    /// A reader of these bytes, from the first on.
     pub(crate) fn new(bytes: &'a [u8]) -> Letter<'a>
         ensures { result.bytes.now ≡ bytes.now }
     {

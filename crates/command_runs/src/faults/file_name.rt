@@ -15,6 +15,7 @@ pub struct FileName<'a> {
 impl<'a> FileName<'a> {
     ghost use Rattle.std.specs.Prelude.{◌≡◌};
 
+    /// The file of this name, as the command line or a manifest spells it.
     pub fn new(name: &'a str) -> Self
         ensures { result.name.now ≡ name.now }
     {

@@ -53,6 +53,7 @@ pub struct Disk<'a, F: Files> {
 }
 
 impl<'a, F: Files> Disk<'a, F> {
+    /// The files that the system gives.
     pub fn new(rt: &'a F) -> Self {
         Disk { rt }
     }

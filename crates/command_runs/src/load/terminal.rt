@@ -27,6 +27,7 @@ pub struct Terminal<'a, R: Eprint + Clock> {
 }
 
 impl<'a, R: Eprint + Clock> Terminal<'a, R> {
+    /// A watcher of a run that hasn't begun. `is_terminal` says whether standard error is a terminal.
     pub fn new(rt: &'a R, is_terminal: bool) -> Self {
         Terminal {
             rt,

@@ -69,6 +69,7 @@ impl Exchange {
         }))
     }
 
+    /// An equal pair of envelopes in memory of its own: `AllocError` comes where that lacks.
     pub fn try_clone(&self) -> Result<Exchange, AllocError>
         ensures { IfOk result (λ e. e ≡ self.now) }
     {
@@ -86,6 +87,7 @@ impl Exchange {
         let _receive = self.both.receive.unpack();
     }
 
+    /// The envelope of the message that is sent: its peer is the destination.
     pub fn send(&self) -> Envelope
         ensures value { result ≡ self.now.send }
         ensures range { IsSend result }
@@ -93,6 +95,7 @@ impl Exchange {
         self.both.send.unpack()
     }
 
+    /// The envelope of the message that is received: its peer is the source.
     pub fn receive(&self) -> Envelope
         ensures value { result ≡ self.now.receive }
         ensures range { IsReceive result }

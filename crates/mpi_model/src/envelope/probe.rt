@@ -47,6 +47,7 @@ impl ProbeEnvelope {
         let _comm = self.comm;
     }
 
+    /// The rank in the group from which it looks for a message, or any rank, or the null process.
     pub fn source(self) -> Peer
         ensures value { result ≡ self.source }
         ensures range { IsSource result }
@@ -62,6 +63,7 @@ impl ProbeEnvelope {
         self.tag
     }
 
+    /// The communicator in which it looks for a message.
     pub fn comm(self) -> CommRef
         ensures value { result ≡ self.comm }
         ensures range { IsComm result }

@@ -48,6 +48,7 @@ impl SendEnvelope {
         let _inner = self.inner.unpack();
     }
 
+    /// The envelope with its fields, as [`new`](Self::new) took it.
     pub fn envelope(self) -> Envelope
         ensures value { result ≡ self }
         ensures range { IsSend result }

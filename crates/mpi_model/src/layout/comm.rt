@@ -39,6 +39,7 @@ impl Model for Comm {
 }
 
 impl Comm {
+    /// An object of an id, with the ranks of its group and the numbers that these give to it.
     pub(crate) fn new(
         id: u32,
         object: Object,
@@ -55,24 +56,28 @@ impl Comm {
         }
     }
 
+    /// Its number in the layout.
     pub(crate) fn id(&self) -> u32
         ensures { result ≡ self.now.comm }
     {
         self.id
     }
 
+    /// Whether it is a communicator, a window or a file.
     pub(crate) fn object(&self) -> Object
         ensures { result ≡ self.now.object }
     {
         self.object
     }
 
+    /// The ranks of its group, in the group's order.
     pub(crate) fn members(&self) -> &[u32]
         ensures { result.now ≡ self.now.members }
     {
         &self.members
     }
 
+    /// For each member, by which number its calls name the object; empty where all name it by its id.
     pub(crate) fn numbers(&self) -> &[Option<Stretch>]
         ensures { result.now ≡ self.now.numbers }
     {

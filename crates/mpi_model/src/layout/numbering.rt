@@ -17,6 +17,7 @@ pub(crate) struct Numbering {
 }
 
 impl Numbering {
+    /// The numbering of these names, in their order, with the place where those of each rank begin.
     pub(crate) fn of_names(
         alloc: Global,
         names: Vec<Name>,
@@ -41,6 +42,7 @@ impl Numbering {
         numbered_in(&self.names, &self.starts, rank, call, number)
     }
 
+    /// An equal numbering in memory of its own.
     pub(crate) fn copied(&self, alloc: Global) -> Result<Numbering, AllocError>
         ensures names { IfOk result (λ n. n.names.items ≡ self.now.names.items) }
         ensures starts { IfOk result (λ n. n.starts.items ≡ self.now.starts.items) }

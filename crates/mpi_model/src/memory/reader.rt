@@ -98,6 +98,7 @@ pub struct EndlessReader {
 impl EndlessReader {
     ghost use Rattle.mpi_model.specs.Devices.{repeated};
 
+    /// A reader that gives this byte for ever.
     pub fn new(byte: u8) -> Self
         ensures { repeated result ≡ byte }
     {
