@@ -7,7 +7,8 @@ use mpi_model::Comm;
 pub struct Derived {
     /// The number of MPI_COMM_WORLD, 2 where no rank tells it.
     pub world: u32,
-    /// The world, and the communicators, windows and files that some call of the profile names, in the order of a layout.
+    /// The world, and the communicators, windows and files that some call of the profile names, in the order of a
+    /// layout.
     pub comms: Vec<Comm>,
     /// What is left out, by rank and then by call.
     pub left_out: Vec<LeftOut>,
@@ -57,8 +58,8 @@ pub enum Why {
     UnknownParent,
     /// Its parent is left out.
     Parent,
-    /// A member of the parent has no such call, or no call tells the ranks of one that is reordered, or the parent has no
-    /// known dimensions.
+    /// A member of the parent has no such call, or no call tells the ranks of one that is reordered, or the parent has
+    /// no known dimensions.
     Untold,
     /// The members' calls differ where they have to agree, or a parameter is unknown.
     Unsound,

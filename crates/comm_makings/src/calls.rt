@@ -74,8 +74,8 @@ pub enum Action {
         comm: Option<u32>,
         given: Given,
     },
-    /// A call that makes a window or a file of the members of a communicator, and the number that it gives, where it gives
-    /// one that can be read.
+    /// A call that makes a window or a file of the members of a communicator, and the number that it gives, where it
+    /// gives one that can be read.
     MakeObject {
         maker: ObjectMaker,
         parent: Option<u32>,

@@ -42,7 +42,8 @@ pub(crate) struct Order {
 pub(crate) struct Member {
     /// Its rank in the run.
     pub rank: u32,
-    /// The handle by which it names the communicator, where its text does; of a window or a file it is one of that sort.
+    /// The handle by which it names the communicator, where its text does; of a window or a file it is one of that
+    /// sort.
     pub handle: Option<usize>,
 }
 

@@ -144,7 +144,8 @@ verb_named name = if bytes_eq name (codes "explain") then Some (Explain Cut)
     else if bytes_eq name (codes "check") then Some Check
     else if bytes_eq name (codes "pack") then Some Pack else None
 
--- what `init` is to make: how sends complete, the names of the two files, and whether files of these names are written over
+-- what `init` is to make: how sends complete, the names of the two files, and whether files of these names are written
+-- over
 pub record Wish : Type 0 where
   pub sends : Sends
   pub layout : Text
@@ -155,7 +156,8 @@ pub record Wish : Type 0 where
 abbrev pub wish_of : Wanted → Wish
 wish_of m = record { sends = m.sends; layout = m.layout.now; manifest = m.manifest.now; force = m.force }
 
--- what the words ask for: a verb over a layout and a manifest, a verb over its files, a cluster of a layout and a manifest, or `init` over its texts
+-- what the words ask for: a verb over a layout and a manifest, a verb over its files, a cluster of a layout and a
+-- manifest, or `init` over its texts
 pub data Request : Type 0 where
   pair : Verb → Text → Text → Request
   files : Verb → List Text → Request

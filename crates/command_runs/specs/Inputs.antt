@@ -70,8 +70,8 @@ abbrev pub LacksRank : Option ℕ → Parts → Type 0
 LacksRank None l = ⊥
 LacksRank (Some rank) l = l.ranks ≤ rank
 
--- Why there is no input: the layout is refused; or it doesn't have the rank that is asked for, which is seen before the manifest
--- is read; or the manifest is refused.
+-- Why there is no input: the layout is refused; or it doesn't have the rank that is asked for, which is seen before the
+-- manifest is read; or the manifest is refused.
 abbrev pub RefusesLoading : Type 0 → (List ℕ → Option (List ℕ)) → Option ℕ → List ℕ → List ℕ → RunFault → Type 0
 RefusesLoading fails file rank layout manifest fault = RefusesInput RefusesLayout fails layout (file layout) fault
     ⊎ ((l : Parts) × TellsLayout (file layout) l

@@ -20,8 +20,8 @@ use mpi_model::{Layout, Write};
 use run_files::{Manifest, RunInput};
 use std::alloc::{AllocError, Global};
 
-/// What a verb runs over: the layout and the manifest, which were read or made, and where the files of the manifest's pieces
-/// come from.
+/// What a verb runs over: the layout and the manifest, which were read or made, and where the files of the manifest's
+/// pieces come from.
 #[derive(Drop)]
 pub struct Run<'a, O: Opener> {
     pub alloc: Global,
@@ -62,8 +62,8 @@ pub enum Outcome {
 const FIRST_BLOCK: usize = 32_505_856;
 
 /// Asks for a block of memory and gives it back, unwritten. From that glibc's allocator learns how large the blocks are
-/// that a run frees: lists up to that size then stand in its heap, of which it keeps twice as much for what is asked for
-/// next, and each page isn't fetched anew from the system. Where the block is refused, nothing changes.
+/// that a run frees: lists up to that size then stand in its heap, of which it keeps twice as much for what is asked
+/// for next, and each page isn't fetched anew from the system. Where the block is refused, nothing changes.
 fn keep_freed_memory(alloc: Global) {
     let block: Result<Vec<u8>, AllocError> = Vec::with_capacity(alloc, FIRST_BLOCK);
     drop(block);

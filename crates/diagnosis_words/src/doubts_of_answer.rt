@@ -16,9 +16,9 @@ const MOST_SHOWN: usize = 10;
 /// The most messages that are named on a line.
 const MOST_NAMED: usize = 3;
 
-/// Says in words of which places two pieces tell two things, and which messages are in no pair since a receive may have taken
-/// them. It is said behind [`diagnosis_words`](crate::diagnosis_words), and of the answer and of what is known, since a
-/// diagnosis tells neither.
+/// Says in words of which places two pieces tell two things, and which messages are in no pair since a receive may have
+/// taken them. It is said behind [`diagnosis_words`](crate::diagnosis_words), and of the answer and of what is known,
+/// since a diagnosis tells neither.
 pub fn answer_doubts(
     alloc: Global,
     layout: &Layout,

@@ -6,7 +6,8 @@ use std::alloc::{AllocError, Global};
 use std::collections::BTreeMap;
 use trace_diagnosis::{Beyond, Stand, Standing};
 
-/// Ranks that stand alike: in or behind calls of one function on one object in one round, from one place of the program.
+/// Ranks that stand alike: in or behind calls of one function on one object in one round, from one place of the
+/// program.
 #[derive(Debug, Drop)]
 pub(crate) struct Group {
     pub ranks: Vec<u32>,

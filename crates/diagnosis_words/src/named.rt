@@ -25,8 +25,8 @@ fn push_last(
     Ok(())
 }
 
-/// The calls that a diagnosis names, by rank and number, in rising order and each once, and the last ones of a rank that is
-/// asked for: what is said of them wants to be looked up in the texts.
+/// The calls that a diagnosis names, by rank and number, in rising order and each once, and the last ones of a rank
+/// that is asked for: what is said of them wants to be looked up in the texts.
 pub fn named_calls(
     alloc: Global,
     diagnosis: &Diagnosis,

@@ -74,8 +74,8 @@ impl TextFacts {
         }
     }
 
-    /// Adds what a second look at a text has found: the text's place among the notes is given, and each call has the number
-    /// among the calls of its rank that the note's piece gives it.
+    /// Adds what a second look at a text has found: the text's place among the notes is given, and each call has the
+    /// number among the calls of its rank that the note's piece gives it.
     pub fn add(&mut self, alloc: Global, note: usize, look: Look) -> Result<(), AllocError> {
         let (rank, first) = match self.notes.as_slice().get(note) {
             Some(noted) => (noted.rank(), noted.first()),

@@ -110,9 +110,9 @@ impl Collect {
         }
     }
 
-    /// The events as a piece of a rank that stands ready, from the Enter of its call `first_call` on, however many: none
-    /// is moved. No event gives no piece. It answers `Place` where an event would have a place at 2^40 or past it, and
-    /// `Memory`.
+    /// The events as a piece of a rank that stands ready, from the Enter of its call `first_call` on, however many:
+    /// none is moved. No event gives no piece. It answers `Place` where an event would have a place at 2^40 or past it,
+    /// and `Memory`.
     pub fn into_piece(self, rank: u32, first_call: u64) -> Result<Option<ReadyPiece>, SegmentFault>
         ensures ok { IfOk result (λ piece. piece ≡ piece_of rank first_call self) }
         ensures place { result ≡ Err Place ↔ HasPlacesPast first_call self }
@@ -132,8 +132,8 @@ impl Collect {
     }
 
     /// The events as segments of a rank that stand ready, from the Enter of its call `first_call` on, cut after each
-    /// 65,536 events: where there are more, each is moved. No event gives no segment. It answers `Place` where an event would have a place at
-    /// 2^40 or past it, and `Memory`.
+    /// 65,536 events: where there are more, each is moved. No event gives no segment. It answers `Place` where an event
+    /// would have a place at 2^40 or past it, and `Memory`.
     pub fn into_ready(self, rank: u32, first_call: u64) -> Result<Vec<ReadySegment>, SegmentFault>
         ensures ok { IfOk result (λ segments. AreSegments rank first_call self segments.items) }
         ensures place { result ≡ Err Place ↔ HasPlacesPast first_call self }

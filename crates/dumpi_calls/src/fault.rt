@@ -32,9 +32,9 @@ pub enum WalkCause<F> {
 #[error("{cause}, at line {line}, after {calls} calls")]
 pub struct WalkFault<F> {
     pub cause: WalkCause<F>,
-    /// Lines are numbered from 1. That of a text's fault is the fault's own; that of a call that is refused, or for which
-    /// no memory was left, is its entering line. Where no memory was left to read the next call it is the last line of the
-    /// call before, 0 before the first.
+    /// Lines are numbered from 1. That of a text's fault is the fault's own; that of a call that is refused, or for
+    /// which no memory was left, is its entering line. Where no memory was left to read the next call it is the last
+    /// line of the call before, 0 before the first.
     pub line: u64,
     /// How many calls were handed on: those before the line.
     pub calls: u64,

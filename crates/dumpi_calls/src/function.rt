@@ -253,8 +253,8 @@ fn short_of(name: &[u8]) -> &[u8]
     }
 }
 
-/// Whether a collective function has this name, of which `short` is what stands before a `_c`. That may stand behind the
-/// name of a function that has a form with counts of 64 bits.
+/// Whether a collective function has this name, of which `short` is what stands before a `_c`. That may stand behind
+/// the name of a function that has a form with counts of 64 bits.
 fn is_called(name: &[u8], short: &[u8], function: CollectiveFunction) -> bool
     requires { short.now ≡ short_name name.now }
     ensures { result ≡ is_called name.now function }

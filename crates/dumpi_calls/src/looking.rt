@@ -27,8 +27,8 @@ fn is_one_of(name: &[u8], parameters: &[Parameter]) -> bool
     false
 }
 
-/// The parameters that a collective call on an object is read by: those that may name it, and the request of a nonblocking
-/// one.
+/// The parameters that a collective call on an object is read by: those that may name it, and the request of a
+/// nonblocking one.
 fn looked_on(parameter: ObjectParameter) -> &'static [Parameter]
     ensures { result.now ≡ Parameter.Request ∷ object_parameters parameter }
 {

@@ -18,8 +18,8 @@ use mpi_model::{Call, Exit, Stamp};
 ///
 /// # A sink of one's own
 ///
-/// How many elements a rank was sent. `elements_after` is a definition in the `specs/` of the sink's crate: the elements
-/// with one call more.
+/// How many elements a rank was sent. `elements_after` is a definition in the `specs/` of the sink's crate: the
+/// elements with one call more.
 ///
 /// ```rust
 /// struct SentTo {
@@ -29,7 +29,8 @@ use mpi_model::{Call, Exit, Stamp};
 ///
 /// impl SentTo {
 ///     fn add(&mut self, call: Call)
-///         ensures { self.new ≡ record { rank = self.old.rank; elements = elements_after self.old.rank self.old.elements call } }
+///         ensures { self.new ≡
+///             record { rank = self.old.rank; elements = elements_after self.old.rank self.old.elements call } }
 ///     {
 ///         let sent = match &call {
 ///             Call::Send(_, envelope) | Call::Isend(_, envelope) => envelope.envelope(),
@@ -48,7 +49,8 @@ use mpi_model::{Call, Exit, Stamp};
 /// impl CallSink for SentTo {
 ///     type Fault = Infallible;
 ///
-///     ghost step = { λ sink seen. record { rank = sink.rank; elements = elements_after sink.rank sink.elements seen.call } };
+///     ghost step = { λ sink seen.
+///         record { rank = sink.rank; elements = elements_after sink.rank sink.elements seen.call } };
 ///
 ///     fn on_send(&mut self, call: Call, _enter: Stamp, _exit: Option<Exit>) -> Result<(), Infallible> {
 ///         self.add(call);
@@ -191,7 +193,8 @@ pub trait CallSink {
         ensures ok { OnOk result (self.new ≡ step self.old (seen OnRequestFree call enter exit)) }
         ensures err { OnErr result (self.new ≡ self.old) };
 
-    /// A blocking collective call of a [`Kind`](mpi_model::Kind), where it names its object; also with `_c` behind its name.
+    /// A blocking collective call of a [`Kind`](mpi_model::Kind), where it names its object; also with `_c` behind its
+    /// name.
     fn on_collective(
         &mut self,
         call: Call,
@@ -271,8 +274,8 @@ pub trait CallSink {
         ensures ok { OnOk result (self.new ≡ step self.old (seen OnImrecv call enter exit)) }
         ensures err { OnErr result (self.new ≡ self.old) };
 
-    /// A function that moves messages and that isn't read, or a call at which another thread ended the reading; its name
-    /// comes first. What the rank does from there on isn't known.
+    /// A function that moves messages and that isn't read, or a call at which another thread ended the reading; its
+    /// name comes first. What the rank does from there on isn't known.
     fn on_unread(
         &mut self,
         name: &[u8],

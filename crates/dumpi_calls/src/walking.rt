@@ -116,8 +116,8 @@ pub(crate) fn handed(raw: &RawCall) -> HandedCall
     HandedCall { open_line }
 }
 
-/// The next call of the text, put in the place of the one before: whether there is one. A text is read call by call like
-/// this where no sink is to be told of its calls. Nothing of its parameters is looked at.
+/// The next call of the text, put in the place of the one before: whether there is one. A text is read call by call
+/// like this where no sink is to be told of its calls. Nothing of its parameters is looked at.
 #[tactic(auto, using(crate::proofs::Failing::fails))]
 pub fn next_call<R: Read>(texts: &mut Texts<R>, raw: &mut RawCall) -> Result<bool, TextFault>
     ensures goes_on { GoesOn texts.old result raw.new texts.new }
@@ -180,7 +180,8 @@ pub(crate) fn lack<F: Drop>(fault: TextFault, line: u64, calls: u64) -> WalkFaul
     }
 }
 
-/// The next call, where it stands at hand whole and in its usual form, which is taken then, and the line where it begins.
+/// The next call, where it stands at hand whole and in its usual form, which is taken then, and the line where it
+/// begins.
 #[inline(always)]
 #[tactic(auto, using(crate::proofs::Advancing::follows_whole, crate::proofs::Advancing::stands_whole))]
 fn whole_of<R: Read>(alloc: Global, texts: &mut Texts<R>) -> Option<(Whole, u64)>

@@ -65,8 +65,8 @@ pub enum Call {
 }
 
 impl Call {
-    /// An equal call. The lists of requests and the two envelopes of an `MPI_Sendrecv` are copied into memory of their own:
-    /// `AllocError` comes where that lacks.
+    /// An equal call. The lists of requests and the two envelopes of an `MPI_Sendrecv` are copied into memory of their
+    /// own: `AllocError` comes where that lacks.
     pub fn try_clone(&self) -> Result<Call, AllocError>
         ensures { IfOk result (λ c. c ≡ self.now) }
     {

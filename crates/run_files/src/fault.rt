@@ -23,8 +23,8 @@ pub enum Field {
 pub enum InputFault {
     #[error("Memory")]
     Memory,
-    /// The bytes are no JSON, or no UTF-8, as `serde_json` notices at this line and column, both from 1; column 0 is before the
-    /// line's first byte.
+    /// The bytes are no JSON, or no UTF-8, as `serde_json` notices at this line and column, both from 1; column 0 is
+    /// before the line's first byte.
     #[error("M2 Json")]
     Json { line: u64, column: u64 },
     /// This field is missing, of another kind, or out of its range, or a field in it is.

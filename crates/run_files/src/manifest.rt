@@ -35,7 +35,8 @@ impl Piece {
         Piece::new(rank, 0, file, 0, 0)
     }
 
-    /// A text of the calls of `rank` from call `first` on, which this worker of this node posts; both numbers count from 0.
+    /// A text of the calls of `rank` from call `first` on, which this worker of this node posts; both numbers count
+    /// from 0.
     pub(crate) fn new(rank: u32, first: u64, file: String, node: u8, worker: u8) -> Piece
         ensures { result ≡ record { rank = rank; first = first; file = string_bytes file; node = node; worker = worker } }
     {

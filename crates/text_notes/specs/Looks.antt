@@ -92,7 +92,8 @@ greatest_size (call ∷ calls) = greater (size_of call.0) (greatest_size calls)
 
 -- ---- a whole text
 
--- What a look tells of a text: the call sites of the calls that were wanted, the functions of local calls, and the size of the world.
+-- What a look tells of a text: the call sites of the calls that were wanted, the functions of local calls, and the size
+-- of the world.
 pub record LookParts : Type 0 where
   pub sites : List SiteParts
   pub local : List UnreadParts

@@ -79,8 +79,8 @@ fn fault_of(fault: WalkFault<Memory>) -> LookFault
     }
 }
 
-/// Looks a second time at a text that was read: for the calls of these numbers, for the local calls whose numbers are below
-/// the limit, and for the size of the world. The text is read in one pass, and memory grows with what is told.
+/// Looks a second time at a text that was read: for the calls of these numbers, for the local calls whose numbers are
+/// below the limit, and for the size of the world. The text is read in one pass, and memory grows with what is told.
 #[tactic(auto, using(crate::proofs::Looked::tells))]
 pub fn look_at<R: Read>(
     alloc: Global,

@@ -30,9 +30,9 @@ impl Model for TextNote {
 }
 
 impl TextNote {
-    /// The note of a text: the rank and the first call of its piece, the name of its file and how a line for a person shows
-    /// it, what a walk over it told, the functions of its calls that are not read, and, where it was looked at again, what it
-    /// is taken for.
+    /// The note of a text: the rank and the first call of its piece, the name of its file and how a line for a person
+    /// shows it, what a walk over it told, the functions of its calls that are not read, and, where it was looked at
+    /// again, what it is taken for.
     pub fn new(
         piece: (u32, u64),
         path: String,
@@ -118,7 +118,8 @@ impl TextNote {
         self.start
     }
 
-    /// The line where the call of a number begins, where the walk told it: that of the last call, unless it has returned.
+    /// The line where the call of a number begins, where the walk told it: that of the last call, unless it has
+    /// returned.
     pub fn line_of(&self, number: u64) -> Option<u64>
         ensures { result ≡ line_in_note number self.now }
     {

@@ -9,8 +9,8 @@ use dumpi_text::RawCall;
 use std::alloc::{AllocError, Global};
 use std::marker::Model;
 
-/// A call of a text as it stands there: its number among the calls of the text, from 0, the line where it begins, the name
-/// of its function, and, where the text tells it, from where in the program it was made.
+/// A call of a text as it stands there: its number among the calls of the text, from 0, the line where it begins, the
+/// name of its function, and, where the text tells it, from where in the program it was made.
 #[derive(Debug, Drop)]
 pub struct CallSite {
     number: u64,

@@ -232,8 +232,8 @@ fn put_kind(out: &mut Text, kind: Kind, notes: &[TextNote])
 }
 
 /// Says what should make one doubt the texts that were read: the functions of calls that are not read, with how many
-/// there are, the first such call of each text, the texts without a call, and those of which lines were skipped. Nothing
-/// is said of texts of which there is nothing to say.
+/// there are, the first such call of each text, the texts without a call, and those of which lines were skipped.
+/// Nothing is said of texts of which there is nothing to say.
 pub fn put_notes(alloc: Global, out: &mut Text, notes: &[TextNote])
     ensures { Adds out.old out.new (notes_text notes.now) }
 {

@@ -172,7 +172,8 @@ fn put_at(of_ranks: &mut [Option<Condition>], rank: u32, condition: Option<Condi
     of_ranks[place] = condition;
 }
 
-/// Puts the condition of the last of these pollers in its place. It is one of the last of the polls' conditions, which are taken away.
+/// Puts the condition of the last of these pollers in its place. It is one of the last of the polls' conditions, which
+/// are taken away.
 fn put_last(
     poller: &Poller<'_>,
     rest: &mut Vec<Condition>,

@@ -1,7 +1,8 @@
 //! The value of a diagnosis: lists of facts, each small.
 //!
-//! Ranks are those of the trace, and stand in rising order in each list. Objects (communicators, windows, files) are named
-//! by their ids in the layout, and a round by its object and its number `k`, from 0. Times are wall times in nanoseconds.
+//! Ranks are those of the trace, and stand in rising order in each list. Objects (communicators, windows, files) are
+//! named by their ids in the layout, and a round by its object and its number `k`, from 0. Times are wall times in
+//! nanoseconds.
 
 use mpi_model::{Call, CollectiveFunction, Message, Object, OpName, Receive, Sends};
 use trace_stuck::{Condition, RoundName};

@@ -1,7 +1,8 @@
 //! Who needs whom: the held ranks, and the ranks and the rounds that they need.
 //!
-//! A graph has a node for each rank, and behind them one for all rounds: an edge leads from a held rank to each of its needs.
-//! No edge leads out of a round, so that one node for all of them is enough to find who is held up by ranks alone.
+//! A graph has a node for each rank, and behind them one for all rounds: an edge leads from a held rank to each of its
+//! needs. No edge leads out of a round, so that one node for all of them is enough to find who is held up by ranks
+//! alone.
 
 ghost use Rattle.std.specs.Prelude.{◌≡◌, ◌++◌, ◌≤◌, ◌+◌, ◌^◌, ℕ, IfOk, OnOk, length, map, vec_len};
 ghost use Rattle.std.specs.List.{range_with_len};

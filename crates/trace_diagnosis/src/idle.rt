@@ -1,5 +1,5 @@
-//! Persistent requests that aren't active: never started, or not again, or freed. Each is looked up as the message or the
-//! receive that a start of it would make.
+//! Persistent requests that aren't active: never started, or not again, or freed. Each is looked up as the message or
+//! the receive that a start of it would make.
 
 ghost use Rattle.std.specs.Prelude.{◌≡◌, not};
 ghost use Rattle.std.specs.BTreeSet.{contains};

@@ -119,8 +119,8 @@ pub(crate) fn is_unpaired(pairs: &PairsByReceive<'_>, place: &mut usize, q: &Rec
     pairs.message_near(q.name, place).is_none()
 }
 
-/// Whether a message in no pair is left over: it is sure, and no receive in no pair may have taken it. `ends` are those of
-/// these receives.
+/// Whether a message in no pair is left over: it is sure, and no receive in no pair may have taken it. `ends` are those
+/// of these receives.
 fn is_left(ends: &Ends, reaches: &Reaches<'_>, m: &Message) -> bool
     ensures { (free : List Wanted) → AreLast free ends.now → result ≡ is_left_beside reaches.now free m.now }
 {
@@ -146,8 +146,8 @@ pub(crate) fn left_over_of(
     Ok(left)
 }
 
-/// Whether a message in no pair is undecided: it is sure, and a receive in no pair may have taken it. `ends` are those of these
-/// receives.
+/// Whether a message in no pair is undecided: it is sure, and a receive in no pair may have taken it. `ends` are those
+/// of these receives.
 fn is_undecided(ends: &Ends, reaches: &Reaches<'_>, m: &Message) -> bool
     ensures { (free : List Wanted) → AreLast free ends.now → result ≡ is_undecided_beside reaches.now free m.now }
 {

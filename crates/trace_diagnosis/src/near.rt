@@ -1,7 +1,7 @@
 //! The nearest misses: what would be a pair, but for one thing.
 //!
-//! A message and a receive differ in the tag, in the communicator, in the source that the receive names, or in the rank at
-//! which it looks, and agree in all else. What they agree in is a key under which one looks for the other.
+//! A message and a receive differ in the tag, in the communicator, in the source that the receive names, or in the rank
+//! at which it looks, and agree in all else. What they agree in is a key under which one looks for the other.
 
 ghost use Rattle.std.specs.Prelude.{◌≡◌};
 ghost use Rattle.mpi_model.specs.Fit.{admits};

@@ -16,8 +16,8 @@ struct Placed {
     place: usize,
 }
 
-/// Under each key things in the order in which they were put there, of each value the first three: of those that differ from
-/// a value the first three are among them.
+/// Under each key things in the order in which they were put there, of each value the first three: of those that differ
+/// from a value the first three are among them.
 #[derive(Drop)]
 pub(crate) struct Shelf {
     things: BTreeMap<Key, Vec<Placed>>,

@@ -48,8 +48,8 @@ fn name_of(active: &[(i64, OpName)], request: i64) -> Option<OpName> {
     }
 }
 
-/// Which operations the call's requests stand for, as far as they are among these active ones, which go by number: by name,
-/// each once.
+/// Which operations the call's requests stand for, as far as they are among these active ones, which go by number: by
+/// name, each once.
 pub(crate) fn open_among(
     alloc: Global,
     active: &[(i64, OpName)],

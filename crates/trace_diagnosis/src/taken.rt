@@ -18,7 +18,8 @@ pub(crate) struct TakenBy {
     pub by: OpName,
 }
 
-/// The receives of a pattern by their places, in the order of their calls. From `full` on all have found three messages.
+/// The receives of a pattern by their places, in the order of their calls. From `full` on all have found three
+/// messages.
 #[derive(Drop)]
 struct Askers {
     places: Vec<usize>,

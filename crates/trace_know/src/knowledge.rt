@@ -134,8 +134,8 @@ impl Knowledge {
         }
     }
 
-    /// Joins the facts of a piece that stands ready, as [`take_ready`](Self::take_ready) does those of a segment. Without
-    /// memory nothing changes, and the piece comes back.
+    /// Joins the facts of a piece that stands ready, as [`take_ready`](Self::take_ready) does those of a segment.
+    /// Without memory nothing changes, and the piece comes back.
     pub fn take_piece(&mut self, piece: ReadyPiece) -> Result<(), AllocFailed<ReadyPiece>>
         ensures ok { OnOk result (self.new ≡ join self.old (view_of (facts_of piece))) }
         ensures err { OnErr result (self.new ≡ self.old) }
@@ -346,8 +346,8 @@ impl Knowledge {
         same_cells(self.cells(), other.cells())
     }
 
-    /// The same knowledge in memory of its own, times included: `AllocError` comes where that lacks. The copy takes time and
-    /// memory by the number of cells.
+    /// The same knowledge in memory of its own, times included: `AllocError` comes where that lacks. The copy takes
+    /// time and memory by the number of cells.
     pub fn try_clone(&self) -> Result<Knowledge, AllocError>
         ensures { IfOk result (λ copy. copy ≡ self.now) }
     {

@@ -122,8 +122,8 @@ impl ReadySegment {
     }
 }
 
-/// Events that are to be a segment or a piece, each put where it stands in what is known: they become a [`ReadySegment`]
-/// or a [`ReadyPiece`], and none is moved.
+/// Events that are to be a segment or a piece, each put where it stands in what is known: they become a
+/// [`ReadySegment`] or a [`ReadyPiece`], and none is moved.
 ///
 /// In a contract they are their list.
 #[derive(Debug, Drop)]
@@ -214,8 +214,8 @@ impl ReadyEvents {
         })
     }
 
-    /// The piece of these events, ready, from the Enter of its call `first_call` on, however many there are. No event is
-    /// moved.
+    /// The piece of these events, ready, from the Enter of its call `first_call` on, however many there are. No event
+    /// is moved.
     pub fn into_piece(self, rank: u32, first_call: u64) -> Result<ReadyPiece, AllocError>
         requires some { 0 < length self }
         requires places { enter_place first_call + length self ≤ PLACES }

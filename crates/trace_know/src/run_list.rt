@@ -1,4 +1,5 @@
-//! A list of runs in chunks: to put one among a million others moves about a thousand pointers, and so does taking one out.
+//! A list of runs in chunks: to put one among a million others moves about a thousand pointers, and so does taking one
+//! out.
 
 ghost use Rattle.std.specs.Prelude.{◌≡◌, ◌+◌, ◌-◌, ◌<◌, ◌≤◌, ◌++◌, ◌∷◌, [], length, slice_index_or, slice_set, OnOk, IfOk};
 ghost use Rattle.std.specs.Borrow.{sem};

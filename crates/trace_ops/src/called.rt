@@ -73,7 +73,8 @@ impl<'a> Called<'a> {
         }
     }
 
-    /// Whether its outcome completes the requests that it touches: it gives no number, starts none anew, and frees none.
+    /// Whether its outcome completes the requests that it touches: it gives no number, starts none anew, and frees
+    /// none.
     #[inline(always)]
     pub fn is_completing(&self) -> bool
         ensures { result ≡ is_completing (plain_called self.now) }

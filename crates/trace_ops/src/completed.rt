@@ -28,7 +28,8 @@ fn number_for(request: i64) -> Option<i64>
     }
 }
 
-/// The number that a returned call gives: to the operation that it starts, or, of an init, to the one that it describes.
+/// The number that a returned call gives: to the operation that it starts, or, of an init, to the one that it
+/// describes.
 #[inline(always)]
 pub(crate) fn given_of(call: &Call, outs: Option<&Outs>) -> Option<i64>
     ensures { result ≡ given_of call.now (option_copied outs.entry) }

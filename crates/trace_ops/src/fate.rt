@@ -89,8 +89,8 @@ fn called_at<'a>(calls: &'a Calls<'_>, n: usize) -> Option<Called<'a>>
     }
 }
 
-/// What the call that ends a number tells of it: the source, by its completions from a place on, and the call itself, where
-/// its outcome completes a request.
+/// What the call that ends a number tells of it: the source, by its completions from a place on, and the call itself,
+/// where its outcome completes a request.
 #[inline(always)]
 fn told_by_end(
     members: &[u32],

@@ -109,8 +109,8 @@ fn named_given_world<'a>(
     }
 }
 
-/// The group in which call `n` of the rank takes part, where the group of the world is at hand: none where the call names
-/// no communicator, or is foreign.
+/// The group in which call `n` of the rank takes part, where the group of the world is at hand: none where the call
+/// names no communicator, or is foreign.
 #[inline(always)]
 pub(crate) fn group_given_world<'a>(
     layout: &'a Layout,

@@ -99,7 +99,8 @@ fn still_holds_none(held: &Held<'_>, call: &Call) -> bool
     holds_none(held) && !is_init(call)
 }
 
-/// Goes one call on. Nearly always no init holds a number, and there is nothing to look up: then its outcome is not read.
+/// Goes one call on. Nearly always no init holds a number, and there is nothing to look up: then its outcome is not
+/// read.
 fn hold<'a>(held: &mut Held<'a>, calls: &Calls<'a>, n: usize, call: &Call) -> Result<(), AllocError>
     requires { IsEnteredAt calls.now n call.now }
     ensures { OnOk result (HoldsPast calls.now n (get int_eq held.old) (get int_eq held.new)) }

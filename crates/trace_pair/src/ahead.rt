@@ -1,5 +1,5 @@
-//! What takes each message, read for a few messages at a time: the receives stand far apart, and reads that don't wait for one
-//! another take no longer together than one of them.
+//! What takes each message, read for a few messages at a time: the receives stand far apart, and reads that don't wait
+//! for one another take no longer together than one of them.
 
 ghost use Rattle.std.specs.Prelude.{◌≡◌, IfOk};
 ghost use Rattle.trace_pair.specs.Waiting.{AreAhead, taker_at};

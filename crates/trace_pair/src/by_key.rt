@@ -1,5 +1,5 @@
-//! Places of messages by keys. The map is asked once for nearly every key: from then on its row is found by a guess, a table by
-//! what the key mixes to, and by a look whether the row has that key.
+//! Places of messages by keys. The map is asked once for nearly every key: from then on its row is found by a guess, a
+//! table by what the key mixes to, and by a look whether the row has that key.
 
 ghost use Rattle.std.specs.Prelude.{◌≡◌, ◌<◌, ◌++◌, ◌∷◌, true, [], None, IfSome, OnOk, length};
 ghost use Rattle.std.specs.BTreeMap.{get};

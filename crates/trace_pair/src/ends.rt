@@ -15,8 +15,8 @@ use mpi_model::{Message, Receive};
 use std::alloc::{AllocError, Global};
 use std::collections::BTreeMap;
 
-/// Of some receives, the call that ends the one which ends last, by receiver, tag, source and communicator. `None` is one
-/// that doesn't end.
+/// Of some receives, the call that ends the one which ends last, by receiver, tag, source and communicator. `None` is
+/// one that doesn't end.
 #[derive(Drop)]
 pub struct Ends {
     kinds: Kinds,

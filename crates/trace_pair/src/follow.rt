@@ -162,8 +162,8 @@ fn call_at(rounds: &[Entered], place: usize) -> u64
     }
 }
 
-/// Whether two calls are the same to what comes after what: one call on one communicator, both Barriers or neither, and both
-/// collective communications or neither.
+/// Whether two calls are the same to what comes after what: one call on one communicator, both Barriers or neither, and
+/// both collective communications or neither.
 fn is_alike(a: &Entered, b: &Entered) -> bool
     ensures { IsTrue result ↔ IsAlike a.now b.now }
 {

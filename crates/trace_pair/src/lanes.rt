@@ -1,7 +1,8 @@
-//! The open receives of one key, in order of their calls, each with the end of the last to end of it and all in front of it.
+//! The open receives of one key, in order of their calls, each with the end of the last to end of it and all in front
+//! of it.
 //!
-//! A message asks a lane for that end alone, of the whole lane or of the front that is called no later than some call. Receives
-//! come and go at the end of a lane, but for a few: so one costs a search, and a push or a pop.
+//! A message asks a lane for that end alone, of the whole lane or of the front that is called no later than some call.
+//! Receives come and go at the end of a lane, but for a few: so one costs a search, and a push or a pop.
 
 ghost use Rattle.std.specs.Prelude.{◌≡◌, ◌≤◌, not, false, nat_lt, nat_le, take, filter, length, IfOk, OnOk, OnErr, IsTrue, None};
 ghost use Rattle.std.specs.BTreeSet.{contains};
@@ -167,7 +168,8 @@ impl Lane {
         }
     }
 
-    /// The end of the last to end of the receives that are called no later than the limit, or of all where there is none.
+    /// The end of the last to end of the receives that are called no later than the limit, or of all where there is
+    /// none.
     pub(crate) fn latest(&self, limit: Option<u64>) -> Option<Option<u64>>
         ensures { IsLatestOf (filter (is_within limit) self.now.keys) result }
     {

@@ -139,8 +139,8 @@ impl Opened {
         drop_from(&mut self.lanes, q);
     }
 
-    /// The end of the last to end of the receives with this source and tag that are called no later than the limit, where there
-    /// is one, and whose envelopes fit the message's.
+    /// The end of the last to end of the receives with this source and tag that are called no later than the limit,
+    /// where there is one, and whose envelopes fit the message's.
     fn last_with(
         &self,
         m: &Message,
@@ -178,8 +178,8 @@ impl Opened {
         later_of(told, untold)
     }
 
-    /// Whether some that are called no later than the limit, where there is one, may have taken the message: where it comes after
-    /// the last to end, it comes after all.
+    /// Whether some that are called no later than the limit, where there is one, may have taken the message: where it
+    /// comes after the last to end, it comes after all.
     fn hides_within(&self, reaches: &Reaches, m: &Message, limit: Option<u64>) -> bool
         ensures yes { result ≡ true → SomeHides (comes_after reaches.now) (filter (is_within limit) self.now) m.now }
         ensures no { result ≡ false → NoneHides (comes_after reaches.now) (filter (is_within limit) self.now) m.now }

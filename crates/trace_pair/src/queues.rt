@@ -13,7 +13,8 @@ use std::alloc::{AllocError, Global};
 use std::collections::BTreeMap;
 use std::marker::Model;
 
-/// A set of messages, by receiver, sender, tag and communicator; and the same ones without the tag, for a receive of any.
+/// A set of messages, by receiver, sender, tag and communicator; and the same ones without the tag, for a receive of
+/// any.
 #[derive(Drop)]
 pub(crate) struct Messages {
     alloc: Global,
@@ -99,7 +100,8 @@ impl Messages {
     }
 }
 
-/// The kinds of receives that a set ever had: by whether the source is told, and a tag. A kind that it didn't have needs no probe.
+/// The kinds of receives that a set ever had: by whether the source is told, and a tag. A kind that it didn't have
+/// needs no probe.
 #[derive(Clone, Copy, Debug, PartialEq, Eq)]
 pub(crate) struct Kinds {
     pub(crate) told: bool,

@@ -1,4 +1,5 @@
-//! The ends of open receives, as the ranks come one after another: what is for a rank behind those that posted some needs no search.
+//! The ends of open receives, as the ranks come one after another: what is for a rank behind those that posted some
+//! needs no search.
 
 ghost use Rattle.std.specs.Prelude.{◌≡◌, ◌∷◌, false, [], OnOk, List};
 ghost use Rattle.mpi_model.specs.declared.message.Receive.{Receive};

@@ -1,4 +1,5 @@
-//! Receives in sets, as the ranks come one after another: what is for a rank behind those that have some needs no search.
+//! Receives in sets, as the ranks come one after another: what is for a rank behind those that have some needs no
+//! search.
 
 ghost use Rattle.std.specs.Prelude.{◌≡◌, [], true, false, IfNone, IfSome, OnOk};
 ghost use Rattle.mpi_model.specs.declared.message.Receive.{Receive};

@@ -1,4 +1,5 @@
-//! What takes each message, and whether it waits, which is asked much more often: for that a message has a byte of its own.
+//! What takes each message, and whether it waits, which is asked much more often: for that a message has a byte of its
+//! own.
 
 ghost use Rattle.std.specs.Prelude.{◌≡◌, ◌<◌, true, false, Some, None, IfOk, OnOk, OnErr, length, replicate, slice_get, slice_index_or, slice_set};
 ghost use Rattle.trace_pair.specs.Coupled.{taker_of};

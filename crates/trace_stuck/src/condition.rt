@@ -32,8 +32,8 @@ pub enum Condition {
     OneRank(Arc<Vec<u32>>),
     /// All of these ranks, with the shape of `All` of them. Many conditions may share the list.
     AllRanks(Arc<Vec<u32>>),
-    /// Nothing that is sure: the round of its call is mismatched, which MPI forbids, so it counts as one that can go on.
-    /// Named is the first of the mismatched rounds in a row, of that object, that end with the round.
+    /// Nothing that is sure: the round of its call is mismatched, which MPI forbids, so it counts as one that can go
+    /// on. Named is the first of the mismatched rounds in a row, of that object, that end with the round.
     Mismatched(RoundName),
 }
 

@@ -26,7 +26,8 @@ pub fn rising_lists_are_one()
     ensures { RisingListsAreOne }
 {}
 
-/// A node of a graph is in one heart at most, and a heart has one name: two lists of the hearts say the same of each node.
+/// A node of a graph is in one heart at most, and a heart has one name: two lists of the hearts say the same of each
+/// node.
 pub fn hearts_are_one()
     ensures { HeartsAreOne }
 {}

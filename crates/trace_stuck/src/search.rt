@@ -123,8 +123,8 @@ fn begin(
     }
 }
 
-/// Of each node of a graph the least start from which it is reached along edges, where there is one. The graph lists for
-/// each of its nodes, from 0 on, those to which its edges go.
+/// Of each node of a graph the least start from which it is reached along edges, where there is one. The graph lists
+/// for each of its nodes, from 0 on, those to which its edges go.
 pub fn firsts(
     alloc: Global,
     edges: &[Vec<u32>],

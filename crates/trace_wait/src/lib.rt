@@ -15,7 +15,8 @@
 //!
 //! - [`entries`]: collective calls by communicator, found by halves; [`counts`]: how many each member has entered
 //! - [`round`]: how a round stands; [`tally`]: the rounds of all communicators
-//! - [`sets`], [`paired`], [`unpaired`], [`mismatch`]: what is looked up for the conditions; [`overview`]: all of it together
+//! - [`sets`], [`paired`], [`unpaired`], [`mismatch`]: what is looked up for the conditions; [`overview`]: all of it
+//!   together
 //! - [`groups`]: the members of each communicator, in one list that all conditions share
 //! - [`posts`]: the message and the receive of a name; [`active`]: which operation a request stands for, and
 //!   which numbers are idle

@@ -28,10 +28,10 @@ use trace_ops::{Entered, RankOps};
 use trace_pair::{Ends, PairTable, PairsByReceive, Reaches};
 use trace_stuck::{Condition, RoundName};
 
-/// The whole run, and what was gathered of it to be looked up: its pairs by their receives, which messages are in no pair, which
-/// of them were cancelled, when the receives end that are in no pair, which messages come after which
-/// receives, which rounds are mismatched, how many calls each member has entered and which, and the
-/// members of each communicator in a list to be shared.
+/// The whole run, and what was gathered of it to be looked up: its pairs by their receives, which messages are in no
+/// pair, which of them were cancelled, when the receives end that are in no pair, which messages come after which
+/// receives, which rounds are mismatched, how many calls each member has entered and which, and the members of each
+/// communicator in a list to be shared.
 #[derive(Drop)]
 pub(crate) struct Overview<'a> {
     pub layout: &'a Layout,

@@ -241,9 +241,9 @@ pub fn conditions(
     Ok(out)
 }
 
-/// The condition of each rank, none where it isn't waiting, and what each of the polls asks for: what the Wait, Waitall,
-/// Waitany, Waitsome or Probe of the same content would wait for in its place. What is looked up is gathered once for
-/// both.
+/// The condition of each rank, none where it isn't waiting, and what each of the polls asks for: what the Wait,
+/// Waitall, Waitany, Waitsome or Probe of the same content would wait for in its place. What is looked up is gathered
+/// once for both.
 ///
 /// The ops of rank r stand at place r; the pairs and the rounds are those of these ops.
 pub fn conditions_with_polls(

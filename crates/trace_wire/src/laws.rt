@@ -25,8 +25,8 @@ pub fn frame_laws()
     ensures refused { (version : Version) (bytes rest : List ℕ) (es : List Entry) (fault : WireFault) → HasFrameAs version es
         → bytes ≡ frame_as version es ++ rest → frame_at bytes ≡ Err fault → ⊥ }
 
-    // No frame of a version begins another of that version or of the other, and a byte string is the frame of at most one
-    // list of cells, so of one view.
+    // No frame of a version begins another of that version or of the other, and a byte string is the frame of at most
+    // one list of cells, so of one view.
     ensures one { (one other : Version) (es fs : List Entry) (more : List ℕ) → HasFrameAs one es → HasFrameAs other fs
         → frame_as other fs ≡ frame_as one es ++ more → (other ≡ one) × (fs ≡ es) × (more ≡ []) }
     ensures views { (one other : Version) (v w : View) → HasFrameAs one (entries v) → HasFrameAs other (entries w)

@@ -52,8 +52,9 @@ fn send<W: Write>(
     out.direct.failed
 }
 
-/// Appends the frame of the knowledge in a version, and takes no memory. One that is too long for the version is refused
-/// before any byte is written; where the device fails a front of the frame was written, and nothing is tried after that.
+/// Appends the frame of the knowledge in a version, and takes no memory. One that is too long for the version is
+/// refused before any byte is written; where the device fails a front of the frame was written, and nothing is tried
+/// after that.
 pub fn write_frame_as<W: Write>(
     version: Version,
     knowledge: &Knowledge,

@@ -276,7 +276,8 @@ impl<'a> World<'a> {
         self.try_clone().ok()
     }
 
-    /// A copy that shares what the nodes know, the segments and the mails. Which mails its nodes have joined isn't noted.
+    /// A copy that shares what the nodes know, the segments and the mails. Which mails its nodes have joined isn't
+    /// noted.
     fn try_clone(&self) -> Result<World<'a>, AllocError>
         ensures { IfOk result (λ copy. copy ≡ self.now) }
     {

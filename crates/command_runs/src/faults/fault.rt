@@ -22,7 +22,8 @@ pub enum RunFault {
     File {
         path: String,
     },
-    /// The file is no JSON, as is noticed at this line and column, both from 1; column 0 is before the line's first byte.
+    /// The file is no JSON, as is noticed at this line and column, both from 1; column 0 is before the line's first
+    /// byte.
     Json {
         path: String,
         line: u64,
@@ -76,8 +77,8 @@ pub enum RunFault {
     Rank {
         path: String,
     },
-    /// A rank that the layout doesn't have: of the calls of a piece, where it isn't told which piece, or the one that was
-    /// asked for.
+    /// A rank that the layout doesn't have: of the calls of a piece, where it isn't told which piece, or the one that
+    /// was asked for.
     Outside,
     /// A replay has 1 to 64 nodes.
     NodeCount,

@@ -96,8 +96,8 @@ fn value_found<O: Opener>(
     }
 }
 
-/// What is found out of the file that the fault names. One that can't be read isn't looked at, nor one of another kind than
-/// a text, a layout or a manifest.
+/// What is found out of the file that the fault names. One that can't be read isn't looked at, nor one of another kind
+/// than a text, a layout or a manifest.
 pub fn found_of<O: Opener>(alloc: Global, fault: &RunFault, files: &O) -> Found
     ensures told { IsFound (O.file files.now) fault.now result }
 {

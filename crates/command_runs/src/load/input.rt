@@ -15,8 +15,8 @@ use mpi_model::Layout;
 use run_files::{InputFault, LONGEST_FILE, Manifest, RunInput, layout_of, manifest_of};
 use std::alloc::{AllocError, Global};
 
-/// The layout and the manifest of these files. The rank that is asked for, where one is, is looked for in the layout before
-/// the manifest is read.
+/// The layout and the manifest of these files. The rank that is asked for, where one is, is looked for in the layout
+/// before the manifest is read.
 pub fn input_at<O: Opener>(
     alloc: Global,
     rank: Option<u32>,

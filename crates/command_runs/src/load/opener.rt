@@ -32,15 +32,15 @@ pub trait Opener: Drop {
         ensures told { IfOk result (λ reader. StandsAtFirst (file self.now path.now) (Self.R.left reader)) }
         ensures absent { result ≡ Err OpenFault.File → file self.now path.now ≡ None };
 
-    /// How many bytes the file of a name has now, where that can be told: a pipe has no length, and can't be read twice. It is
-    /// for who watches a run, for the room that a piece's events get, for which files are read twice, and for which words name
-    /// texts; nothing else that a run answers hangs on it.
+    /// How many bytes the file of a name has now, where that can be told: a pipe has no length, and can't be read
+    /// twice. It is for who watches a run, for the room that a piece's events get, for which files are read twice, and
+    /// for which words name texts; nothing else that a run answers hangs on it.
     fn length(&self, path: &str) -> Option<u64>
         ensures some { IfSome result (IsLength (file self.now path.now)) }
         ensures none { result ≡ None → file self.now path.now ≡ None };
 
-    /// Why no file of a name can be read now, where the system says so. It is for a person who reads why a run was refused, and
-    /// nothing else that a run answers hangs on it.
+    /// Why no file of a name can be read now, where the system says so. It is for a person who reads why a run was
+    /// refused, and nothing else that a run answers hangs on it.
     fn reason(&self, _path: &str) -> Option<Reason> {
         None
     }

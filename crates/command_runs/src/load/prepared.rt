@@ -79,8 +79,8 @@ fn notes_of(alloc: Global, by_digits: bool, calls: u64, made: &Made) -> Result<V
     out.into_bytes()
 }
 
-/// The input of the run of these texts, rank 0 first, or by the digits at the ends of their names where those are 0 to n - 1.
-/// Each text is read once.
+/// The input of the run of these texts, rank 0 first, or by the digits at the ends of their names where those are 0 to
+/// n - 1. Each text is read once.
 pub(crate) fn prepare<O: Opener>(
     alloc: Global,
     sends: Sends,

@@ -10,8 +10,8 @@ use std::time::{Clock, Instant};
 /// lines.
 const PATIENCE: u64 = 2;
 
-/// Shows on standard error how many pieces and bytes were read, where that takes long, each text that has
-/// lines and no call, as a file in another encoding looks, and that a check pairs by the rules. Where standard error is no terminal
+/// Shows on standard error how many pieces and bytes were read, where that takes long, each text that has lines and no
+/// call, as a file in another encoding looks, and that a check pairs by the rules. Where standard error is no terminal
 /// it shows nothing. That a line can't be shown changes nothing.
 #[derive(Drop)]
 pub struct Terminal<'a, R: Eprint + Clock> {

@@ -63,8 +63,8 @@ fn blames_file(fault: &RunFault, file: &str) -> bool
     }
 }
 
-/// Whether the pieces before the first that this fault refuses are whole: else the first of those is refused. (Nobody is
-/// shown again what is read here.)
+/// Whether the pieces before the first that this fault refuses are whole: else the first of those is refused. (Nobody
+/// is shown again what is read here.)
 fn look_for_refused<O: Opener>(
     alloc: Global,
     pieces: &[Piece],
@@ -108,8 +108,8 @@ fn look_for_strangers<O: Opener>(run: &Run<'_, O>, pieces: &[Piece]) -> Result<(
     Ok(())
 }
 
-/// Why pieces are refused that this fault refuses in another order: the first of their own. Where a device failed once, it
-/// is this fault.
+/// Why pieces are refused that this fault refuses in another order: the first of their own. Where a device failed once,
+/// it is this fault.
 fn fault_in_order<O: Opener>(run: &Run<'_, O>, pieces: &[Piece], fault: RunFault) -> RunFault
     requires refused { RefusesInSomeOrder (O.file run.now.files.now) run.now.layout.now.ranks pieces.now fault }
     requires failed { NamesFailed (Fails O.R.failures) fault }

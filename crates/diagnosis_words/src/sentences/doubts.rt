@@ -39,8 +39,8 @@ impl<'a> Writer<'a> {
         }
     }
 
-    /// What stands before an element of a list on one line, by its place: nothing where the list is cut before it, of which it
-    /// says how many more there are.
+    /// What stands before an element of a list on one line, by its place: nothing where the list is cut before it, of
+    /// which it says how many more there are.
     fn put_next(&mut self, i: usize, count: usize) -> bool {
         if i == MOST_NAMED && !self.all {
             self.put(b" and ");

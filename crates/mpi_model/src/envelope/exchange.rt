@@ -28,8 +28,8 @@ impl Model for Both {
     ghost inverse = { λ e. record { send = e.send; receive = e.receive } };
 }
 
-/// The two envelopes of an `MPI_Sendrecv`, which name one communicator (MPI 4.0, 3.10). They stand in memory of their own,
-/// since no other call is as long.
+/// The two envelopes of an `MPI_Sendrecv`, which name one communicator (MPI 4.0, 3.10). They stand in memory of their
+/// own, since no other call is as long.
 #[derive(Debug, Drop)]
 pub struct Exchange {
     both: Box<Both>,

@@ -254,8 +254,8 @@ fn waiting_of(
     })
 }
 
-/// What is told of the ranks of a layout: by how far they can be read, when each entered the call in which it waits, what
-/// they did, and their pairs.
+/// What is told of the ranks of a layout: by how far they can be read, when each entered the call in which it waits,
+/// what they did, and their pairs.
 pub(crate) fn answer_of(
     alloc: Global,
     layout: &Layout,

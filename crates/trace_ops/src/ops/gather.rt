@@ -318,9 +318,9 @@ impl Gathered {
     }
 }
 
-/// What a rank with these calls did, where none of them is an init or starts what one describes; nothing where the first
-/// of these is met. They are gone through once, from the last to the first, so that what the steps behind a post tell of
-/// its request is known when it is met. The lists are turned round at the end.
+/// What a rank with these calls did, where none of them is an init or starts what one describes; nothing where the
+/// first of these is met. They are gone through once, from the last to the first, so that what the steps behind a post
+/// tell of its request is known when it is met. The lists are turned round at the end.
 fn gather_without_inits(
     alloc: Global,
     layout: &Layout,

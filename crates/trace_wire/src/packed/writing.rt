@@ -41,8 +41,8 @@ fn send_part<W: Write>(part: PartSize, cells: &mut Walk<'_>, writer: &mut W) -> 
 /// Writes all that is known as frames of version 2, one after another: each of the longest front of what is left that
 /// goes into a frame, at least one. [`read_frames`](crate::read_frames) gives it back.
 ///
-/// A place that goes into no frame by itself is `W4 Length`, before any byte is written, and so comes `Memory`. Where the
-/// device fails a front of the frames was written, and nothing is tried after that.
+/// A place that goes into no frame by itself is `W4 Length`, before any byte is written, and so comes `Memory`. Where
+/// the device fails a front of the frames was written, and nothing is tried after that.
 pub fn write_frames<W: Write>(
     alloc: Global,
     knowledge: &Knowledge,

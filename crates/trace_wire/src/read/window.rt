@@ -33,7 +33,8 @@ impl Model for Window {
     ghost invariant = { λ w. (w.start ≤ length w.bytes.items) × (length w.bytes.items + w.coming < w.start + 2 ^ 32) };
 }
 
-/// Lets go of the first bytes. Where there are none to let go of, none is moved: so a long cell isn't moved at each piece.
+/// Lets go of the first bytes. Where there are none to let go of, none is moved: so a long cell isn't moved at each
+/// piece.
 fn let_go(bytes: &mut Vec<u8>, count: usize)
     requires { count ≤ length bytes.old.items }
     ensures { bytes.new.items ≡ drop count bytes.old.items }
