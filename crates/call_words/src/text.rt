@@ -50,7 +50,7 @@ impl Text {
         self.is_whole = false;
     }
 
-    /// The bytes of the text, where it is whole.
+    /// The bytes of the text, where it is whole. `AllocError` comes where memory was refused for a piece of it.
     pub fn into_bytes(self) -> Result<Vec<u8>, AllocError>
         ensures bytes { IfOk result (λ bytes. bytes.items ≡ self.bytes.items) }
         ensures whole { IfOk result (λ _. self.is_whole ≡ true) }

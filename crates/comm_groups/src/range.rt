@@ -98,7 +98,8 @@ fn all_ranks(
 }
 
 /// Only the members with the ranks of the ranges, one range after the other (MPI 4.0, 7.3.2); `None` where a range has
-/// no stride or goes away from its last rank, or a rank is outside the group or named twice.
+/// no stride or goes away from its last rank, or a rank is outside the group or named twice. Fails with `AllocError`
+/// when memory is refused.
 pub fn range_incl(
     alloc: Global,
     group: &[u32],
@@ -113,7 +114,7 @@ pub fn range_incl(
 }
 
 /// All members but those with the ranks of the ranges, in the group's order (MPI 4.0, 7.3.2); `None` as for
-/// [`range_incl`].
+/// [`range_incl`]. Fails with `AllocError` when memory is refused.
 pub fn range_excl(
     alloc: Global,
     group: &[u32],

@@ -81,7 +81,7 @@ fn count_to(places: &[Place], number: u32, call: u64) -> usize
     places.partition_point(|p| p.number < number || (p.number == number && p.first <= call))
 }
 
-/// The last handle of a number that begins at this call or before it, found by halves.
+/// The last handle of a number that begins at this call or before it, found by binary search.
 fn latest(handles: &[Handle], places: &[Place], number: u32, call: u64) -> Option<usize>
     requires { AreOrdered handles.now places.now }
     ensures { IsLatestOf handles.now number call result }

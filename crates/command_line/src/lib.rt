@@ -149,7 +149,8 @@ fn shown_status(kind: ErrorKind) -> u8
     }
 }
 
-/// What the words ask for; the first word is the name of the program.
+/// What the words ask for; the first word is the name of the program. [`CommandFault`] comes for a mistake, for the
+/// help and the version, whose text it has, and where memory is refused.
 pub fn command_of<'a>(alloc: Global, words: &'a [&'a str]) -> Result<Asked<'a>, CommandFault>
     ensures asked { IfOk result (λ a. request_in (subcommand_of program (texts_of words.entry.now)) ≡ Some (request_of a)) }
     ensures taken { OnOk result (fault_of program (texts_of words.entry.now) ≡ []) }

@@ -70,7 +70,7 @@ fn keep_freed_memory(alloc: Global) {
 }
 
 /// Runs a verb. Nothing is written before the whole run is good. A cluster, which takes threads, is run by
-/// [`cluster`](crate::verbs::cluster::cluster).
+/// [`cluster`](crate::verbs::cluster::cluster). [`RunFault`] says why a run was refused.
 pub fn run_with<O: Opener, V: Watcher, W: Write>(
     verb: Verb,
     run: &Run<'_, O>,

@@ -18,7 +18,7 @@ const MOST_NAMED: usize = 3;
 
 /// Says in words of which places two pieces tell two things, and which messages are in no pair since a receive may have
 /// taken them. It is said behind [`diagnosis_words`](crate::diagnosis_words), and of the answer and of what is known,
-/// since a diagnosis tells neither.
+/// since a diagnosis tells neither. Fails with `AllocError` when memory is refused.
 pub fn answer_doubts(
     alloc: Global,
     layout: &Layout,

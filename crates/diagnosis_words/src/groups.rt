@@ -99,7 +99,7 @@ impl Group {
         self.ranks.as_slice().first().copied().unwrap_or(0)
     }
 
-    /// Adds a rank that stands as these do.
+    /// Adds a rank that stands as these do. On `AllocError`, when memory is refused, its contents are unspecified.
     pub fn add(&mut self, standing: &Standing) -> Result<(), AllocError> {
         self.ranks.push(standing.rank)?;
         if let Some(last) = &standing.call {

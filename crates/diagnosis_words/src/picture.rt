@@ -19,7 +19,8 @@ const MOST_NODES: usize = 200;
 
 /// Draws a diagnosis as Graphviz DOT: a node for ranks that stand alike and need the same, with an edge to what they
 /// need, through a point with dashed edges where one of several is enough. What holds up the run is filled, with a bold
-/// outline where it has ended or gives no sign; a round whose calls don't match is a node with its calls.
+/// outline where it has ended or gives no sign; a round whose calls don't match is a node with its calls. Fails with
+/// `AllocError` when memory is refused.
 pub fn diagnosis_picture(
     alloc: Global,
     layout: &Layout,

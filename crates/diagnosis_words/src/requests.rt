@@ -123,7 +123,8 @@ impl<'a> Source<'a> {
     }
 
     /// Which open requests are told: those that lack a partner, those first that name one of the ranks asked for. Where
-    /// there are none, all but those that name the null process; where there are only such, these.
+    /// there are none, all but those that name the null process; where there are only such, these. Fails with
+    /// `AllocError` when memory is refused.
     pub fn told_requests(self, open: &[OpName], asked: &[u32]) -> Result<Vec<OpName>, AllocError> {
         let mut told = Vec::new(self.alloc);
         self.requests_in(Order::Asked, open, asked, &mut told)?;

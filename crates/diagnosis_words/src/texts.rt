@@ -75,7 +75,8 @@ impl TextFacts {
     }
 
     /// Adds what a second look at a text has found: the text's place among the notes is given, and each call has the
-    /// number among the calls of its rank that the note's piece gives it.
+    /// number among the calls of its rank that the note's piece gives it. On `AllocError`, when memory is refused, its
+    /// contents are unspecified.
     pub fn add(&mut self, alloc: Global, note: usize, look: Look) -> Result<(), AllocError> {
         let (rank, first) = match self.notes.as_slice().get(note) {
             Some(noted) => (noted.rank(), noted.first()),
@@ -99,7 +100,7 @@ impl TextFacts {
         Ok(())
     }
 
-    /// Puts what was added in order.
+    /// Puts what was added in order. On `AllocError`, when memory is refused, its contents are unspecified.
     pub fn finish(&mut self) -> Result<(), AllocError> {
         self.sites
             .sort_by_key(|site| (site.rank, site.call, site.note))?;

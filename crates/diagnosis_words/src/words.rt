@@ -29,7 +29,7 @@ const LONGEST_LINE: usize = 400;
 const OTHER_LINES: usize = 14;
 
 /// Says a diagnosis in words: what holds up the run, where all ranks stand, and what else is known. A list is cut at
-/// ten lines, unless `all` is asked for.
+/// ten lines, unless `all` is asked for. Fails with `AllocError` when memory is refused.
 pub fn diagnosis_words(
     alloc: Global,
     layout: &Layout,

@@ -36,7 +36,7 @@ impl<T: Drop> From<AllocFailed<T>> for Memory {
     }
 }
 
-/// The events of calls, in their order. They alternate: a call that comes after one that has not returned is left out.
+/// The events of calls, in their order. Enter and Return alternate: a call after one that has not returned is left out.
 #[derive(Debug, Drop)]
 pub struct Collect {
     events: ReadyEvents,
@@ -94,8 +94,8 @@ impl Collect {
         }
     }
 
-    /// No events, and room for about as many as a text of so many bytes has, where there is memory for it: a list of
-    /// events that has to grow is moved each time. Room that isn't filled costs next to nothing.
+    /// No events, with room for about as many as a text of this many bytes has, if there is memory for it: a list of
+    /// events that grows is moved each time. Unused room costs next to nothing.
     pub fn for_text(alloc: Global, bytes: u64) -> Collect
         ensures { result ≡ [] }
     {

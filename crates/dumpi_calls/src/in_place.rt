@@ -1,5 +1,5 @@
-//! Calls as dumpi2ascii writes them, read whole where they stand at hand: no line of them is copied. What these
-//! functions don't answer for is read line by line.
+//! Calls as dumpi2ascii writes them, read whole where they stand at hand: no line of them is copied. Text in another
+//! form is left to the functions that read line by line.
 
 ghost use Rattle.std.specs.Prelude.{◌≡◌, ◌≤◌, ◌<◌, ◌^◌, IfSome, true, false};
 ghost use Rattle.mpi_model.specs.Kinds.{has_root, row as kind_row};
@@ -342,8 +342,7 @@ fn likely_function(text: &[u8]) -> Option<Function>
     }
 }
 
-/// The call in front of a text, where it stands there whole and as dumpi2ascii writes it. Where memory is refused,
-/// there is no answer.
+/// The call in front of a text, if it is whole and as dumpi2ascii writes it; `None` if it isn't, or memory is refused.
 #[tactic(auto, using(crate::proofs::InPlace::whole_told))]
 pub fn whole_front(alloc: Global, text: &[u8]) -> Option<Whole>
     ensures whole { IfSome result (λ w. IsWhole w.function w.call w.bytes w.lines text.now) }

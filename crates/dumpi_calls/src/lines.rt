@@ -1,5 +1,5 @@
 //! Parameter lines as dumpi2ascii writes them, read where they stand in front of a text: what they tell, and what
-//! follows them. What these functions don't answer for is read line by line.
+//! follows them. Text in another form is left to the functions that read line by line.
 
 ghost use Rattle.std.specs.Prelude.{◌≡◌, ◌≤◌, ◌<◌, ◌++◌, ◌^◌, IfSome, length, true};
 ghost use Rattle.dumpi_calls.specs.InPlace.{EndsNumber, PassesLines, TellsNumber, TellsRequests, TellsStatus, TellsStatuses, is_unread};

@@ -85,7 +85,7 @@ fn is_looked_at(function: Function, name: &[u8]) -> bool
     is_one_of(name, looked_parameters(function))
 }
 
-/// What a call's function has a use for is kept: the first parameter of each name that the call is read by.
+/// Keeps the parameters by which a call of this function is read, the first of each name.
 pub(crate) struct Looked;
 
 impl Keeping for Looked {

@@ -1,5 +1,5 @@
-//! Numbers as dumpi2ascii writes them at the end of a line, each read in one pass with its line feed. What these
-//! functions don't answer for is read as any value is.
+//! Numbers as dumpi2ascii writes them at the end of a line, each read in one pass with its line feed. A value in
+//! another form is left to the functions that read any value.
 
 ghost use Rattle.std.specs.Prelude.{◌≡◌, ◌∷◌, ◌++◌, List, ℕ, IfSome};
 ghost use Rattle.dumpi_calls.specs.InPlace.{EndsNote, EndsNumber};

@@ -1,5 +1,5 @@
-//! Numbers as dumpi2ascii writes them, each read in one pass and in place. What these functions don't answer for is
-//! read as any value is.
+//! Numbers as dumpi2ascii writes them, each read in one pass and in place. A value in another form is left to the
+//! functions that read any value.
 
 ghost use Rattle.std.specs.Prelude.{◌≡◌, ◌∷◌, ◌<◌, ◌≤◌, [], IfSome, Some, false, length, neg_ℤ, pos, take, true};
 ghost use Rattle.std.specs.List.{list_all, list_any};

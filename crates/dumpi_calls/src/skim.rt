@@ -1,5 +1,5 @@
 //! Statuses as dumpi2ascii writes them, `[count] {{word=number, ..}, ..}`, of which is read in one pass and in place
-//! what they tell. What these functions don't answer for is read as any value is.
+//! what they tell. A value in another form is left to the functions that read any value.
 
 ghost use Rattle.std.specs.Prelude.{◌≡◌, ◌<◌, ◌≤◌, ◌∷◌, ◌++◌, [], IfOk, IfSome, None, Some, length, map, true};
 ghost use Rattle.std.specs.List.{list_all};
@@ -310,7 +310,8 @@ fn tolds_in(alloc: Global, room: usize, list: &[u8]) -> Result<Vec<Told>, ValueF
     }
 }
 
-/// What each group of the text of statuses tells, of which there are about so many; `BadValue` is no answer.
+/// What each group of the text of statuses tells, of which there are about so many; `BadValue` is no answer. Fails with
+/// `Memory` when memory is refused.
 #[tactic(auto, using(crate::proofs::GroupByGroup::tolds_value))]
 pub fn quick_statuses(alloc: Global, about: usize, text: &[u8]) -> Result<Vec<Told>, ValueFault>
     ensures { IfOk result (λ tolds. map told_of (groups_from (value_of text.now)) ≡ tolds.items) }

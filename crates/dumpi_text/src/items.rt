@@ -46,6 +46,7 @@ fn split_next(close: u8, text: &[u8]) -> Option<(bool, &[u8])>
 }
 
 /// One or more items and the closing byte. Each item takes a byte at least, so there are no more of them than bytes.
+/// `BadValue` comes where the text has another form, `Memory` where memory is refused.
 #[tactic(auto, using(crate::proofs::ItemByItem::no_item_before, crate::proofs::ItemByItem::one_more, crate::proofs::ItemByItem::the_last, crate::proofs::ItemByItem::no_item, crate::proofs::ItemByItem::no_next))]
 pub fn read_items<T: Item>(
     alloc: Global,

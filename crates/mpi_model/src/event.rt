@@ -25,7 +25,7 @@ pub enum Event {
 const _: () = prove!(size_of::<Event>() <= 56);
 
 impl Event {
-    /// An equal event. The lists of its call or outcome are copied: `AllocError` comes where memory for them lacks.
+    /// An equal event. The lists of its call or outcome are copied. Fails with `AllocError` when memory is refused.
     pub fn try_clone(&self) -> Result<Event, AllocError>
         ensures { IfOk result (λ e. e ≡ self.now) }
     {

@@ -7,8 +7,8 @@ use crate::list::{Elements, Sources};
 use crate::told::Told;
 use std::alloc::AllocError;
 
-/// The outcome of a call. Which kind belongs to which call is for the crates above to say: an
-/// outcome of another kind tells nothing and completes nothing.
+/// The outcome of a call. The crates above define which kind belongs to which call. An outcome of another kind says
+/// nothing and completes nothing.
 #[derive(Debug, Drop)]
 pub enum Outs {
     /// The call brings nothing back that matching needs.
@@ -28,7 +28,7 @@ pub enum Outs {
 }
 
 impl Outs {
-    /// An equal outcome. A list in it is copied: `AllocError` comes where memory for it lacks.
+    /// An equal outcome. A list in it is copied. Fails with `AllocError` when memory is refused.
     pub fn try_clone(&self) -> Result<Outs, AllocError>
         ensures { IfOk result (λ o. o ≡ self.now) }
     {

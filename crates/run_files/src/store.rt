@@ -119,7 +119,7 @@ fn fault_of(fault: StoreFault, which: Which) -> PutFault
     }
 }
 
-/// Keeps two files of names that no file has.
+/// Keeps two files of names that no file has. At a fault the files are as they were, unless the fault is `Half`.
 pub fn add_both<S: Store>(
     store: &mut S,
     one: NewFile<'_>,
@@ -210,7 +210,8 @@ fn replace_by<S: Store>(
     }
 }
 
-/// Keeps two files, in place of those of their names.
+/// Keeps two files, in place of those of their names. At a fault the files are as they were, unless the fault is
+/// `Half`.
 pub fn replace_both<S: Store>(
     alloc: Global,
     store: &mut S,

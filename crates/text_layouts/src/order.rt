@@ -170,7 +170,7 @@ fn twice_in(numbers: &[Option<u64>]) -> Option<(usize, usize)>
 }
 
 /// Which text is of which rank, by the names of its files, no more than a layout can have ranks. A number above 2^64 -
-/// 1 counts as that.
+/// 1 counts as that. Fails with `AllocError` when memory is refused.
 #[tactic(auto, using(crate::proofs::Orders::lacks_and_apart, crate::proofs::Orders::lacks_unnumbered, crate::proofs::Orders::twice))]
 pub fn order_of(alloc: Global, names: &[String]) -> Result<Order, AllocError>
     requires { length names.now ≤ MOST_RANKS }

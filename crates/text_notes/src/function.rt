@@ -25,7 +25,7 @@ impl Model for UnreadFunction {
 
 impl UnreadFunction {
     /// A function of this name, which is copied, with the number of its first call and how many calls of it there are.
-    /// `AllocError` comes where memory for the name lacks.
+    /// Fails with `AllocError` when memory is refused.
     pub(crate) fn new(
         alloc: Global,
         name: &[u8],
@@ -59,7 +59,7 @@ impl UnreadFunction {
         self.count
     }
 
-    /// The same in memory of its own: `AllocError` comes where that lacks.
+    /// The same in memory of its own. Fails with `AllocError` when memory is refused.
     pub(crate) fn try_clone(&self, alloc: Global) -> Result<UnreadFunction, AllocError>
         ensures { IfOk result (λ f. f ≡ self.now) }
     {

@@ -44,7 +44,7 @@ impl<'a> Model for Checker<'a> {
 }
 
 impl<'a> Checker<'a> {
-    /// A checker that has read nothing.
+    /// A checker that has read nothing. Fails with `AllocError` when memory is refused.
     pub fn new(alloc: Global, layout: &'a Layout) -> Result<Checker<'a>, AllocError>
         ensures { IfOk result (λ c. c ≡ held layout.now empty) }
     {
@@ -59,8 +59,8 @@ impl<'a> Checker<'a> {
         })
     }
 
-    /// The checker once it has read a piece: its facts are joined, and the index follows its rank, where
-    /// the layout has that.
+    /// The checker once it has read a piece: its facts are joined, and the index follows its rank, where the layout has
+    /// that. Fails with `AllocError` when memory is refused.
     pub fn reading(self, piece: ReadyPiece) -> Result<Checker<'a>, AllocError>
         ensures { IfOk result (λ c. c ≡ held self.entry.layout (join self.entry.know (view_of (facts_of piece)))) }
     {
@@ -83,7 +83,8 @@ impl<'a> Checker<'a> {
         })
     }
 
-    /// The checker with what was read elsewhere too. The index is made once more.
+    /// The checker with what was read elsewhere too. The index is made once more. Fails with `AllocError` when memory
+    /// is refused.
     pub fn joining(self, other: &Knowledge) -> Result<Checker<'a>, AllocError>
         ensures { IfOk result (λ c. c ≡ held self.entry.layout (join self.entry.know other.now)) }
     {
@@ -111,8 +112,8 @@ impl<'a> Checker<'a> {
         size
     }
 
-    /// The two lines, and whether both say so. They do: the index gives the pairs of the rules, and the
-    /// verdict is right.
+    /// The two lines, and whether both say so. They do: the index gives the pairs of the rules, and the verdict is
+    /// right. Fails with `AllocError` when memory is refused.
     pub fn lines(&self) -> Result<(String, bool), AllocError>
         ensures text { IfOk result (λ told. IsCheckOf self.now.layout self.now.know (string_bytes told.0)) }
         ensures held { IfOk result (λ told. told.1 ≡ true) }

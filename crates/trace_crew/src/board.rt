@@ -41,23 +41,23 @@ pub struct Board<'a> {
 impl<'a> Board<'a> {
     ghost use Rattle.trace_crew.specs.Older.{IsOlder};
 
-    /// A board that shows empty knowledge of the run of a layout.
+    /// A board that shows empty knowledge of the run of a layout. Fails with `AllocError` when memory is refused.
     pub fn new(alloc: Global, layout: &'a Layout) -> Result<Board<'a>, AllocError> {
         Ok(Board {
             shown: Mutex::new(Shown::nothing(alloc, layout)?),
         })
     }
 
-    /// Shows a node of the board's layout from now on. After a refusal the board shows what it
-    /// showed. Waits for the lock, under which nothing is copied.
+    /// Shows a node of the board's layout from now on. If it is refused, the board shows what it showed before. The
+    /// call waits for the lock, under which nothing is copied.
     pub fn publish<R: Wait>(&self, rt: &R, node: &Node<'a>) -> Result<(), PutFault>
         ensures { IsErrOf result PutFault.Stale ↔ IsTrue node.now.is_stale }
     {
         self.shown.lock(rt).put(node)
     }
 
-    /// What is shown. Where it doesn't contain what the reader saw last (`seen`), it is
-    /// answered as [`ShowFault::Older`]. Waits for the lock, under which nothing is copied.
+    /// What is shown. If it doesn't contain what the reader saw last (`seen`), it comes as [`ShowFault::Older`]. The
+    /// call waits for the lock, under which nothing is copied.
     pub fn show<R: Wait>(
         &self,
         rt: &R,

@@ -77,8 +77,8 @@ fn next_item<R: Wait, H: Keeper>(
     take(rt, queue, seat)
 }
 
-/// Takes until both workers have ended. The crew holds an end of the queue at which items are posted, so no
-/// take of the owner finds it closed.
+/// Takes until both workers have ended. The crew holds an end of the queue at which items are posted, so no take of the
+/// owner finds it closed. `AllocError` comes where memory for the list of refused segments is refused.
 pub fn own<R: Wait, G: Gate, H: Keeper>(
     rt: &R,
     queue: &PostReceiver,
@@ -106,7 +106,8 @@ pub fn own<R: Wait, G: Gate, H: Keeper>(
     unreachable!()
 }
 
-/// Takes what is left after both workers were joined, until the queue is found empty.
+/// Takes what is left after both workers were joined, until the queue is found empty. `AllocError` comes where memory
+/// for the list of refused segments is refused.
 pub fn drain<R: Wait, G: Gate, H: Keeper>(
     rt: &R,
     queue: &PostReceiver,

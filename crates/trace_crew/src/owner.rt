@@ -46,7 +46,7 @@ pub struct Hall<'s, 'a> {
 }
 
 impl<'s, 'a> Hall<'s, 'a> {
-    /// Nothing was taken.
+    /// Nothing was taken. Fails with `AllocError` when memory is refused.
     #[tactic(auto, using(crate::proofs::Sorting::nothing_taken))]
     pub fn new(
         alloc: Global,

@@ -22,7 +22,7 @@ pub struct TextPiece {
     pub text: Vec<u8>,
 }
 
-/// Why a piece gives no segments, tried in this order. Want of memory can come at any point.
+/// Why a piece gives no segments: the first cause in this order, except that `Memory` can come at any point.
 #[derive(Debug, Drop, Error)]
 pub enum PieceFault {
     /// The text stops before its end.

@@ -29,7 +29,7 @@ use trace_pair::PairTable;
 use trace_stuck::Condition;
 use trace_wait::{Poll, conditions_with_polls};
 
-/// What is asked of a run.
+/// What the conditions of a run are made from.
 #[derive(Clone, Copy)]
 pub(crate) struct Case<'a> {
     pub layout: &'a Layout,

@@ -106,7 +106,7 @@ fn receive_of(layout: &Layout, name: OpName, e: Envelope) -> Option<Receive> {
 }
 
 impl Idle {
-    /// Of all ranks.
+    /// The table for all ranks. Fails with `AllocError` when memory is refused.
     pub fn of(alloc: Global, run: &Run<'_>, inits: &Inits) -> Result<Idle, AllocError> {
         let mut idle = Idle {
             messages: Vec::new(alloc),

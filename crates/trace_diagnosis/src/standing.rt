@@ -86,7 +86,7 @@ fn ends_with(cell: Cell<'_>) -> Beyond
     }
 }
 
-/// What ends the readable prefix of a rank, where more is known of it or was written.
+/// What ends the readable prefix of a rank, if more is known of it or was written.
 fn beyond_of(know: &Knowledge, rank: u32, cut: bool) -> Option<Beyond>
     ensures { result ≡ beyond_of know.now rank cut }
 {

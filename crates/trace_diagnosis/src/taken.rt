@@ -291,7 +291,7 @@ pub(crate) struct Takers<'a> {
 }
 
 impl<'a> Takers<'a> {
-    /// The open receives of these operations: `AllocError` comes where memory for them lacks.
+    /// The open receives of these operations. Fails with `AllocError` when memory is refused.
     pub fn of(
         alloc: Global,
         ops: &'a [RankOps],
@@ -301,7 +301,7 @@ impl<'a> Takers<'a> {
         Ok(Takers { opened, reaches })
     }
 
-    /// The message with the first open receive that may have taken it.
+    /// The message with the first open receive that may have taken it. Fails with `AllocError` when memory is refused.
     pub fn taken(&self, alloc: Global, m: &Message) -> Result<Option<TakenBy>, AllocError> {
         match first_taker(alloc, self.reaches, &self.opened, m)? {
             Some(by) => Ok(Some(TakenBy { message: *m, by })),

@@ -82,7 +82,7 @@ impl<'a> Called<'a> {
         self.given().is_none() && !is_start(self.call) && !matches!(self.call, Call::Free(_))
     }
 
-    /// How many places its outcome has, each of which may complete a request.
+    /// How many entries its outcome has, each of which may complete a request.
     #[inline(always)]
     pub fn places(&self) -> usize
         ensures { result ≡ length (places_by self.now) }
@@ -90,7 +90,7 @@ impl<'a> Called<'a> {
         place_count(self.call, self.outs)
     }
 
-    /// The request that it completed at a place of its outcome.
+    /// The request that an entry of its outcome completed, if it did.
     #[inline(always)]
     pub fn completed_at(&self, place: usize) -> Option<Completed>
         requires { place < length (places_by self.now) }

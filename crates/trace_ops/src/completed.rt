@@ -10,7 +10,7 @@ ghost use Rattle.trace_ops.specs.Request.{any_of, completes, element_of, given_o
 use mpi_model::{Call, Element, NULL_REQUEST, Outs, Told};
 use std::alloc::AllocError;
 
-/// A request that an outcome completes, and what the outcome tells of it.
+/// A request that an outcome completes, and what the outcome says of its source.
 #[derive(Clone, Copy, Debug, PartialEq, Eq)]
 pub struct Completed {
     pub request: i64,

@@ -50,7 +50,7 @@ fn told_in(members: &[u32], x: i64, called: &Called<'_>, first: usize) -> Option
     None
 }
 
-/// The rank of the trace that a told number names in the group.
+/// The rank of the trace that has this rank in the group; `None` if the outcome tells no source.
 pub(crate) fn source_in(members: &[u32], told: Option<u32>) -> Option<u32>
     ensures { result ≡ source_in members.now told }
 {
@@ -116,7 +116,7 @@ fn told_by_end(
     (told, ended)
 }
 
-/// What becomes of the request that is posted, if one is, by what is kept of its number of the steps behind its post.
+/// What becomes of the request that the call posts, if it posts one, by what the later steps do with its number.
 #[inline(always)]
 pub(crate) fn fate_of<'a>(
     touch: Option<Touch>,

@@ -46,7 +46,7 @@ impl Mix for (u32, u32, u32) {
 /// How many guesses there are at first.
 const FEW: usize = 256;
 
-/// Rows that were asked for, by what their keys mix to. Nothing is claimed of them: a key is looked for there first.
+/// Rows that were asked for, by what their keys mix to. They are only guesses: a key is looked for there first.
 #[derive(Drop)]
 struct Guesses {
     /// As many as a power of two, or none.

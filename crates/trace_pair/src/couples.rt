@@ -32,7 +32,7 @@ impl Model for Couples {
     ghost invariant = { λ s. AreMutual s.takers.items s.taken.items };
 }
 
-/// What the receive tells beside its message.
+/// What the receive has beside what its message says.
 pub(crate) fn taker_of(q: &Receive) -> Taker
     ensures { result ≡ taker_of q.now }
 {

@@ -34,7 +34,7 @@ impl Ends {
         }
     }
 
-    /// And the end of this receive.
+    /// Adds the end of this receive. On `AllocError`, when memory is refused, its contents are unspecified.
     pub fn insert(&mut self, q: &Receive) -> Result<(), AllocError>
         ensures { OnOk result ((opened : List Receive) → AreLast opened self.old → AreLast (q.now ∷ opened) self.new) }
     {

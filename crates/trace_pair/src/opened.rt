@@ -24,7 +24,7 @@ use std::alloc::{AllocError, Global};
 use std::collections::BTreeMap;
 use std::marker::Model;
 
-/// The receiver, the tag, the source and the communicator of receives.
+/// What receives name: the receiver, the tag, the source and the communicator.
 type Key = (u32, Option<u32>, Option<u32>, u32);
 
 /// Puts a lane of one receive at its key, where none stands.

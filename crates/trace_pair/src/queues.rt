@@ -135,7 +135,7 @@ impl Kinds {
         }
     }
 
-    /// And the kind of this source and tag.
+    /// Adds the kind of this source and tag.
     pub(crate) fn marked(self, source: Option<u32>, tag: Option<u32>) -> Kinds
         ensures { result ≡ kinds_with self source tag }
     {

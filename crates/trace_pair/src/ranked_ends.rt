@@ -36,7 +36,7 @@ impl RankedEnds {
         (rank as u64) < self.below
     }
 
-    /// And the end of this receive.
+    /// Adds the end of this receive.
     pub(crate) fn insert(&mut self, q: &Receive) -> Result<(), AllocError>
         ensures { OnOk result ((opened : List Receive) → AreRanked opened self.old → AreRanked (q.now ∷ opened) self.new) }
     {

@@ -52,7 +52,7 @@ impl RankedReceives {
         (rank as u64) < self.below
     }
 
-    /// Puts a receive in. What the set has after an error means nothing.
+    /// Puts a receive in. After an error the contents are unspecified.
     pub(crate) fn insert(&mut self, q: Receive) -> Result<(), AllocError>
         ensures { OnOk result (AddsTo self.old self.new q) }
     {

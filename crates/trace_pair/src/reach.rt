@@ -229,7 +229,7 @@ impl RankReach {
         })
     }
 
-    /// Whether the communicator holds the rank, found by halves.
+    /// Whether the communicator holds the rank, found by binary search.
     fn holds(&self, comm: u32) -> bool
         requires { IsNonDecreasing self.now.comms.items }
         ensures { result ≡ holds self.now comm }
@@ -343,7 +343,7 @@ impl<'a> Model for Reaches<'a> {
 }
 
 impl<'a> Reaches<'a> {
-    /// Of these ops, whose table this is.
+    /// The table of these ops.
     pub fn new(ops: &'a [RankOps], table: &'a [RankReach]) -> Reaches<'a>
         requires { AreReachesOf ops.now table.now }
         ensures { result ≡ ops.now }

@@ -116,9 +116,8 @@ impl<'a> TakenBy<'a> {
         Ok(())
     }
 
-    /// The places of the pairs, as the receives that take them came: a start from which the sort by the
-    /// receive has nothing left to do. Nothing is claimed of that order. Where each message is taken, its
-    /// pair stands at its place.
+    /// The places of the pairs, as the receives that take them came: a start from which the sort by the receive has
+    /// nothing left to do. This order is only a guess. Where each message is taken, its pair stands at its place.
     pub(crate) fn into_places_near(self, alloc: Global) -> Result<Vec<u32>, AllocError> {
         let mut places = self.came;
         if places.len() == self.waiting.len() {

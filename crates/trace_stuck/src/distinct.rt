@@ -186,7 +186,7 @@ fn distinct_option(
     }
 }
 
-/// The conditions, each without the parts that come twice.
+/// The conditions, each without repeated parts: each holds for the same sets of ranks as before.
 pub(crate) fn distinct_conditions(
     alloc: Global,
     conditions: &[Option<Condition>],

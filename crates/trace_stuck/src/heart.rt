@@ -97,7 +97,7 @@ fn everyone(alloc: Global, count: usize) -> Result<Vec<bool>, AllocError>
 
 /// The hearts of a graph, which lists for each of its nodes, from 0 on, those to which its edges go: of each node the
 /// least node of its heart, where it is in one. A heart is a strongly connected component that no edge leads out of. An
-/// edge to a node that isn't there counts for nothing.
+/// edge to a node that doesn't exist is ignored. Fails with `AllocError` when memory is refused.
 pub fn hearts(alloc: Global, edges: &[Vec<u32>]) -> Result<Vec<Option<u32>>, AllocError>
     requires { length edges.now ≤ 2 ^ 32 }
     ensures len { IfOk result (λ hearts. vec_len hearts ≡ length edges.now) }

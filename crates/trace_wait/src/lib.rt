@@ -5,15 +5,15 @@
 //! partners: see `docs/definitions.md`. Which ranks are stuck then is told by [`trace_stuck`],
 //! whose public names this crate passes on.
 //!
-//! Cost: rounds go once through all collective calls, with a look-up in an ordered map for each.
-//! Where no rank waits, conditions ask nothing but that of each rank. Else they go once through all
-//! messages and receives, each looked for in the table of pairs by halving, and keep only what those
-//! in no pair name, and when the receives end; a part of a condition costs some look-ups more, and
-//! that of a send the question whether its message comes after a receive. A request that a call lists
-//! twice is looked at once. That of a nonblocking collective call, and the number of its round, are
-//! found by halving, and its list of members is shared.
+//! Cost: rounds go once through all collective calls, with a look-up in an ordered map for each. Where no rank waits,
+//! conditions ask nothing but that of each rank. Else they go once through all messages and receives, each looked for
+//! in the table of pairs by binary search, and keep only what those in no pair name, and when the receives end; a part
+//! of a condition costs some look-ups more, and that of a send the question whether its message comes after a receive.
+//! A request that a call lists twice is looked at once. That of a nonblocking collective call, and the number of its
+//! round, are found by binary search, and its list of members is shared.
 //!
-//! - [`entries`]: collective calls by communicator, found by halves; [`counts`]: how many each member has entered
+//! - [`entries`]: collective calls by communicator, found by binary search; [`counts`]: how many each member has
+//!   entered
 //! - [`round`]: how a round stands; [`tally`]: the rounds of all communicators
 //! - [`sets`], [`paired`], [`unpaired`], [`mismatch`]: what is looked up for the conditions; [`overview`]: all of it
 //!   together

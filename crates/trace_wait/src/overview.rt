@@ -87,7 +87,8 @@ impl<'a> Overview<'a> {
         }
     }
 
-    /// The members of a communicator, in a list that all conditions share.
+    /// The members of a communicator, in a list that all conditions share. Fails with `AllocError` when memory is
+    /// refused.
     pub fn shared_members(&self, alloc: Global, comm: u32) -> Result<Arc<Vec<u32>>, AllocError>
         ensures { IfOk result (λ list. list.value.items ≡ members self.now comm) }
     {

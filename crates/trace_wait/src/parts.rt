@@ -80,7 +80,7 @@ pub(crate) fn receive_part(
     }
 }
 
-/// What a Probe waits for that looks for a message as this receive would; none looks for nothing.
+/// What a Probe waits for that looks for a message as this receive would; `None` looks for nothing.
 pub(crate) fn probe_part(
     alloc: Global,
     run: &Overview,

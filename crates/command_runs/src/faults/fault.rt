@@ -121,7 +121,7 @@ impl<T: Drop> From<AllocFailed<T>> for RunFault {
     }
 }
 
-/// The line for standard error, with its line feed.
+/// The line for standard error, with its line feed. Fails with `AllocError` when memory is refused.
 pub fn fault_line(alloc: Global, fault: &RunFault) -> Result<String, AllocError>
     ensures { IfOk result (λ line. string_bytes line ≡ fault_line_of fault.now) }
 {

@@ -16,7 +16,7 @@ use run_files::{InputFault, LONGEST_FILE, Manifest, RunInput, layout_of, manifes
 use std::alloc::{AllocError, Global};
 
 /// The layout and the manifest of these files. The rank that is asked for, where one is, is looked for in the layout
-/// before the manifest is read.
+/// before the manifest is read. [`RunFault`] is the first cause in the order in which the files are read.
 pub fn input_at<O: Opener>(
     alloc: Global,
     rank: Option<u32>,

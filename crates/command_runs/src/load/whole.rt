@@ -42,7 +42,8 @@ impl From<AllocError> for WholeFault {
     }
 }
 
-/// All bytes that the reader has, up to its end, where they are at most so many.
+/// All bytes that the reader has, up to its end, where they are at most so many. [`WholeFault`] comes where the reader
+/// fails, has more bytes, or memory is refused.
 pub fn read_whole<R: Read>(
     alloc: Global,
     reader: &mut R,

@@ -78,7 +78,8 @@ pub fn worker_of(piece: &Piece) -> Worker
     }
 }
 
-/// The bytes of all pieces, which are read in the order of the pieces, beside what packed files tell.
+/// The bytes of all pieces, which are read in the order of the pieces, beside what packed files tell. [`RunFault`]
+/// names the first file that can't be read whole.
 pub fn texts_of_all<O: Opener>(
     alloc: Global,
     pieces: &[Piece],

@@ -425,7 +425,7 @@ impl<'a> Writer<'a> {
     }
 
     /// The ranks of a root on lines of their own, where so many lines of this sort were told before: how many are told
-    /// then. At most so many are told.
+    /// then. At most so many are told. On `AllocError`, when memory is refused, its contents are unspecified.
     pub fn put_root_members(
         &mut self,
         root: &Root,

@@ -47,7 +47,7 @@ impl Model for Exchange {
 }
 
 impl Exchange {
-    /// The two envelopes, or none where they name two communicators.
+    /// The two envelopes; `None` if they name two communicators. Fails with `AllocError` when memory is refused.
     pub fn new(
         alloc: Global,
         send: SendEnvelope,
@@ -69,7 +69,7 @@ impl Exchange {
         }))
     }
 
-    /// An equal pair of envelopes in memory of its own: `AllocError` comes where that lacks.
+    /// An equal pair of envelopes in memory of its own. Fails with `AllocError` when memory is refused.
     pub fn try_clone(&self) -> Result<Exchange, AllocError>
         ensures { IfOk result (λ e. e ≡ self.now) }
     {

@@ -28,7 +28,7 @@ impl Model for ProbeEnvelope {
 }
 
 impl ProbeEnvelope {
-    /// The envelope, or none where no probe can have it.
+    /// The envelope; `None` if a probe can't have it, because a value is out of its range.
     pub fn new(source: Peer, tag: Option<u32>, comm: CommRef) -> Option<ProbeEnvelope>
         ensures { SomeIff result (IsSource source × IsAskedTag tag × IsComm comm)
             (record { source = source; tag = tag; comm = comm }) }
@@ -55,7 +55,7 @@ impl ProbeEnvelope {
         self.source
     }
 
-    /// The tag, where one is named: none is any tag.
+    /// The tag; `None` is `MPI_ANY_TAG`.
     pub fn tag(self) -> Option<u32>
         ensures value { result ≡ self.tag }
         ensures range { IsAskedTag result }

@@ -28,7 +28,7 @@ impl Model for ReceiveEnvelope {
 }
 
 impl ReceiveEnvelope {
-    /// The envelope, or none where no receive can have it.
+    /// The envelope; `None` if a receive can't have it, because a value is out of its range.
     pub fn new(inner: Envelope) -> Option<ReceiveEnvelope>
         ensures { SomeIff result (IsReceive inner) inner }
     {

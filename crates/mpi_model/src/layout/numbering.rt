@@ -32,7 +32,7 @@ impl Numbering {
         Ok(Numbering { names, starts })
     }
 
-    /// What a number names in a call of a rank, found by halves.
+    /// What a number names in a call of a rank, found by binary search.
     pub(crate) fn named(&self, rank: u32, call: u64, number: u32) -> Option<u32>
         requires order { AreOrdered self.now.names.items }
         requires starts { AreStarts self.now.names.items self.now.starts.items }

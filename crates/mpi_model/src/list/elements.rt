@@ -54,7 +54,7 @@ impl Elements {
         &self.items
     }
 
-    /// An equal list in memory of its own: `AllocError` comes where that lacks.
+    /// An equal list in memory of its own. Fails with `AllocError` when memory is refused.
     pub fn try_clone(&self) -> Result<Self, AllocError>
         ensures { IfOk result (λ r. r ≡ self.now) }
     {

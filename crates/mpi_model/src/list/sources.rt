@@ -37,7 +37,7 @@ impl Sources {
         &self.items
     }
 
-    /// An equal list in memory of its own: `AllocError` comes where that lacks.
+    /// An equal list in memory of its own. Fails with `AllocError` when memory is refused.
     pub fn try_clone(&self) -> Result<Self, AllocError>
         ensures { IfOk result (λ r. r ≡ self.now) }
     {

@@ -13,7 +13,7 @@ use std::alloc::{AllocError, Global};
 
 /// The file of a layout with these parts: its communicators in this order, each without the field `numbers` where it
 /// has none, and a plain number for a stretch that holds all calls. It asks nothing of the parts: whether they break a
-/// rule of layouts is for [`mpi_model::Layout`] to say.
+/// rule of layouts is for [`mpi_model::Layout`] to say. Fails with `AllocError` when memory is refused.
 pub fn layout_bytes(
     alloc: Global,
     ranks: u32,

@@ -10,7 +10,7 @@ use json::Writer;
 use std::alloc::{AllocError, Global};
 
 /// The file of a manifest with one piece for each of these files, which are the whole texts of the ranks 0, 1 and so
-/// on.
+/// on. Fails with `AllocError` when memory is refused.
 pub fn manifest_bytes(alloc: Global, files: &[String]) -> Result<Vec<u8>, AllocError>
     ensures { IfOk result (λ text. text.items ≡ line_of (manifest_value (map string_bytes files.now))) }
 {

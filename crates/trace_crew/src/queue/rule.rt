@@ -5,7 +5,7 @@ use crossbeam_channel::protocol::{Join, Lesson, Outcome, Protocol, Split};
 use crossbeam_channel::{Pass, RuledReceiver, RuledSender};
 use std::collections::LinkedList;
 
-/// How a worker stands with the owner. It exists in proofs alone, as [`Desk`] and [`SeatView`] do.
+/// How a worker stands with the owner. Like [`Desk`] and [`SeatView`], it exists in proofs only.
 pub enum WorkerStanding {
     /// It has no seat yet.
     Unmade,

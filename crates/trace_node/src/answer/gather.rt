@@ -35,7 +35,7 @@ fn prefixes_of(alloc: Global, layout: &Layout, know: &Knowledge) -> Result<Vec<u
     Ok(prefixes)
 }
 
-/// Of each rank, whether something is known past its readable prefix.
+/// For each rank, whether something is known at or past the end of its readable prefix.
 fn beyond_of(alloc: Global, layout: &Layout, know: &Knowledge) -> Result<Vec<bool>, AllocError>
     ensures { IfOk result (λ v. v.items ≡ beyond_of layout.now know.now) }
 {

@@ -57,7 +57,7 @@ impl Reading {
         Ok(more)
     }
 
-    /// The same in memory of its own: `AllocError` comes where that lacks.
+    /// The same in memory of its own. Fails with `AllocError` when memory is refused.
     pub(crate) fn try_clone(&self) -> Result<Reading, AllocError>
         ensures prefixes { IfOk result (λ copy. copy.prefixes.items ≡ self.now.prefixes.items) }
         ensures beyond { IfOk result (λ copy. copy.beyond.items ≡ self.now.beyond.items) }
@@ -81,7 +81,7 @@ pub(crate) struct Matching {
 }
 
 impl Matching {
-    /// The same in memory of its own: `AllocError` comes where that lacks.
+    /// The same in memory of its own. Fails with `AllocError` when memory is refused.
     pub(crate) fn try_clone(&self) -> Result<Matching, AllocError>
         ensures pairs { IfOk result (λ copy. copy.pairs.items ≡ self.now.pairs.items) }
         ensures postponed { IfOk result (λ copy. copy.postponed.items ≡ self.now.postponed.items) }
@@ -102,7 +102,8 @@ pub(crate) struct Waiting {
 }
 
 impl Waiting {
-    /// The same in memory of its own, the conditions of stuck ranks among it: `AllocError` comes where that lacks.
+    /// The same in memory of its own, the conditions of stuck ranks among it. Fails with `AllocError` when memory is
+    /// refused.
     pub(crate) fn try_clone(&self) -> Result<Waiting, AllocError>
         ensures rounds { IfOk result (λ copy. copy.rounds.items ≡ self.now.rounds.items) }
         ensures states { IfOk result (λ copy. copy.states.items ≡ self.now.states.items) }

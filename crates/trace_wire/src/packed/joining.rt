@@ -54,7 +54,7 @@ impl Model for Joining {
 }
 
 impl Joining {
-    /// Nothing came. Takes no memory.
+    /// No part has come. Takes no memory.
     pub fn new(alloc: Global) -> Joining
         ensures { result ≡ empty }
     {
@@ -64,7 +64,7 @@ impl Joining {
         }
     }
 
-    /// The same once one part more has come.
+    /// The same with one more part. On an error all is lost. Fails with `AllocError` when memory is refused.
     pub fn taking(self, know: Knowledge) -> Result<Joining, AllocError>
         ensures { IfOk result (λ all. all ≡ join self know) }
     {
@@ -81,7 +81,7 @@ impl Joining {
         })
     }
 
-    /// All that came, joined.
+    /// The join of all parts. Fails with `AllocError` when memory is refused.
     pub fn into_knowledge(self) -> Result<Knowledge, AllocError>
         ensures { IfOk result (λ know. know ≡ self) }
     {
