@@ -81,8 +81,8 @@ fn groups_of(alloc: Global, order: &[Colored]) -> Result<Vec<ColorGroup>, AllocE
     Ok(groups)
 }
 
-/// Of each color the ranks that name it, in the order of their keys and then of their ranks in the parent; the colors
-/// rise. It sorts: n log n. Fails with `AllocError` when memory is refused.
+/// For each color, in rising order, the ranks that name it, in the order of their keys and then of their ranks in the
+/// parent (MPI 4.0, 7.4.2). It sorts, in n log n. Fails with `AllocError` when memory is refused.
 pub fn split(alloc: Global, asked: Vec<Colored>) -> Result<Vec<ColorGroup>, AllocError>
     ensures { IfOk result (λ v. IsSplit asked.items v.items) }
 {

@@ -20,7 +20,7 @@ pub(crate) fn set_of(alloc: Global, ranks: &[u32]) -> Result<BTreeSet<u64>, Allo
     Ok(set)
 }
 
-/// Whether some rank stands in the list twice.
+/// Whether some rank is in the list twice.
 pub(crate) fn has_double(alloc: Global, ranks: &[u32]) -> Result<bool, AllocError>
     ensures { IfOk result (λ double. double ≡ has_double ranks.now) }
 {

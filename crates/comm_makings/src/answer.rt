@@ -5,7 +5,7 @@ use mpi_model::Comm;
 /// The communicators that the calls of all ranks make.
 #[derive(Drop)]
 pub struct Derived {
-    /// The number of MPI_COMM_WORLD, 2 where no rank tells it.
+    /// The number of MPI_COMM_WORLD; 2 if no rank says it.
     pub world: u32,
     /// The world, and the communicators, windows and files that some call of the profile names, in the order of a
     /// layout.
@@ -14,14 +14,14 @@ pub struct Derived {
     pub left_out: Vec<LeftOut>,
 }
 
-/// A communicator that a call of a rank gave, and from which nothing is derived: its number stays foreign.
+/// A communicator that a call of a rank gave, but that couldn't be derived: its number stays foreign.
 #[derive(Clone, Copy)]
 pub struct LeftOut {
     pub rank: u32,
     /// The call that gave it.
     pub call: u64,
     pub made_by: MadeBy,
-    /// The number that the call gave, where it can be read.
+    /// The number that the call gave; `None` if it can't be read.
     pub number: Option<u32>,
     /// How many calls of the profile name it.
     pub uses: u64,
@@ -43,14 +43,14 @@ pub enum MadeBy {
     GraphCreate,
     DistGraphCreate,
     DistGraphCreateAdjacent,
-    /// Another function, from which nothing is derived.
+    /// Another function, whose communicators aren't derived.
     Other,
 }
 
 /// Why a communicator is left out.
 #[derive(Clone, Copy)]
 pub enum Why {
-    /// Nothing is derived from calls of its function.
+    /// Communicators of its function aren't derived.
     Function,
     /// It has the number of MPI_COMM_WORLD or MPI_COMM_SELF.
     Taken,
@@ -67,10 +67,10 @@ pub enum Why {
     Behind,
 }
 
-/// Why nothing is derived.
+/// Why no layout is derived.
 #[derive(Clone, Copy)]
 pub enum DeriveFault {
     Memory,
-    /// Two ranks tell different numbers of MPI_COMM_WORLD.
+    /// Two ranks say different numbers of MPI_COMM_WORLD.
     World { first: u32, second: u32 },
 }

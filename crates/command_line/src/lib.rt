@@ -21,12 +21,12 @@ use mpi_model::Sends;
 use std::alloc::{AllocError, Global};
 use thiserror::Error;
 
-/// How much is said of a run.
+/// How much is printed of a run.
 #[derive(Clone, Copy, Debug, PartialEq, Eq)]
 pub enum Extent {
     /// Long lists are cut.
     Cut,
-    /// All there is.
+    /// Lists aren't cut.
     Whole,
 }
 
@@ -48,9 +48,9 @@ pub enum Verb {
     /// Run a schedule of posts, takes, shipments, deliveries and restarts, and print the report of
     /// each node.
     Replay,
-    /// Make what a report tells once more straight from the rules, and print whether both agree.
+    /// Make the contents of a report a second time, straight from the rules, and print whether both agree.
     Check,
-    /// Write what the pieces tell together, as bytes that are a piece of another run.
+    /// Write what the pieces say together as one packed file, which can be a piece of another run.
     Pack,
 }
 
@@ -58,7 +58,7 @@ impl Verb {
     ghost use Rattle.std.specs.Prelude.{◌≡◌};
     ghost use Rattle.command_line.specs.Program.{asked_rank};
 
-    /// The rank that the verb asks for, where it asks for one.
+    /// The rank that the verb asks for; `None` if it asks for none.
     pub fn asked_rank(self) -> Option<u32>
         ensures { result ≡ asked_rank self }
     {
@@ -78,7 +78,7 @@ pub struct Wanted<'a> {
     pub layout: &'a str,
     /// The name of the file for the manifest.
     pub manifest: &'a str,
-    /// Files of these names that are there may be written over.
+    /// Whether files of these names may be overwritten.
     pub force: bool,
 }
 
@@ -109,7 +109,7 @@ pub enum Asked<'a> {
     },
 }
 
-/// Why the words ask for nothing.
+/// Why the words ask for nothing that can be run.
 #[derive(Debug, Drop, Error)]
 pub enum CommandFault {
     #[error("mpimatch: Memory\n")]
@@ -150,7 +150,7 @@ fn shown_status(kind: ErrorKind) -> u8
 }
 
 /// What the words ask for; the first word is the name of the program. [`CommandFault`] comes for a mistake, for the
-/// help and the version, whose text it has, and where memory is refused.
+/// help and the version, whose text it has, and when memory is refused.
 pub fn command_of<'a>(alloc: Global, words: &'a [&'a str]) -> Result<Asked<'a>, CommandFault>
     ensures asked { IfOk result (λ a. request_in (subcommand_of program (texts_of words.entry.now)) ≡ Some (request_of a)) }
     ensures taken { OnOk result (fault_of program (texts_of words.entry.now) ≡ []) }

@@ -321,7 +321,7 @@ fn showing_init<O: Opener>(
     Ok(Ending { status: 1, errors })
 }
 
-/// The program ends so where its words can't be read, since one is no UTF-8: a mistake in the words.
+/// The ending when a word of the command line is no UTF-8, which counts as a mistake in the words.
 pub fn ending_without_words(alloc: Global) -> Result<Ending, AllocError>
     ensures { IfOk result (λ e. e.status ≡ 2) }
 {

@@ -6,8 +6,7 @@ use std::alloc::{AllocError, Global};
 use std::collections::BTreeMap;
 use trace_diagnosis::{Beyond, Stand, Standing};
 
-/// Ranks that stand alike: in or behind calls of one function on one object in one round, from one place of the
-/// program.
+/// Ranks that stand alike: in or after calls of one function on one object in one round, from one place of the program.
 #[derive(Debug, Drop)]
 pub(crate) struct Group {
     pub ranks: Vec<u32>,
@@ -122,7 +121,7 @@ pub(crate) fn singles_of(source: Source<'_>, ranks: &[u32]) -> Result<Vec<Group>
     Ok(groups)
 }
 
-/// Ranks by how they stand, in the order of their first ranks.
+/// Groups of ranks that stand alike, in the order of their first ranks.
 pub(crate) fn groups_of(source: Source<'_>, ranks: &[u32]) -> Result<Vec<Group>, AllocError> {
     let mut groups: Vec<Group> = Vec::new(source.alloc);
     let mut places: BTreeMap<Vec<u8>, usize> = BTreeMap::new(source.alloc);

@@ -4,12 +4,12 @@ use crate::doubtful::is_doubtful;
 use std::alloc::{AllocError, Global};
 use text_notes::{CallSite, Look, TextNote, note_of};
 
-/// What the texts of a run tell of its calls and of themselves. It is empty where there is no text.
+/// What the texts of a run tell of its calls and of themselves. It is empty if there is no text.
 #[derive(Debug, Drop)]
 pub struct TextFacts {
     /// What was noted of each text, in the order of the pieces.
     pub notes: Vec<TextNote>,
-    /// Where calls stand, by rank and number.
+    /// Where calls stand in the texts, by rank and number.
     pub sites: Vec<PlacedSite>,
     /// How often functions were called that may wait or move data and that aren't read, by name.
     pub local: Vec<LocalCalls>,

@@ -18,12 +18,12 @@ pub enum Field {
     Schedule,
 }
 
-/// The first cause that stands, in this order; want of memory where it comes.
+/// Why a text is refused: the first cause in this order, except that `Memory` comes whenever memory is refused.
 #[derive(Clone, Copy, Debug, PartialEq, Eq, Error)]
 pub enum InputFault {
     #[error("Memory")]
     Memory,
-    /// The bytes are no JSON, or no UTF-8, as `serde_json` notices at this line and column, both from 1; column 0 is
+    /// The bytes are no JSON, or no UTF-8. `serde_json` notices it at this line and column, both from 1; column 0 is
     /// before the line's first byte.
     #[error("M2 Json")]
     Json { line: u64, column: u64 },
@@ -36,7 +36,7 @@ pub enum InputFault {
     /// The schedule posts a packed piece.
     #[error("M5 Packed")]
     Packed,
-    /// The fields are there, and break a rule of layouts.
+    /// All fields are there, but they break a rule of layouts.
     #[error("{0}")]
     Layout(LayoutFault),
 }

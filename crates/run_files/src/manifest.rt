@@ -125,7 +125,7 @@ impl PackedPiece {
     }
 }
 
-/// A step as the manifest writes it. All numbers are from 0.
+/// A step as the manifest writes it. All numbers count from 0.
 #[derive(Clone, Copy, Debug, PartialEq, Eq)]
 pub enum PlannedStep {
     /// A worker posts a piece to a node: each of its segments, in their order.
@@ -135,7 +135,7 @@ pub enum PlannedStep {
         /// The number of the piece in the list of pieces.
         piece: usize,
     },
-    /// A node takes the front of its inbox.
+    /// A node takes the first segment of its inbox.
     Take {
         node: usize,
     },
@@ -143,12 +143,12 @@ pub enum PlannedStep {
     Ship {
         node: usize,
     },
-    /// A mail is joined into what a node knows.
+    /// A node joins a mail into what it knows.
     Deliver {
         mail: usize,
         node: usize,
     },
-    /// A node forgets all.
+    /// A node forgets all that it knows, and all segments of its inbox.
     Restart {
         node: usize,
     },
@@ -213,7 +213,7 @@ impl Manifest {
         &self.packed
     }
 
-    /// How many nodes the schedule is for. Any number stands here: a world has 1 to 64.
+    /// The number of nodes of the schedule. It can be any number here, while a world has 1 to 64.
     pub fn nodes(&self) -> usize
         ensures { result ≡ self.now.nodes }
     {

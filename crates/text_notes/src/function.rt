@@ -52,7 +52,7 @@ impl UnreadFunction {
         self.first
     }
 
-    /// How many calls of it there are. The count stays at the greatest of its type.
+    /// How many calls of it there are. The count saturates at the greatest value of its type.
     pub fn count(&self) -> u64
         ensures { result ≡ self.now.count }
     {
@@ -66,7 +66,7 @@ impl UnreadFunction {
         UnreadFunction::new(alloc, self.name(), self.first, self.count)
     }
 
-    /// Counts so many calls more. The count stays at the greatest of its type.
+    /// Counts so many calls more. The count saturates at the greatest value of its type.
     pub(crate) fn add(&mut self, count: u64)
         ensures { self.new ≡ with_count count self.old }
     {
@@ -81,7 +81,7 @@ impl UnreadFunction {
     }
 }
 
-/// Where the function of a name stands in a list.
+/// The place of the function of this name in a list; `None` if it isn't there.
 pub(crate) fn place_of(functions: &[UnreadFunction], name: &[u8]) -> Option<usize>
     ensures { result ≡ place_of name.now functions.now }
 {

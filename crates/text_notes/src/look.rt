@@ -16,7 +16,7 @@ use std::alloc::Global;
 use std::collections::BTreeSet;
 use std::marker::Model;
 
-/// What a second look tells of a text.
+/// What a second look at a text finds.
 #[derive(Debug, Drop)]
 pub struct Look {
     pub(crate) sites: Vec<CallSite>,
@@ -33,7 +33,7 @@ impl Model for Look {
 }
 
 impl Look {
-    /// The calls that were wanted, in their order.
+    /// The calls that were asked for, in their order.
     pub fn sites(&self) -> &[CallSite]
         ensures { result.now ≡ self.now.sites }
     {
@@ -55,7 +55,7 @@ impl Look {
         self.local.as_slice()
     }
 
-    /// The greatest size that MPI_Comm_size tells of MPI_COMM_WORLD.
+    /// The greatest size of MPI_COMM_WORLD that a call of MPI_Comm_size returned; `None` if none did.
     pub fn size(&self) -> Option<u64>
         ensures { result ≡ self.now.size }
     {
@@ -63,7 +63,7 @@ impl Look {
     }
 }
 
-/// Why a text can't be looked at.
+/// Why a second look at a text failed.
 fn fault_of(fault: WalkFault<Memory>) -> LookFault
     ensures { result ≡ LookFault.Read → IsReadStop fault.cause }
 {
@@ -79,8 +79,9 @@ fn fault_of(fault: WalkFault<Memory>) -> LookFault
     }
 }
 
-/// Looks a second time at a text that was read: for the calls of these numbers, for the local calls whose numbers are
-/// below the limit, and for the size of the world. The text is read in one pass, and memory grows with what is told.
+/// Reads a text a second time: for the calls of these numbers, for the local calls whose numbers are below the limit,
+/// and for the size of the world. The text is read in one pass, and memory grows with what is found. [`LookFault`] says
+/// why it can't be read.
 #[tactic(auto, using(crate::proofs::Looked::tells))]
 pub fn look_at<R: Read>(
     alloc: Global,

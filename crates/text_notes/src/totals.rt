@@ -47,7 +47,8 @@ impl Totals {
         self.functions.as_slice()
     }
 
-    /// How many calls of other functions that aren't read there are. The count stays at the greatest of its type.
+    /// How many calls of other functions that aren't read there are. The count saturates at the greatest value of its
+    /// type.
     pub(crate) fn others(&self) -> u64
         ensures { result ≡ self.now.others }
     {

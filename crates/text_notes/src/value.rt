@@ -11,14 +11,14 @@ use dumpi_text::{RawCall, TextCause, TextFault, Texts};
 use mpi_model::Read;
 use std::alloc::{AllocError, Global};
 
-/// Why a text can't be looked at.
+/// Why a second look at a text failed.
 #[derive(Clone, Copy, Debug, PartialEq, Eq)]
 pub enum LookFault {
     /// There was no memory for one of its calls.
     Memory,
     /// Its reader failed.
     Read,
-    /// One of its lines or calls is refused: it isn't as it was when it was read.
+    /// One of its lines or calls is refused, so it has changed since it was first read.
     Refused,
 }
 

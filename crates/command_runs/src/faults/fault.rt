@@ -13,8 +13,8 @@ use std::fmt;
 use trace_wire::{PackedCause, WireFault};
 use trace_world::WorldFault;
 
-/// The first cause that stands in the order in which files are read and refusals are tried. Each
-/// names its file as the words or the manifest spell it, and lines from 1.
+/// Why a run is refused: the first cause in the order in which files are read and checked. Each names its file as the
+/// command line or the manifest spells it; lines count from 1.
 #[derive(Debug, Drop)]
 pub enum RunFault {
     Memory,
@@ -22,7 +22,7 @@ pub enum RunFault {
     File {
         path: String,
     },
-    /// The file is no JSON, as is noticed at this line and column, both from 1; column 0 is before the line's first
+    /// The file is no JSON: the mistake is at this line and column, both from 1; column 0 is before the line's first
     /// byte.
     Json {
         path: String,
@@ -77,17 +77,17 @@ pub enum RunFault {
     Rank {
         path: String,
     },
-    /// A rank that the layout doesn't have: of the calls of a piece, where it isn't told which piece, or the one that
-    /// was asked for.
+    /// The layout doesn't have this rank. It is the rank of a piece's calls, when it isn't known which piece, or the
+    /// one that was asked for.
     Outside,
-    /// A replay has 1 to 64 nodes.
+    /// The number of nodes of a replay isn't 1 to 64.
     NodeCount,
     /// The step of this number, from 0, can't be done.
     Step {
         fault: WorldFault,
         step: usize,
     },
-    /// A worker of a node couldn't be started, or it found its way to the node closed.
+    /// A worker of a node couldn't be started, or its queue to the node was closed.
     Worker,
     /// Two nodes couldn't be connected.
     Net,
@@ -189,7 +189,7 @@ impl fmt::Display for RunFault {
     }
 }
 
-/// What a line calls a rule of layouts that is broken.
+/// The name of a broken rule of layouts, as a fault line has it.
 pub fn name_of_layout(fault: LayoutFault) -> &'static str
     ensures { result.now ≡ layout_fault_name fault }
 {

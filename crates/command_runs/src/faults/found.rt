@@ -1,4 +1,4 @@
-//! What is found out of a file once it was refused.
+//! What is found out about a file after it was refused.
 
 ghost use Rattle.std.specs.Prelude.{◌≡◌, None};
 ghost use Rattle.command_runs.specs.Advice.{IsFound};

@@ -13,8 +13,7 @@ pub const LONGEST_SHOWN: usize = 100;
 const CUT_OFF: &str = ", cut off: the value has ";
 
 /// Bytes as a line shows them: ASCII as it stands, but for control characters, which are written as in a file's name,
-/// and any other byte by its number, as Rust escapes it. So they are part of one line, and nothing of them is an order
-/// to a terminal.
+/// and any other byte by its number, as Rust escapes it. So they stay on one line and can't control a terminal.
 #[derive(Clone, Copy, Debug)]
 pub(crate) struct ShownBytes<'a> {
     bytes: &'a [u8],

@@ -83,7 +83,7 @@ pub(crate) fn opened<O: Opener>(alloc: Global, path: &str, files: &O) -> Result<
     }
 }
 
-/// The bytes of a file, where they are at most so many.
+/// The bytes of a file, which may be at most this many.
 pub(crate) fn file_at<O: Opener>(
     alloc: Global,
     path: &str,

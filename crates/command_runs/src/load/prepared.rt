@@ -20,7 +20,7 @@ pub(crate) struct Prepared {
     pub(crate) made: Made,
     /// The names of the texts' files, by rank.
     pub(crate) texts: Vec<String>,
-    /// What was found in the texts, and what is left out, for a person.
+    /// What was found in the texts and what is left out, in words for a person.
     pub(crate) notes: Vec<u8>,
 }
 

@@ -7,7 +7,7 @@ ghost use Rattle.command_runs.specs.Whole.{IsRefusedFor};
 use mpi_model::{Read, ReadFault, read_exactly};
 use std::alloc::{AllocError, AllocFailed, Global};
 
-/// The most bytes of a piece that is read whole.
+/// The largest size of a piece that is read whole, in bytes.
 pub const LONGEST_PIECE: usize = 1_073_741_824;
 
 /// Why a file is not read whole.
@@ -42,8 +42,8 @@ impl From<AllocError> for WholeFault {
     }
 }
 
-/// All bytes that the reader has, up to its end, where they are at most so many. [`WholeFault`] comes where the reader
-/// fails, has more bytes, or memory is refused.
+/// All bytes that the reader has, up to its end. Fails with [`WholeFault`] if the reader fails or has more than `most`
+/// bytes, or when memory is refused.
 pub fn read_whole<R: Read>(
     alloc: Global,
     reader: &mut R,
