@@ -127,7 +127,7 @@ with_init app = with_subcommand app init_app.top
 abbrev pub bare : App
 bare = on_top (λ s. record s { has_version = true; subcommand_required = true }) (new_app (codes "mpimatch"))
 
--- the program with the verbs for who asks what happened
+-- the program with the verbs that say what happened in a run
 abbrev pub answering : App
 answering = with_report (with_graph (with_explain bare))
 

@@ -367,7 +367,7 @@ fn program_command<'a>(alloc: Global) -> Result<Command<'a>, AllocError>
     with_init(command, alloc)
 }
 
-/// The program with the verbs for who asks what happened.
+/// The program with the verbs that say what happened in a run.
 fn answering_command<'a>(alloc: Global) -> Result<Command<'a>, AllocError>
     ensures { IfOk result (λ c. app_of c ≡ answering) }
 {

@@ -15,7 +15,7 @@ use Rattle.command_runs.specs.declared.ending.Ending.{Ending}
 use Rattle.command_runs.specs.declared.faults.init_fault.InitFault.{InitFault}
 use Rattle.command_runs.specs.declared.faults.init_fault.InitFault.TheVariants as faults
 
--- One of these words names a text that nothing tells: it is no file that can be read twice.
+-- One of these words names a text whose bytes aren't known, because its file can't be read twice.
 abbrev pub NamesPiped : (List ℕ → Option (List ℕ)) → List (List ℕ) → InitFault → Type 0
 NamesPiped file words (faults.Piped path) = Contains words (string_bytes path) × (file (string_bytes path) ≡ None)
 NamesPiped file words _ = ⊥

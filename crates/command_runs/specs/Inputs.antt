@@ -14,7 +14,7 @@ use Rattle.command_runs.specs.declared.faults.fault.RunFault.TheVariants.{Memory
 use Rattle.command_runs.specs.declared.load.whole.WholeFault.{WholeFault}
 use Rattle.command_runs.specs.declared.load.whole.WholeFault.TheVariants as wholes
 
--- The file can't be opened: memory was wanting, or nothing tells its bytes, and the fault names it.
+-- The file can't be opened: memory was refused, or its bytes aren't known, and the fault names it.
 abbrev pub RefusesOpening : List ℕ → Option (List ℕ) → RunFault → Type 0
 RefusesOpening name file fault = (fault ≡ Memory) ⊎ ((path : String Global) × (fault ≡ File path) × IsNamed path name × (file ≡ None))
 

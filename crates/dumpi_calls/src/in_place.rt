@@ -1,5 +1,5 @@
-//! Calls as dumpi2ascii writes them, read whole where they stand at hand: no line of them is copied. Text in another
-//! form is left to the functions that read line by line.
+//! Calls as dumpi2ascii writes them, read whole where they lie in the buffer: no line of them is copied. Text in
+//! another form is left to the functions that read line by line.
 
 ghost use Rattle.std.specs.Prelude.{◌≡◌, ◌≤◌, ◌<◌, ◌^◌, IfSome, true, false};
 ghost use Rattle.mpi_model.specs.Kinds.{has_root, row as kind_row};

@@ -182,7 +182,7 @@ pub(crate) fn lack<F: Drop>(fault: TextFault, line: u64, calls: u64) -> WalkFaul
     }
 }
 
-/// The next call, where it stands at hand whole and in its usual form, which is taken then, and the line where it
+/// Takes the next call if it lies whole in the buffer and has the usual form, and returns it with the line where it
 /// begins.
 #[inline(always)]
 #[tactic(auto, using(crate::proofs::Advancing::follows_whole, crate::proofs::Advancing::stands_whole))]

@@ -77,7 +77,7 @@ impl Piece {
         self.node
     }
 
-    /// The worker of that node who reads it: 0 or 1.
+    /// The worker of that node that reads it: 0 or 1.
     pub fn worker(&self) -> u8
         ensures { result ≡ self.now.worker }
     {

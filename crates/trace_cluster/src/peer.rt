@@ -1,4 +1,4 @@
-//! A node as those know it who let two of them meet.
+//! A node, as the functions see it that connect two of them.
 
 ghost use Rattle.std.specs.Prelude.{◌≡◌, ◌≢◌, ◌↔◌, IfErr, IsErrOf, OnOk};
 ghost use Rattle.trace_know.specs.View.{join};
@@ -12,9 +12,9 @@ use std::net::TcpStream;
 use trace_know::{Knowledge, join_laws};
 use trace_node::{Node, NodeFault};
 
-/// One who takes part in an exchange. Whoever lets two meet knows a node by this trait alone: what a
-/// closure of a scope captures can't name the lifetime inside a node, and a function that owns nodes
-/// is proved over all that a node holds.
+/// One side of an exchange. The functions that connect two nodes know them by this trait alone: a closure of a scope
+/// can't name the lifetime inside a node that it captures, and a function that owns nodes is proved over all that a
+/// node holds.
 pub trait Participant: Drop {
     /// What its node holds.
     ghost held: { Self → Held };

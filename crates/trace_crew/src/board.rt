@@ -1,10 +1,9 @@
 //! A board: the newest published answer, with the knowledge that it is of, for any number of
 //! threads.
 //!
-//! A [`Board`] is one lock around one [`Shown`]. Who owns a node publishes it: what it knows and its
-//! answer, shared with the node, take the place of what was shown. Who asks shares them too. So no thread
-//! ever sees an answer that isn't that of the knowledge beside it: the type of what lies under the
-//! lock keeps that, and it holds each time the lock is free.
+//! A [`Board`] is one lock around one [`Shown`]. The owner of a node publishes it: what it knows and its answer, shared
+//! with the node, replace what was shown. A reader shares them too. So no thread ever sees an answer that isn't that of
+//! the knowledge beside it: the type under the lock guarantees that each time the lock is free.
 //!
 //! Cost: both calls hold the lock for two pointers, and for nothing else; the comparison with what a
 //! reader saw last is made outside of it. A node that knows more while others share what it knew copies
@@ -13,8 +12,8 @@
 //! - [`shown`]: what is shown, which is put and copied
 //! - [`fault`]: why nothing was put, or nothing newer is shown
 //!
-//! What a call did under the lock no contract can name: that `publish` changes the board, and that
-//! `show` reads it, is left to tests.
+//! No contract can say what a call did under the lock: that `publish` changes the board, and that `show` reads it, is
+//! only tested.
 
 ghost use Rattle.std.specs.Prelude.{◌≡◌, ◌↔◌, IsTrue, IfOk, IfErr, IfSome, IsErrOf};
 ghost use Rattle.trace_know.specs.View.{IsBelow};

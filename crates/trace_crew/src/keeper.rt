@@ -33,7 +33,7 @@ pub trait Keeper: Drop {
         ensures listed { (kept self.new).refused ≡ (kept self.old).refused }
         ensures fresh { OnOk result ((kept self.new).node.is_stale ≡ false) };
 
-    /// Nothing waits to be taken: makes an answer, where it is worth its time.
+    /// Called while the queue is empty: makes an answer, if one is due.
     fn rest<R: Wait>(&mut self, rt: &R)
         ensures kept { IsKept (kept self.old).node (kept self.new).node }
         ensures listed { (kept self.new).refused ≡ (kept self.old).refused };

@@ -13,8 +13,8 @@ use std::sync::Wait;
 use trace_know::{ReadySegment, Segment, view_laws};
 use trace_node::{Node, NodeFault};
 
-/// How many events are joined before the node is shown on the way for the first time: the workers read
-/// them in less than a second, so who asks the board earlier would hardly see it.
+/// How many events are joined before the node is shown on the way for the first time: the workers read this many in
+/// less than a second, so a reader of the board would hardly see an earlier answer.
 const FIRST_SHOWN: u64 = 1_000_000;
 
 /// A segment that was not joined, and why.

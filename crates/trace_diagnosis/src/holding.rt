@@ -1,7 +1,7 @@
 //! Whether conditions hold, and what holds up ranks whose conditions don't.
 //!
 //! A round whose calls don't match never ends: the verdict on stuck ranks takes a call of it as one that may go on,
-//! since MPI says nothing of such programs. Here it holds up whoever stands in it.
+//! since MPI says nothing of such programs. Here it holds up every rank that is in it.
 
 ghost use Rattle.std.specs.Prelude.{◌≡◌, ◌++◌, ◌∷◌, [], ℕ, false, OnOk, not, filter, map};
 ghost use Rattle.std.specs.List.{flat_map, list_all, list_any};

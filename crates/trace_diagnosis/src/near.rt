@@ -71,7 +71,7 @@ pub(crate) fn is_near(why: Why, m: &Message, q: &Receive) -> bool
     }
 }
 
-/// A key under which a thing looks for others, and the value in which they have to differ.
+/// A key under which a message or a receive looks for others, and the value in which they have to differ.
 #[derive(Clone, Copy)]
 struct Place {
     key: Key,

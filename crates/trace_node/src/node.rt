@@ -330,8 +330,8 @@ impl<'a> Node<'a> {
     }
 }
 
-/// Puts this in place of what was kept, and lets go of that. It takes several steps, and in a node's own
-/// functions each step would name all that a node holds.
+/// Replaces what was kept by this, and drops what was kept. It takes several steps, and in a node's own functions each
+/// step would name all that a node holds.
 fn put<T: Drop>(kept: &mut Option<T>, value: Option<T>)
     ensures { kept.new ≡ value }
 {

@@ -1,7 +1,7 @@
-//! What a node knows, and its answer, each shared with those to whom it is shown.
+//! What a node knows, and its answer, each shared with the readers to whom it is shown.
 //!
-//! Sharing costs no copy. Who changes what is known and isn't its only owner gets a copy of its own
-//! first, so nobody else sees the change.
+//! Sharing costs no copy. An owner that changes what is known, and isn't the only one, gets a copy of its own first, so
+//! no other owner sees the change.
 
 ghost use Rattle.std.specs.Prelude.{◌≡◌, IfOk, IfErr, OnOk, OnErr};
 ghost use Rattle.trace_know.specs.Trace.{facts_of, view_of};

@@ -1,4 +1,4 @@
-//! What makes the rules easy to believe, as contracts of calls that do nothing.
+//! Facts that make the rules easy to believe, as contracts of functions that do nothing.
 
 ghost use Rattle.std.specs.Prelude.{◌≡◌, List, Bool, true};
 ghost use Rattle.std.specs.List.{AllZip};

@@ -1,10 +1,9 @@
 //! Which message was received by which receive.
 //!
-//! A pair is reported only where it is certain: whatever the ranks did next, and however their open
-//! receives were told, MPI allows no run in which the two aren't matched. Where no receive is open, no
-//! message doubtful, and no two parts of one Startall fit the same, the pairs are the only matching
-//! that MPI allows. Both are clauses of [`pair_all`] and of [`PairIndex::pairs`]. They hold of runs in
-//! which no call that isn't read cancels a request of one that is.
+//! A pair is reported only if it is certain: whatever the ranks did next, and whatever sources their open receives got,
+//! MPI allows no run in which the two aren't matched. Where no receive is open, no message doubtful, and no two parts
+//! of one Startall fit the same, the pairs are the only matching that MPI allows. Both are clauses of [`pair_all`] and
+//! of [`PairIndex::pairs`]. They hold for runs in which no unread call cancels a request of a call that is read.
 //!
 //! [`pair_all`] goes once over all calls, and takes n of them in n log n; [`PairIndex::pairs`] has the
 //! same contract. The index follows the ranks as they grow and are cut back; one step costs in
@@ -38,9 +37,9 @@
 //!
 //! # Choices
 //!
-//! - A table of pairs has no `partner`: its pairs stand in order of the message, and who follows one message or one
-//!   receive searches that list. Both ends at hand without memory would want a second list in each table, and no report
-//!   asks for it.
+//! - A table of pairs has no `partner`: its pairs are in order of the message, and a caller that follows one message or
+//!   one receive searches that list. To find both ends without memory each table would need a second list, which no
+//!   report uses.
 //! - The rules are a `Bool` function with a bound, and a law makes the bound vanish, so worked examples compute. "The
 //!   same sender" is said by `from`, "the same rank" by `at`, as `fits` says it.
 //! - [`pair_all`] is one pass over all calls; the rules as written hold each message against all others. The calls of

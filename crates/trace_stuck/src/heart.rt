@@ -1,9 +1,9 @@
 //! The hearts of a graph: its strongly connected components that no edge leads out of.
 //!
-//! Three searches find them. The first tells for each node the least node that it reaches. Where an edge leads to a
-//! node with another least one, nobody who reaches that edge is in a heart; the second search finds these strays. A
-//! node that is its own least one and no stray is in a heart, which is all that it reaches: the third search. So each
-//! edge is gone through four times, with one that turns them round.
+//! Three searches find them. The first tells for each node the least node that it reaches. If an edge leads to a node
+//! with another least node, no node that reaches this edge is in a heart; the second search finds these strays. A node
+//! that is its own least one and no stray is in a heart, which is all that it reaches: the third search. So each edge
+//! is gone through four times, with one that turns them round.
 
 ghost use Rattle.std.specs.Prelude.{◌≡◌, ◌<◌, ◌≤◌, ◌^◌, ◌↔◌, ℕ, true, false, IfOk, IsTrue, length, nat_lt, vec_len};
 ghost use Rattle.trace_stuck.specs.Graph.{is_up, label_at};

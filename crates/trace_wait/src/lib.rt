@@ -1,9 +1,8 @@
 //! What waiting ranks wait for: the rounds of collective calls, and the condition of each rank.
 //!
-//! A round of a communicator is the k-th collective call of each of its members. The condition of
-//! a waiting rank says whom it needs, by the call in which it waits and by what is known of its
-//! partners: see `docs/definitions.md`. Which ranks are stuck then is told by [`trace_stuck`],
-//! whose public names this crate passes on.
+//! A round of a communicator is the k-th collective call of each of its members. The condition of a waiting rank says
+//! which ranks it needs, by the call in which it waits and by what is known of its partners: see `docs/definitions.md`.
+//! [`trace_stuck`] says which ranks are stuck then; this crate re-exports its public names.
 //!
 //! Cost: rounds go once through all collective calls, with a look-up in an ordered map for each. Where no rank waits,
 //! conditions ask nothing but that of each rank. Else they go once through all messages and receives, each looked for

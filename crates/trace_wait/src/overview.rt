@@ -144,7 +144,7 @@ impl<'a> Overview<'a> {
         !q.trust.is_void() && self.is_offered(q)
     }
 
-    /// Whether the envelope of some unpaired message fits the receive, be the message cancelled or not.
+    /// Whether the envelope of some unpaired message fits the receive, whether or not the message was cancelled.
     pub fn suits_some_message(&self, q: &Receive) -> bool
         ensures { result ≡ list_any (λ m. envelopes_fit m q.now) (unpaired_messages self.now.ops self.now.pairs) }
     {

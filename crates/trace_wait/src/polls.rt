@@ -71,7 +71,7 @@ fn asked_by(
     }
 }
 
-/// What a poll of a rank asks for whose operations are at hand.
+/// What a poll of a rank asks for, by the rank's operations.
 fn asked_of(
     alloc: Global,
     run: &Overview,

@@ -1,4 +1,4 @@
-//! Who is told how a run comes along.
+//! What observes how far a run has come.
 
 use crate::load::opener::Opener;
 use dumpi_calls::Walked;

@@ -1,5 +1,5 @@
 //! The answer to what texts tell that are listed in any order, made rank by rank too: of copies of their pieces by
-//! rising rank. Which fault is told hangs on the manifest's order, so where they are refused some are read once more.
+//! rising rank. Which fault is reported depends on the manifest's order, so if one is refused some are read once more.
 
 ghost use Rattle.std.specs.Prelude.{◌≡◌, ◌⊎◌, IfErr, IfOk, IsPermutation, IsTrue, OnOk};
 ghost use Rattle.std.specs.List.{All};

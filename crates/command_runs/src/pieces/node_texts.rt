@@ -18,7 +18,7 @@ use std::alloc::{AllocError, Global};
 use trace_cluster::{Side, Workload};
 use trace_crew::{TextPiece, Worker};
 
-/// The texts of two nodes, of each by the worker who reads them, and what each is told besides.
+/// The texts of two nodes, for each by the worker that reads them, and what else each node knows.
 #[derive(Drop)]
 pub struct AllTexts {
     pub first: Workload,

@@ -177,7 +177,7 @@ fn of_wire(fault: WireFault) -> RunFault
     }
 }
 
-/// Writes what two nodes with their answers say, and lets go of them.
+/// Writes what two nodes with their answers say, and drops them.
 fn write_nodes<N: Answerer, W: Write>(nodes: (N, N), out: &mut W) -> Result<(), Failed>
     requires one { (N.held nodes.0).is_stale ≡ false }
     requires other { (N.held nodes.1).is_stale ≡ false }

@@ -1,7 +1,7 @@
 //! The parts of an answer.
 //!
-//! A function that makes or copies an answer lets go, at each of its ways out, of all that it has made
-//! until then, and is proved over that: so an answer is made, copied and kept in parts.
+//! At each of its ways out, a function that makes or copies an answer drops all that it has made so far, and is proved
+//! over that. So an answer is made, copied and kept in parts.
 
 ghost use Rattle.std.specs.Prelude.{◌≡◌, IfOk, map};
 ghost use Rattle.std.specs.FinMap.{empty};
