@@ -12,6 +12,7 @@ use std::marker::Model;
 #[derive(Clone, Copy, Debug, PartialEq, Eq, PartialOrd, Ord)]
 pub struct Colored {
     pub color: u32,
+    /// By which the members of one color are ordered.
     pub key: i32,
     /// Its rank in the parent.
     pub rank: u32,

@@ -17,9 +17,11 @@ pub struct Derived {
 /// A communicator that a call of a rank gave, but that couldn't be derived: its number stays foreign.
 #[derive(Clone, Copy)]
 pub struct LeftOut {
+    /// The rank that called it.
     pub rank: u32,
     /// The call that gave it.
     pub call: u64,
+    /// The function of that call.
     pub made_by: MadeBy,
     /// The number that the call gave; `None` if it can't be read.
     pub number: Option<u32>,
@@ -70,6 +72,7 @@ pub enum Why {
 /// Why no layout is derived.
 #[derive(Clone, Copy)]
 pub enum DeriveFault {
+    /// Memory was refused.
     Memory,
     /// Two ranks say different numbers of MPI_COMM_WORLD.
     World { first: u32, second: u32 },

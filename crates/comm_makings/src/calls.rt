@@ -114,17 +114,24 @@ pub fn object_made(maker: ObjectMaker) -> Object
 /// The calls that make communicators of a parent, with their parameters.
 #[derive(Drop)]
 pub enum Making {
+    /// MPI_Comm_dup.
     Dup,
+    /// MPI_Comm_dup_with_info.
     DupWithInfo,
+    /// MPI_Comm_idup.
     Idup,
+    /// MPI_Comm_idup_with_info.
     IdupWithInfo,
+    /// MPI_Comm_split, with the color and the key of this rank.
     Split {
         color: Option<Color>,
         key: Option<i32>,
     },
+    /// MPI_Comm_create, with the group that this rank gives.
     Create {
         group: GroupName,
     },
+    /// MPI_Comm_create_group, which is collective over the group.
     CreateGroup {
         group: GroupName,
         tag: Option<i32>,
@@ -134,6 +141,7 @@ pub enum Making {
         dims: Option<Vec<u32>>,
         reorder: Option<bool>,
     },
+    /// MPI_Cart_sub: for each dimension whether it remains.
     CartSub {
         remain: Option<Vec<bool>>,
     },
@@ -142,9 +150,11 @@ pub enum Making {
         nodes: Option<i32>,
         reorder: Option<bool>,
     },
+    /// MPI_Dist_graph_create: whether the ranks may be ordered anew.
     DistGraphCreate {
         reorder: Option<bool>,
     },
+    /// MPI_Dist_graph_create_adjacent: whether the ranks may be ordered anew.
     DistGraphCreateAdjacent {
         reorder: Option<bool>,
     },
@@ -154,7 +164,9 @@ pub enum Making {
 /// communicator.
 #[derive(Clone, Copy)]
 pub enum Color {
+    /// MPI_UNDEFINED, or another negative number.
     Undefined,
+    /// A color from 0 to 2^31 - 1.
     Number(u32),
 }
 
@@ -163,7 +175,9 @@ pub enum Color {
 pub enum Given {
     /// MPI_COMM_NULL.
     Null,
+    /// A communicator with this number.
     Number(u32),
+    /// It can't be read what the call gives.
     Unknown,
 }
 
@@ -172,7 +186,9 @@ pub enum Given {
 pub enum GroupName {
     /// MPI_GROUP_EMPTY.
     Empty,
+    /// The group that has this number at the rank.
     Number(u32),
+    /// It can't be read which group is meant.
     Unknown,
 }
 

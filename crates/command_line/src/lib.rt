@@ -112,6 +112,7 @@ pub enum Asked<'a> {
 /// Why the words ask for nothing that can be run.
 #[derive(Debug, Drop, Error)]
 pub enum CommandFault {
+    /// Memory was refused.
     #[error("mpimatch: Memory\n")]
     Memory,
     /// A mistake, or a request for the help or the version: `clap` has the text and the status.

@@ -37,7 +37,9 @@ use std::thread::Threads;
 /// The status of the program, and what standard error shows.
 #[derive(Debug, Drop)]
 pub struct Ending {
+    /// 0 if the run was good, 1 for a refused run, 2 for a mistake in the words.
     pub status: u8,
+    /// The text for standard error.
     pub errors: String,
 }
 

@@ -15,7 +15,9 @@ use std::alloc::Global;
 /// What an envelope says apart from its communicator, which a Sendrecv names once, after both.
 #[derive(Clone, Copy, Debug)]
 pub struct Part {
+    /// Elements of the datatype.
     pub count: u32,
+    /// The trace's number of the datatype.
     pub datatype: i64,
     pub peer: Peer,
     pub tag: Option<u32>,

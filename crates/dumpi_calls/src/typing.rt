@@ -27,7 +27,9 @@ use std::alloc::{AllocError, Global};
 #[derive(Debug, Drop)]
 pub struct TypedCall {
     pub call: Call,
+    /// When it was entered.
     pub enter: Stamp,
+    /// How and when it returned; `None` if it didn't.
     pub exit: Option<Exit>,
 }
 

@@ -19,8 +19,11 @@ use thiserror::Error;
 /// What a value says.
 #[derive(Debug, Drop)]
 pub enum Value {
+    /// One number.
     Number(Num),
+    /// A list of numbers.
     Numbers(Nums),
+    /// A list of groups.
     Groups(Groups),
 }
 

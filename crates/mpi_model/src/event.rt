@@ -66,7 +66,9 @@ impl Event {
 /// How a call returned.
 #[derive(Debug, Drop)]
 pub struct Exit {
+    /// What it brought back.
     pub outs: Outs,
+    /// When it returned.
     pub stamp: Stamp,
 }
 

@@ -46,11 +46,15 @@ impl Trust {
 pub struct Message {
     /// The call that sent it.
     pub name: OpName,
+    /// The id of its communicator in the layout.
     pub comm: u32,
+    /// The rank that sends.
     pub from: u32,
+    /// The rank to which it is sent.
     pub to: u32,
     pub tag: u32,
     pub mode: Mode,
+    /// Whether it was cancelled.
     pub trust: Trust,
     /// Elements of the datatype.
     pub count: u32,
@@ -64,6 +68,7 @@ pub struct Message {
 pub struct Receive {
     /// The call that posted it.
     pub name: OpName,
+    /// The id of its communicator in the layout.
     pub comm: u32,
     /// The rank that receives.
     pub at: u32,
@@ -73,6 +78,7 @@ pub struct Receive {
     pub tag: Option<u32>,
     /// The most elements that it takes.
     pub count: u32,
+    /// Whether it was cancelled.
     pub trust: Trust,
     /// The trace's number of the datatype.
     pub datatype: i64,

@@ -9,18 +9,26 @@ use thiserror::Error;
 /// A field of a layout or of a manifest.
 #[derive(Clone, Copy, Debug, PartialEq, Eq)]
 pub enum Field {
+    /// `ranks` of a layout: how many there are.
     Ranks,
+    /// `world` of a layout: the id of MPI_COMM_WORLD.
     World,
+    /// `sends` of a layout: how sends of standard mode complete.
     Sends,
+    /// `comms` of a layout: its communicators, windows and files.
     Comms,
+    /// `pieces` of a manifest.
     Pieces,
+    /// `nodes` of a manifest: how many nodes the schedule is for.
     Nodes,
+    /// `schedule` of a manifest.
     Schedule,
 }
 
 /// Why a text is refused: the first cause in this order, except that `Memory` comes whenever memory is refused.
 #[derive(Clone, Copy, Debug, PartialEq, Eq, Error)]
 pub enum InputFault {
+    /// Memory was refused.
     #[error("Memory")]
     Memory,
     /// The bytes are no JSON, or no UTF-8. `serde_json` notices it at this line and column, both from 1; column 0 is

@@ -78,13 +78,16 @@ pub struct NewFile<'a> {
 /// Which of two files.
 #[derive(Clone, Copy, Debug, PartialEq, Eq)]
 pub enum Which {
+    /// The one that was named first.
     First,
+    /// The other one.
     Second,
 }
 
 /// Why two files weren't written.
 #[derive(Clone, Copy, Debug, PartialEq, Eq)]
 pub enum PutFault {
+    /// Memory was refused.
     Memory,
     /// Both have one name.
     OneName,

@@ -9,6 +9,7 @@ use thiserror::Error;
 /// Why no layout is made of texts.
 #[derive(Clone, Copy, Debug, PartialEq, Eq, Error)]
 pub enum MadeFault {
+    /// Memory was refused.
     #[error("Memory")]
     Memory,
     /// Two ranks say different numbers of MPI_COMM_WORLD.

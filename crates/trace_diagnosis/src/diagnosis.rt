@@ -124,7 +124,9 @@ pub struct Polled {
 /// What a held rank needs: that another rank goes on, or that a round ends which can't.
 #[derive(Clone, Copy, Debug, PartialEq, Eq)]
 pub enum Need {
+    /// That this rank goes on.
     Rank(u32),
+    /// That this round ends, whose calls don't match.
     Round(RoundName),
 }
 

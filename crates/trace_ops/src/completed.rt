@@ -13,7 +13,9 @@ use std::alloc::AllocError;
 /// A request that an outcome completes, and what the outcome says of its source.
 #[derive(Clone, Copy, Debug, PartialEq, Eq)]
 pub struct Completed {
+    /// The trace's number of the request.
     pub request: i64,
+    /// What is told of the message's source.
     pub told: Told,
 }
 

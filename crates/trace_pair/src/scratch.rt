@@ -12,7 +12,7 @@ use crate::table::PairTable;
 use std::alloc::{AllocError, Global};
 use trace_ops::RankOps;
 
-/// The pairs and the postponed messages of all ranks; `ops` has those of rank r at place r.
+/// The pairs and the postponed messages of all ranks (MPI 4.0, 3.2.3 and 3.5); `ops` has those of rank r at place r.
 ///
 /// It goes once over all messages and once over all receives, with a few look-ups in sorted maps for each. It uses no
 /// index, so it can be used to test one. Fails with `AllocError` when memory is refused.

@@ -12,6 +12,7 @@ use std::sync::Arc;
 pub struct RoundName {
     /// The object's id in the layout.
     pub object: u32,
+    /// The number of the round, from 0.
     pub k: u64,
 }
 

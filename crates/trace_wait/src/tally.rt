@@ -177,7 +177,8 @@ fn rounds_by(alloc: Global, layout: &Layout, entries: &Entries) -> Result<Vec<Ro
     Ok(out)
 }
 
-/// The rounds of all communicators, by communicator and k. Fails with `AllocError` when memory is refused.
+/// The rounds of all communicators, windows and files, by id and k (MPI 4.0, 6.1 and 6.12). Fails with `AllocError`
+/// when memory is refused.
 pub fn rounds(alloc: Global, layout: &Layout, ops: &[RankOps]) -> Result<Vec<Round>, AllocError>
     ensures { IfOk result (λ v. v.items ≡ rounds_of layout.now.comms ops.now) }
 {

@@ -98,6 +98,7 @@ pub enum WorldFault {
 /// The step at which a run of steps ended, from 0, and why.
 #[derive(Clone, Copy, Debug, PartialEq, Eq)]
 pub struct StepFault {
+    /// The number of the step, from 0.
     pub step: usize,
     pub fault: WorldFault,
 }

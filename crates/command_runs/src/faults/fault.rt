@@ -17,6 +17,7 @@ use trace_world::WorldFault;
 /// command line or the manifest spells it; lines count from 1.
 #[derive(Debug, Drop)]
 pub enum RunFault {
+    /// Memory was refused.
     Memory,
     /// The file can't be opened or read, or has more bytes than its kind may have.
     File {
@@ -48,10 +49,12 @@ pub enum RunFault {
         path: String,
         frame: u64,
     },
+    /// The layout of the file breaks this rule of layouts.
     Layout {
         fault: LayoutFault,
         path: String,
     },
+    /// The text is refused at the line, for this cause.
     Text {
         cause: TextCause,
         path: String,

@@ -13,6 +13,7 @@ use std::io;
 pub enum OpenFault {
     /// The file can't be opened.
     File,
+    /// Memory was refused.
     Memory,
 }
 

@@ -13,6 +13,7 @@ pub const LONGEST_PIECE: usize = 1_073_741_824;
 /// Why a file is not read whole.
 #[derive(Clone, Copy, Debug, PartialEq, Eq)]
 pub enum WholeFault {
+    /// Memory was refused.
     Memory,
     /// The reader failed.
     Failed,

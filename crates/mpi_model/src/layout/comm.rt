@@ -14,7 +14,9 @@ use std::marker::Model;
 #[derive(Clone, Copy, Debug, PartialEq, Eq)]
 pub struct Stretch {
     pub number: u32,
+    /// The first call in which it does, from 0.
     pub first: u64,
+    /// The first call after these; `None` if there is none.
     pub end: Option<u64>,
 }
 
@@ -24,6 +26,7 @@ pub struct Stretch {
 pub struct Comm {
     pub id: u32,
     pub object: Object,
+    /// Ranks of the run, in the order of their ranks in the group.
     pub members: Vec<u32>,
     /// For each member the number by which its calls name the object; `None` if they don't. If the list is empty, each
     /// member names the object by its id.

@@ -18,6 +18,7 @@ pub enum PackedCause {
 #[derive(Clone, Copy, Debug, PartialEq, Eq, Error)]
 #[error("{cause} at frame {frame}")]
 pub struct PackedFault {
+    /// The number of the frame, from 0.
     pub frame: u64,
     pub cause: PackedCause,
 }
