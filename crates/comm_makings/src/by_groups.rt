@@ -46,7 +46,7 @@ struct Offer<'a> {
 #[derive(Drop)]
 struct Offers<'a> {
     calls: Vec<Offer<'a>>,
-    /// Of each member, whether the group of its next call is not known yet.
+    /// For each member, whether the group of its next call is not known yet.
     waits: Vec<bool>,
 }
 

@@ -18,9 +18,9 @@ pub struct RankCalls {
     pub calls: Vec<CommCall>,
     /// Where the other calls of the profile name which numbers of communicators.
     pub uses: Vec<Uses>,
-    /// The same of windows.
+    /// Where the other calls of the profile name which numbers of windows.
     pub windows: Vec<Uses>,
-    /// The same of files.
+    /// Where the other calls of the profile name which numbers of files.
     pub files: Vec<Uses>,
 }
 

@@ -51,7 +51,7 @@ pub(crate) struct Member {
 #[derive(Drop)]
 pub(crate) struct Made {
     pub object: Object,
-    /// In the order of their ranks in it.
+    /// The members, in the order of their ranks in it.
     pub members: Vec<Member>,
     /// Their ranks in the run.
     pub ranks: Vec<u32>,
@@ -67,7 +67,7 @@ pub(crate) fn comm_at(comms: &[Made], place: usize) -> Option<&Made>
     comms.get(place)
 }
 
-/// A copy of the list.
+/// A copy of the list in memory of its own.
 pub(crate) fn copy_of(alloc: Global, list: &[u32]) -> Result<Vec<u32>, AllocError>
     ensures { IfOk result (λ v. v.items ≡ list.now) }
 {

@@ -21,7 +21,7 @@ use std::alloc::{AllocError, Global};
 pub(crate) struct HandleUses {
     /// How many name each handle.
     pub counts: Vec<u64>,
-    /// Of each handle, whether its number names nothing else of the rank.
+    /// For each handle, whether its number names nothing else of the rank.
     pub only: Vec<bool>,
 }
 
@@ -278,7 +278,7 @@ fn is_only(counts: &IndexMap<u32, usize>, strays: &IndexMap<u32, ()>, number: u3
     counts.get(&number).copied().unwrap_or(0) == 1 && strays.get(&number).is_none()
 }
 
-/// Of each handle, whether its number names nothing else of the rank.
+/// For each handle, whether its number names nothing else of the rank.
 fn only_of(alloc: Global, handles: &[Handle], held: &[HeldUses]) -> Result<Vec<bool>, AllocError>
     ensures { IfOk result (λ v. v.items ≡ map (stands_alone handles.now held.now) handles.now) }
 {

@@ -166,7 +166,7 @@ fn note_owners(
     Ok(())
 }
 
-/// Of each number, the communicator of the layout that some rank names by it.
+/// For each number, the communicator of the layout that some rank names by it.
 fn owners_of(
     alloc: Global,
     views: &[RankView],

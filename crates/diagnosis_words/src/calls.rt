@@ -211,7 +211,7 @@ impl<'a> Writer<'a> {
         self.put_elsewhere(message.comm);
     }
 
-    /// From whom a receive takes, and which tag.
+    /// Writes from whom a receive takes, and which tag.
     pub fn put_receive(&mut self, receive: &Receive) {
         match receive.source {
             Some(source) => {

@@ -52,18 +52,18 @@ pub struct CutText {
 pub(crate) struct Place<'a> {
     /// The name of the text's file, as the manifest spells it.
     pub path: &'a [u8],
-    /// The same, as a line for a person shows it.
+    /// The name of the text's file as a line for a person shows it.
     pub file: &'a [u8],
     /// The line where the call begins.
     pub line: Option<u64>,
-    /// From where in the program it was made.
+    /// The place in the program from which it was made.
     pub caller: Option<&'a [u8]>,
     /// The name of its function.
     pub function: Option<&'a [u8]>,
 }
 
 impl TextFacts {
-    /// Nothing, as where no text was read.
+    /// The facts when no text was read: none.
     pub fn none(alloc: Global) -> TextFacts {
         TextFacts {
             notes: Vec::new(alloc),

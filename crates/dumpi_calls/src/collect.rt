@@ -19,7 +19,7 @@ use trace_know::{PLACES, ReadyEvents, ReadyPiece, ReadySegment, SegmentFault};
 /// A usual text has an event in somewhat more bytes than these.
 const BYTES_AN_EVENT: u64 = 128;
 
-/// No memory was left for a call's events.
+/// Memory was refused for a call's events.
 #[derive(Clone, Copy, Debug, PartialEq, Eq, Error)]
 #[error("no memory is left")]
 pub struct Memory;
@@ -84,7 +84,7 @@ impl Collect {
     ghost use Rattle.dumpi_calls.specs.Rows.{OnCollective};
     ghost use Rattle.dumpi_calls.specs.Seen.{seen};
 
-    /// No events.
+    /// A sink without events.
     pub fn new(alloc: Global) -> Collect
         ensures { result ≡ [] }
     {
@@ -94,8 +94,8 @@ impl Collect {
         }
     }
 
-    /// No events, with room for about as many as a text of this many bytes has, if there is memory for it: a list of
-    /// events that grows is moved each time. Unused room costs next to nothing.
+    /// A sink without events, with room for about as many as a text of this many bytes has, if there is memory for it:
+    /// a list of events that grows is moved each time. Unused room costs next to nothing.
     pub fn for_text(alloc: Global, bytes: u64) -> Collect
         ensures { result ≡ [] }
     {

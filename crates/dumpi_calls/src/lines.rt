@@ -82,7 +82,8 @@ fn front_by<'a>(
     }
 }
 
-/// The same, by what stands before the number.
+/// The number that the line in front of a text says for a parameter, by what stands before the number, and what follows
+/// the line.
 #[inline(always)]
 pub fn number_front<'a>(
     kind: &[u8],

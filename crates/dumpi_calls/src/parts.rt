@@ -23,7 +23,7 @@ pub struct Parts {
 }
 
 impl Parts {
-    /// No events.
+    /// Empty parts, without events.
     pub fn new(alloc: Global) -> Parts
         ensures none { events_in result ≡ [] }
         ensures parts { AreParts result }

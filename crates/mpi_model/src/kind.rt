@@ -15,7 +15,7 @@ mod table;
 
 pub use laws::each_kind;
 
-/// From which members of its group a collective call brings data to which (MPI 4.0, 6.2.2).
+/// From which members to which members of its group a collective call moves data (MPI 4.0, 6.2.2).
 #[derive(Clone, Copy, Debug, PartialEq, Eq)]
 pub enum Category {
     /// From all members to all.

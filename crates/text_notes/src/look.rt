@@ -40,7 +40,7 @@ impl Look {
         self.sites.as_slice()
     }
 
-    /// The same, taken out.
+    /// The calls that were asked for, moved out.
     pub fn into_sites(self) -> Vec<CallSite>
         ensures { result.items ≡ self.sites }
     {

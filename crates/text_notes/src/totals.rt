@@ -84,7 +84,7 @@ impl Totals {
     }
 }
 
-/// Those of all texts.
+/// The functions that aren't read, over all texts.
 pub(crate) fn totals_of(alloc: Global, notes: &[TextNote]) -> Result<Totals, AllocError>
     ensures { IfOk result (λ totals. totals ≡ totals_of notes.now) }
 {

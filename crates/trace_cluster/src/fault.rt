@@ -15,7 +15,7 @@ pub enum ClusterFault {
     /// A worker's thread couldn't be started, or an end of a queue was refused.
     #[error("Y1 Worker")]
     Worker,
-    /// No memory was left for a crew.
+    /// Memory was refused for a crew.
     #[error("Memory")]
     Memory,
     /// A piece gave no segments: the first such piece by node, worker and place in that worker's list.

@@ -33,7 +33,7 @@ pub struct Hall<'s, 'a> {
     board: &'s Board<'a>,
     /// The join of the segments that were not refused.
     pub node: Node<'a>,
-    /// Those that were refused, in the order of taking.
+    /// The segments that were refused, in the order in which they were taken.
     pub refused: Vec<Refusal>,
     /// How many segments of the first worker were taken.
     first: u64,
@@ -46,7 +46,7 @@ pub struct Hall<'s, 'a> {
 }
 
 impl<'s, 'a> Hall<'s, 'a> {
-    /// Nothing was taken. Fails with `AllocError` when memory is refused.
+    /// An owner that has taken nothing. Fails with `AllocError` when memory is refused.
     #[tactic(auto, using(crate::proofs::Sorting::nothing_taken))]
     pub fn new(
         alloc: Global,

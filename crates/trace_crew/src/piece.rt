@@ -31,7 +31,7 @@ pub enum PieceFault {
     /// An event of the text would have a place at 2^40 or past it.
     #[error(transparent)]
     Segment(SegmentFault),
-    /// No memory was left for the text's calls, its segments or a fault.
+    /// Memory was refused for the text's calls, its segments or a fault.
     #[error("Memory")]
     Memory,
 }

@@ -47,8 +47,7 @@ pub enum CrewFault {
     /// A worker's thread couldn't be started.
     #[error("Y1 Worker")]
     Worker,
-    /// No memory was left for the queue, the node, or the list of the faults or of the refused
-    /// segments.
+    /// Memory was refused for the queue, the node, or the list of the faults or of the refused segments.
     #[error("Memory")]
     Memory,
 }

@@ -35,13 +35,13 @@ pub(crate) struct Case<'a> {
     pub layout: &'a Layout,
     pub answer: &'a Answer,
     pub know: &'a Knowledge,
-    /// Of each rank, whether its readable prefix ends where its text was cut.
+    /// For each rank, whether its readable prefix ends where its text was cut.
     pub cut: &'a [bool],
     pub ranks: u32,
     pub ops: &'a [RankOps],
     pub pollers: &'a [Poller<'a>],
     pub inits: &'a Inits,
-    /// In rising order.
+    /// The stuck ranks, in rising order.
     pub stuck: &'a [u32],
 }
 
@@ -281,7 +281,7 @@ fn is_held(condition: &Option<Condition>) -> bool
     }
 }
 
-/// Of each rank, whether it is held.
+/// For each rank, whether it is held.
 pub(crate) fn held_of(
     alloc: Global,
     conditions: &[Option<Condition>],
@@ -305,7 +305,7 @@ fn does_wait(condition: &Option<Condition>) -> bool
     }
 }
 
-/// Of each rank, whether it waits or polls.
+/// For each rank, whether it waits or polls.
 pub(crate) fn waits_of(
     alloc: Global,
     conditions: &[Option<Condition>],

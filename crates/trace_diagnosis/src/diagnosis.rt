@@ -36,7 +36,7 @@ pub struct Times {
     pub end: Option<u64>,
 }
 
-/// Who waits for whom.
+/// Which ranks wait for which ranks.
 #[derive(Debug, Drop)]
 pub struct Waiting {
     /// How each rank stands, that of rank r at place r.
@@ -89,7 +89,7 @@ pub struct Standing {
 #[derive(Debug, Drop)]
 pub struct LastCall {
     pub number: u64,
-    /// As it was entered.
+    /// The call, as it was entered.
     pub call: Call,
     /// The round that it entered, where it is collective and the layout knows its object.
     pub round: Option<RoundName>,
@@ -115,7 +115,7 @@ pub struct Polling {
 #[derive(Debug, Drop)]
 pub struct Polled {
     pub number: u64,
-    /// As it was entered.
+    /// The call, as it was entered.
     pub call: Call,
     /// The operations for which its active requests stand.
     pub open: Vec<OpName>,
@@ -172,9 +172,9 @@ pub struct Root {
 /// The rounds that are printed.
 #[derive(Debug, Drop)]
 pub struct Rounds {
-    /// Those whose calls don't match, by object and number.
+    /// The mismatched rounds, by object and number.
     pub mismatched: Vec<MismatchedRound>,
-    /// Those that some members haven't entered, by object and number.
+    /// The open rounds, which some members haven't entered, by object and number.
     pub open: Vec<OpenRound>,
 }
 
@@ -182,7 +182,7 @@ pub struct Rounds {
 #[derive(Debug, Drop)]
 pub struct MismatchedRound {
     pub round: RoundName,
-    /// By their first ranks.
+    /// The groups of members whose calls match, in the order of their first ranks.
     pub groups: Vec<CallGroup>,
 }
 
@@ -211,9 +211,9 @@ pub struct OpenRound {
 /// Messages that nobody received, receives that nothing matched, and requests that were never completed.
 #[derive(Debug, Drop)]
 pub struct Unmatched {
-    /// By name.
+    /// In the order of their names.
     pub left_over: Vec<LeftOver>,
-    /// By name.
+    /// In the order of their names.
     pub starving: Vec<Starving>,
     /// The messages in no pair that a receive in no pair may have taken, by name.
     pub undecided: Vec<Message>,
@@ -308,7 +308,7 @@ pub struct Foreign {
 #[derive(Debug, Drop)]
 pub struct Operation {
     pub name: OpName,
-    /// As it was entered.
+    /// The call, as it was entered.
     pub call: Call,
     /// If the call is a Start or Startall, the init whose request it has started.
     pub init: Option<Init>,
@@ -318,6 +318,6 @@ pub struct Operation {
 #[derive(Debug, Drop)]
 pub struct Init {
     pub number: u64,
-    /// As it was entered.
+    /// The call, as it was entered.
     pub call: Call,
 }

@@ -20,11 +20,11 @@ use trace_stuck::{Condition, turned};
 /// The graph, with its edges also the other way round.
 #[derive(Drop)]
 pub(crate) struct Graph {
-    /// Of each rank what it needs.
+    /// For each rank what it needs.
     pub needs: Vec<Vec<Need>>,
-    /// Of each node those to which its edges go.
+    /// For each node those to which its edges go.
     pub edges: Vec<Vec<u32>>,
-    /// Of each node those from which edges come.
+    /// For each node those from which edges come.
     pub askers: Vec<Vec<u32>>,
 }
 
@@ -39,7 +39,7 @@ fn has_not_ended(state: &State) -> bool
     }
 }
 
-/// Of each rank, whether it hasn't ended.
+/// For each rank, whether it hasn't ended.
 pub(crate) fn able_of(alloc: Global, states: &[State]) -> Result<Vec<bool>, AllocError>
     ensures { IfOk result (λ able. able.items ≡ map has_not_ended states.now) }
 {

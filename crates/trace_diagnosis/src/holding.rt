@@ -15,15 +15,15 @@ use crate::diagnosis::Need;
 use std::alloc::AllocError;
 use trace_stuck::Condition;
 
-/// Those that can go on, but for one rank.
+/// The ranks that can go on, without one of them.
 #[derive(Clone, Copy)]
 pub(crate) struct Going<'a> {
-    /// Of each rank, whether it can go on.
+    /// For each rank, whether it can go on.
     pub able: &'a [bool],
     pub but: Option<u32>,
 }
 
-/// No rank can go on.
+/// The case that no rank can go on.
 pub(crate) fn nobody() -> Going<'static>
     ensures { (r : ℕ) → going result r ≡ false }
 {

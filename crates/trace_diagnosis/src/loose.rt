@@ -127,7 +127,7 @@ fn is_left(ends: &Ends, reaches: &Reaches<'_>, m: &Message) -> bool
     m.trust.is_sure() && !ends.may_take(reaches, m)
 }
 
-/// Those of the messages in no pair that are left over.
+/// The messages that are left over, among those in no pair.
 pub(crate) fn left_over_of(
     alloc: Global,
     ends: &Ends,
@@ -154,7 +154,7 @@ fn is_undecided(ends: &Ends, reaches: &Reaches<'_>, m: &Message) -> bool
     m.trust.is_sure() && ends.may_take(reaches, m)
 }
 
-/// Those of the messages in no pair that are undecided.
+/// The messages that are undecided, among those in no pair.
 pub(crate) fn undecided_of(
     alloc: Global,
     ends: &Ends,

@@ -25,10 +25,10 @@ use trace_stuck::{RoundName, firsts, hearts};
 pub(crate) struct Ranks<'a> {
     pub count: u32,
     pub states: &'a [State],
-    /// Of each rank, whether it waits or polls.
+    /// For each rank, whether it waits or polls.
     pub waits: &'a [bool],
     pub held: &'a [bool],
-    /// In rising order.
+    /// The stuck ranks, in rising order.
     pub stuck: &'a [u32],
 }
 

@@ -150,7 +150,8 @@ fn nothing(alloc: Global, count: usize) -> Result<Vec<Vec<TakenBy>>, AllocError>
     Ok(found)
 }
 
-/// Of each of the receives the first three messages that fit it and that an earlier receive has taken which names less.
+/// For each of the receives the first three messages that fit it and that an earlier receive has taken which names
+/// less.
 pub(crate) fn taken_of(
     alloc: Global,
     know: &Knowledge,

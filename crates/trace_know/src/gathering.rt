@@ -46,7 +46,7 @@ impl Model for Gathering {
 }
 
 impl Gathering {
-    /// Nothing was read. Takes no memory.
+    /// A gathering that has read nothing. Takes no memory.
     pub fn new(alloc: Global) -> Gathering
         ensures { result ≡ empty }
     {

@@ -72,7 +72,7 @@ impl Model for Knowledge {
 }
 
 impl Knowledge {
-    /// Nothing is known. Takes no memory.
+    /// Knowledge of nothing. Takes no memory.
     pub fn new(alloc: Global) -> Knowledge
         ensures { result ≡ empty }
     {

@@ -146,7 +146,7 @@ impl Model for ReadyEvents {
 }
 
 impl ReadyEvents {
-    /// No events. Takes no memory.
+    /// An empty list of events. Takes no memory.
     pub fn new(alloc: Global) -> ReadyEvents
         ensures { result ≡ [] }
     {
@@ -156,7 +156,7 @@ impl ReadyEvents {
         }
     }
 
-    /// No events, with room for this many. Fails with `AllocError` when memory is refused.
+    /// An empty list of events, with room for this many. Fails with `AllocError` when memory is refused.
     pub fn with_capacity(alloc: Global, capacity: usize) -> Result<ReadyEvents, AllocError>
         ensures { IfOk result (λ events. events ≡ []) }
     {

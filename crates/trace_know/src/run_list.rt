@@ -36,7 +36,7 @@ impl Model for RunList {
 }
 
 impl RunList {
-    /// No runs. Takes no memory.
+    /// An empty list of runs. Takes no memory.
     pub(crate) fn new(alloc: Global) -> RunList
         ensures { result.items ≡ [] }
     {
@@ -47,7 +47,7 @@ impl RunList {
         }
     }
 
-    /// No runs, and room for so many.
+    /// An empty list of runs, with room for this many.
     pub(crate) fn with_room(alloc: Global, room: usize) -> Result<RunList, AllocError>
         ensures items { IfOk result (λ runs. runs.items ≡ []) }
         ensures room { IfOk result (λ runs. room ≤ runs.room) }

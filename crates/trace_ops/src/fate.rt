@@ -133,7 +133,7 @@ pub(crate) fn fate_of<'a>(
     })
 }
 
-/// By the fate of an Irecv's request, what is told of its source, and the call whose outcome completes it.
+/// What is told of the source of an Irecv, and the call whose outcome completes it, by the fate of its request.
 #[inline(always)]
 pub(crate) fn end_of_post(members: &[u32], fate: Option<Fate<'_>>) -> (Option<u32>, Option<u64>)
     ensures told { OfFate fate.entry (λ later posted. result.0 ≡ told_of_post members.now later posted) }

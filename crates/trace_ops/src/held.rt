@@ -24,7 +24,7 @@ pub(crate) struct Init<'a> {
     pub call: &'a Call,
 }
 
-/// By number, the init that holds it.
+/// The init that holds each request number.
 pub(crate) type Held<'a> = IndexMap<i64, Init<'a>>;
 
 /// Whether the call describes a send or a receive, and starts nothing (MPI 4.0, 3.9).
@@ -199,11 +199,11 @@ pub(crate) fn begun_at<'a>(
 /// What holds the numbers that a rank's Starts and Startalls list, and what holds numbers at the end.
 #[derive(Drop)]
 pub(crate) struct Holding<'a> {
-    /// Of each number that a Start or Startall lists, in their order, what held it before the call.
+    /// For each number that a Start or Startall lists, in their order, what held it before the call.
     pub inits: Vec<Option<Init<'a>>>,
     /// What holds a number after all calls.
     pub held: Held<'a>,
-    /// For the messages and the receives of the calls.
+    /// Room for the messages and the receives of the calls.
     pub room: Room,
 }
 

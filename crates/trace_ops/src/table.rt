@@ -14,7 +14,7 @@ const MOST_LOW: usize = 1024;
 /// What later calls do with each request number. Nearly all numbers are small, and have a place of their own in a list.
 #[derive(Drop)]
 pub(crate) struct Touched {
-    /// Of each number below its length.
+    /// For each number below its length.
     low: Vec<Option<Touch>>,
     /// Of all other numbers.
     high: IndexMap<i64, Touch>,

@@ -50,7 +50,7 @@ fn read_few(
 }
 
 impl<'b, 'a> Ahead<'b, 'a> {
-    /// Nothing is read yet.
+    /// The state before anything is read.
     pub(crate) fn new(alloc: Global, messages: &'b Takings<'a>) -> Ahead<'b, 'a>
         ensures { result ≡ messages.now }
     {

@@ -191,7 +191,7 @@ fn put_row<K: Ord + Copy + Drop>(
 }
 
 impl<K: Ord + Mix + Copy + Drop> PlacesByKey<K> {
-    /// No places at any key.
+    /// An empty map. It takes no memory.
     pub(crate) fn empty(alloc: Global) -> PlacesByKey<K>
         ensures { result ≡ [] }
     {

@@ -68,7 +68,7 @@ pub(crate) fn receive_by(m: &Message, taker: Taker) -> Receive
 }
 
 impl Couples {
-    /// No couple. It takes no memory.
+    /// An empty set of couples. It takes no memory.
     pub(crate) fn empty(alloc: Global) -> Couples
         ensures { result ≡ [] }
     {

@@ -120,7 +120,7 @@ fn stands_last(steps: &[Step], q: &Receive) -> bool
 }
 
 impl Lane {
-    /// Of one receive.
+    /// A lane of one receive.
     pub(crate) fn one(alloc: Global, q: Receive) -> Result<Lane, AllocError>
         ensures { IfOk result (λ s. (d : Receive) → contains receive_cmp s d ≡ is_eq (receive_cmp q d)) }
     {

@@ -112,7 +112,7 @@ impl Model for Opened {
 }
 
 impl Opened {
-    /// No open receive. It takes no memory.
+    /// An empty set of open receives. It takes no memory.
     pub(crate) fn empty(alloc: Global) -> Opened
         ensures { result ≡ [] }
     {

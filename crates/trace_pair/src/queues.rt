@@ -36,7 +36,7 @@ impl Model for Messages {
 }
 
 impl Messages {
-    /// No message. It takes no memory.
+    /// An empty set of messages. It takes no memory.
     pub(crate) fn empty(alloc: Global) -> Messages
         ensures { result ≡ [] }
     {
@@ -170,7 +170,7 @@ impl Model for Receives {
 }
 
 impl Receives {
-    /// No receive. It takes no memory.
+    /// An empty set of receives. It takes no memory.
     pub(crate) fn empty(alloc: Global) -> Receives
         ensures { result ≡ [] }
     {

@@ -19,7 +19,7 @@ pub(crate) struct RankedEnds {
 }
 
 impl RankedEnds {
-    /// Of no receives.
+    /// The ends of no receives. It takes no memory.
     pub(crate) fn empty(alloc: Global) -> RankedEnds
         ensures { AreRanked [] result }
     {

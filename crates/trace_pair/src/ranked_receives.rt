@@ -34,7 +34,7 @@ impl Model for RankedReceives {
 }
 
 impl RankedReceives {
-    /// No receive. It takes no memory.
+    /// An empty set of receives. It takes no memory.
     pub(crate) fn empty(alloc: Global) -> RankedReceives
         ensures { result ≡ [] }
     {

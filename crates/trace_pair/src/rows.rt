@@ -35,7 +35,7 @@ impl Model for Rows {
 }
 
 impl Rows {
-    /// No row. It takes no memory.
+    /// A table without rows. It takes no memory.
     pub(crate) fn empty(alloc: Global) -> Rows
         ensures { result ≡ table_of [] }
     {

@@ -12,12 +12,12 @@ use mpi_model::Receive;
 use std::alloc::{AllocError, Global};
 use std::marker::Model;
 
-/// Of each message what takes it.
+/// For each message what takes it.
 #[derive(Drop)]
 pub(crate) struct TakenBy<'a> {
-    /// Of each message the receive that takes it, where one does.
+    /// For each message the receive that takes it, where one does.
     receives: Vec<Option<&'a Receive>>,
-    /// Of each message whether it waits: in a byte, since that is asked of any of them in turn.
+    /// For each message whether it waits: in a byte, since that is asked of any of them in turn.
     waiting: Vec<bool>,
     /// The places of those that are taken, as their receives came, as far as four bytes hold them.
     came: Vec<u32>,
@@ -59,7 +59,7 @@ fn mark_at(marks: &[bool], place: usize) -> bool
     marks.get(place).copied().unwrap_or(false)
 }
 
-/// Of each message how many before it are taken.
+/// For each message how many before it are taken.
 fn taken_before(alloc: Global, waiting: &[bool]) -> Result<Vec<u32>, AllocError> {
     let mut counts = Vec::with_capacity(alloc, waiting.len())?;
     let mut count: u32 = 0;
@@ -73,7 +73,7 @@ fn taken_before(alloc: Global, waiting: &[bool]) -> Result<Vec<u32>, AllocError>
 }
 
 impl<'a> TakenBy<'a> {
-    /// Nothing takes any of so many messages.
+    /// This many messages, none of which is taken.
     pub(crate) fn none(alloc: Global, count: usize) -> Result<TakenBy<'a>, AllocError>
         ensures { IfOk result (λ takers. takers ≡ replicate count None) }
     {

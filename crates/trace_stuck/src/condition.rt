@@ -42,7 +42,7 @@ pub enum Condition {
 }
 
 impl Condition {
-    /// Nothing to wait for.
+    /// The condition of a rank that has nothing to wait for.
     pub fn yes() -> Condition
         ensures { shape result ≡ OnNothing }
     {

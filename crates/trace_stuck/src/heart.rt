@@ -42,7 +42,7 @@ fn does_leak(edges: &[Vec<u32>], labels: &[Option<u32>], r: u32) -> bool
     false
 }
 
-/// Of each node, whether an edge leads from it to one with another label.
+/// For each node, whether an edge leads from it to one with another label.
 fn leaks_of(
     alloc: Global,
     edges: &[Vec<u32>],
@@ -66,7 +66,7 @@ fn is_root(least: &[Option<u32>], strays: &[Option<u32>], r: u32) -> bool
     is_same(label_at(least, r), Some(r)) && label_at(strays, r).is_none()
 }
 
-/// Of each node, whether it is its own least node and no stray.
+/// For each node, whether it is its own least node and no stray.
 fn roots_of(
     alloc: Global,
     least: &[Option<u32>],

@@ -123,7 +123,7 @@ fn begin(
     }
 }
 
-/// Of each node of a graph the least start from which it is reached along edges, where there is one. The graph lists
+/// For each node of a graph the least start from which it is reached along edges, where there is one. The graph lists
 /// for each of its nodes, from 0 on, those to which its edges go. Fails with `AllocError` when memory is refused.
 pub fn firsts(
     alloc: Global,

@@ -16,7 +16,7 @@ pub(crate) struct Heard {
 }
 
 impl Heard {
-    /// No mail yet. Takes no memory.
+    /// An empty set of mails. Takes no memory.
     pub(crate) fn new(alloc: Global) -> Heard
         ensures { (mail : ℕ) → has result mail ≡ false }
     {

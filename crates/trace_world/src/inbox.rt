@@ -51,7 +51,7 @@ impl SegmentQueue {
         self.queue.front()
     }
 
-    /// Removes the front.
+    /// Removes the segment that came first.
     pub(crate) fn pop(&mut self)
         ensures { self.new ≡ drop 1 self.old }
     {
@@ -72,7 +72,7 @@ impl SegmentQueue {
         self.queue.len()
     }
 
-    /// The same segments, which both share.
+    /// A queue of the same segments, which both share.
     pub(crate) fn try_clone(&self) -> Result<SegmentQueue, AllocError>
         ensures { IfOk result (λ copy. copy ≡ self.now) }
     {

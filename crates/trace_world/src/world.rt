@@ -43,7 +43,7 @@ pub struct World<'a> {
     nodes: Vec<Node<'a>>,
     inboxes: Vec<SegmentQueue>,
     mails: Vec<Mail>,
-    /// Of each node the mails that it has joined.
+    /// For each node the mails that it has joined.
     heard: Vec<Heard>,
 }
 

@@ -26,7 +26,7 @@ pub struct Found {
     pub value: Option<Vec<u8>>,
 }
 
-/// No file was looked at.
+/// The result when no file was looked at.
 pub const NOTHING: Found = Found {
     reason: None,
     start: None,

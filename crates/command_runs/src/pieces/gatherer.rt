@@ -34,7 +34,7 @@ pub(crate) struct Gathered<'a> {
 }
 
 impl<'a> Gathered<'a> {
-    /// Nothing is known.
+    /// A gatherer that has read nothing. It knows nothing of the run of this layout.
     pub(crate) fn new(alloc: Global, layout: &'a Layout) -> Gathered<'a>
         ensures layout { result.layout.now ≡ layout.now }
         ensures know { result.know ≡ empty }

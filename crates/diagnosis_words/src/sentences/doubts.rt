@@ -9,7 +9,7 @@ use trace_diagnosis::{Doubts, Foreign};
 const MOST_NAMED: usize = 10;
 
 impl<'a> Writer<'a> {
-    /// Who would be stuck under the other kind of sends.
+    /// Writes which ranks would be stuck under the other kind of sends.
     pub fn put_other_sends(&mut self, ranks: &[u32]) {
         let diagnosis = self.source.diagnosis;
         let do_wait = matches!(diagnosis.sends, Sends::Wait);

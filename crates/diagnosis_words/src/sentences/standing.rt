@@ -8,7 +8,7 @@ use trace_diagnosis::{Beyond, LastCall, Polling, RootKind, Stand, Standing};
 const MOST_POLLED: usize = 2;
 
 impl<'a> Writer<'a> {
-    /// What ends what is known of a rank.
+    /// Writes what ends the readable calls of a rank.
     pub fn put_beyond(&mut self, beyond: Option<Beyond>) {
         match beyond {
             None => {}

@@ -61,8 +61,7 @@ impl Lesson<WorkerPost, SeatView> for Posts {
     ghost fact = { λ v items. Unit {0} };
 }
 
-/// The owner takes. Of each worker that was joined it learns that taken and held are all that the
-/// worker posted.
+/// The owner takes. For each worker that was joined it learns that taken and held are all that the worker posted.
 pub struct Takes;
 
 impl Outcome<WorkerPost, SeatView> for Takes {

@@ -46,7 +46,7 @@ fn beyond_of(alloc: Global, layout: &Layout, know: &Knowledge) -> Result<Vec<boo
     Ok(beyond)
 }
 
-/// Of each rank, whether its readable prefix ends at the Enter of an unread call.
+/// For each rank, whether its readable prefix ends at the Enter of an unread call.
 fn unread_of(alloc: Global, layout: &Layout, know: &Knowledge) -> Result<Vec<bool>, AllocError>
     ensures { IfOk result (λ v. v.items ≡ unread_of layout.now know.now) }
 {

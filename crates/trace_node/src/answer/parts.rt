@@ -26,7 +26,7 @@ pub(crate) struct Reading {
 }
 
 impl Reading {
-    /// Of no rank.
+    /// The reading before the first rank. Takes no memory.
     pub(crate) fn none(alloc: Global) -> Reading
         ensures { IsReading 0 empty result }
     {
@@ -39,7 +39,7 @@ impl Reading {
         }
     }
 
-    /// The same with the next rank, of which this is known.
+    /// Adds the next rank, by what is known of it.
     pub(crate) fn with(
         self,
         alloc: Global,

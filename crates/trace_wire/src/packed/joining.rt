@@ -54,7 +54,7 @@ impl Model for Joining {
 }
 
 impl Joining {
-    /// No part has come. Takes no memory.
+    /// A joining that got no part yet. Takes no memory.
     pub fn new(alloc: Global) -> Joining
         ensures { result ≡ empty }
     {
@@ -64,7 +64,7 @@ impl Joining {
         }
     }
 
-    /// The same with one more part. On an error all is lost. Fails with `AllocError` when memory is refused.
+    /// Joins one more part. Fails with `AllocError` when memory is refused, and then all parts are lost.
     pub fn taking(self, know: Knowledge) -> Result<Joining, AllocError>
         ensures { IfOk result (λ all. all ≡ join self know) }
     {

@@ -136,7 +136,7 @@ fn put_run<R: Read>(
     }
 }
 
-/// So many runs, put into knowledge as they are read.
+/// Reads this many runs into knowledge.
 pub(crate) fn runs_of<R: Read>(
     alloc: Global,
     reader: &mut R,
