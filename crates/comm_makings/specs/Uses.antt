@@ -172,7 +172,7 @@ abbrev pub count_at : List HandleUses → ℕ → Option ℕ → ℕ
 count_at uses rank None = 0
 count_at uses rank (Some handle) = unwrap_or (option_and_then (λ u. slice_get u.counts.items handle) (slice_get uses rank)) 0
 
--- ---- by halves
+-- ---- by binary search
 
 -- a handle, as it is ordered
 abbrev pub place_of : ℕ → Stretch → Place

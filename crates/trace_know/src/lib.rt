@@ -1,9 +1,8 @@
 //! Facts, the segments that bring them, and knowledge: the join of what came.
 //!
-//! A fact is an event at a place of a rank. Facts come in segments, in any order, cut and repeated
-//! in any way; [`Knowledge`] holds for each place what they say of it together: nothing, one
-//! event, or a contradiction. So two of them that took the same facts are the same. In a contract
-//! it is seen as that view, never as what it keeps it in.
+//! A fact is an event at a place of a rank. Facts come in segments, in any order, cut and repeated in any way;
+//! [`Knowledge`] holds for each place what they say of it together: nothing, one event, or a contradiction. So two that
+//! took the same facts are equal. A contract sees that view, never how it is stored.
 //!
 //! The cells are kept as runs, stretches of places of a rank without a gap. Taking a segment finds by binary search the
 //! runs that it touches, and moves its cells into the longest of them, or that one's into it: at a run's end it costs
