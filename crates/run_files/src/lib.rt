@@ -15,6 +15,13 @@
 //!   `Values.antt`
 //! - [`store`]: where both files are kept, or neither; [`folder`]: as files of the system; `Stores.antt`
 //!
+//! To change something, open:
+//!
+//! - a field of the layout: `specs/Layouts.antt`, `specs/Values.antt`; `src/read/layout.rt`, `src/write/layout.rt`
+//! - a field of the manifest, a step of its schedule: `specs/Manifests.antt`, `specs/Schedules.antt`;
+//!   `src/read/manifest.rt`, `src/read/schedule.rt`
+//! - how two files are written, both or none: `specs/Stores.antt`; [`store`], [`folder`]
+//!
 //! # Choices
 //!
 //! - A packed piece is a field, not a kind of file, so that a damaged pack can't be taken for a text without calls. A

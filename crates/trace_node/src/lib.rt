@@ -26,6 +26,11 @@
 //! - [`laws`]: that there is one answer, that its pairs are certain, and that shapes tell who is stuck, as contracts of
 //!   calls that do nothing
 //!
+//! To change something, open:
+//!
+//! - what an answer says: `specs/Answer.antt`; `src/answer.rt`, and how it is made: `src/answer/gather.rt`
+//! - what a node keeps, and what a refusal leaves: `specs/Node.antt`; [`node`], [`fault`]
+//!
 //! # Choices
 //!
 //! - An answer is a relation with a law that there is one. A computing definition of the stuck ranks would be the

@@ -23,6 +23,14 @@
 //!   [`requests`]: requests
 //! - [`waiting`]: the condition of each rank; [`polls`]: what a rank asks for that polls
 //!
+//! To change something, open:
+//!
+//! - what a waiting rank waits for, call by call: `specs/Conditions.antt`; [`waiting`]
+//! - sends, receives and probes: `specs/Parts.antt`; [`parts`]. Requests: `specs/Requests.antt`; [`requests`].
+//!   Collective calls: `specs/Collectives.antt`; [`collective`]
+//! - when a round is complete, partial or mismatched: `specs/Rounds.antt`; [`tally`]
+//! - what a poll asks for: `specs/Polls.antt`; [`polls`]
+//!
 //! Its tests are the runs of `tests/rows/runs.txt`.
 #![tactic(auto)]
 

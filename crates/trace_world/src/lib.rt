@@ -18,6 +18,11 @@
 //! - [`laws`]: nodes that the same segments reached are equal, and equal states refuse the same steps, as
 //!   contracts
 //!
+//! To change something, open:
+//!
+//! - what a step does: `specs/Schedule.antt`; [`step`], [`moves`]
+//! - when a step is refused, and in which order: `specs/Refusals.antt`; [`world`]
+//!
 //! # Choices
 //!
 //! - The contract of `run` is a statement on all states that the world shows, so it takes no ghost list of what
