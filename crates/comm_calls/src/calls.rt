@@ -180,8 +180,9 @@ impl CommCalls {
         self.name_number(call.object(), named_number(call))
     }
 
-    /// Reads the next call of the text; `call` is `None` if it isn't one of the profile. Memory grows only with a call
-    /// that makes, tells or frees a communicator or a group, and with the first call behind it that names the number.
+    /// Reads the next call of the text: `raw` is the call as it stands there, `call` is what the profile makes of it.
+    /// Memory grows only with a call that makes, tells or frees a communicator or a group, and with the first call
+    /// after it that names the number. If memory runs out, nothing changes.
     pub fn read(&mut self, raw: &RawCall, call: &Call) -> Result<(), Memory>
         ensures ok { OnOk result (Reads self.old raw.now call.now self.new) }
         ensures err { OnErr result (self.new ≡ self.old) }

@@ -70,7 +70,7 @@ fn keep_freed_memory(alloc: Global) {
     drop(block);
 }
 
-/// Runs a verb. Nothing is written unless the whole run succeeds. A cluster, which takes threads, is run by
+/// Runs a verb. Nothing is written before all else has succeeded. A cluster, which takes threads, is run by
 /// [`cluster`](crate::verbs::cluster::cluster). [`RunFault`] says why a run was refused.
 pub fn run_with<O: Opener, V: Watcher, W: Write>(
     verb: Verb,

@@ -34,7 +34,7 @@ use trace_wire::WireFault;
 
 /// Gives each piece of a manifest to the node and the worker that it names, lets both nodes exchange what they know
 /// over a socket of this machine, and writes the line and the report of each, and then whether both say the same.
-/// Nothing is written unless the whole run succeeds. The call waits for threads and for the socket. [`RunFault`] says
+/// Nothing is written before all else has succeeded. The call waits for threads and for the socket. [`RunFault`] says
 /// why a run was refused.
 pub fn cluster<
     R: Net<Listener = TcpListener, Stream = TcpStream> + Threads + Wait + Sync,
