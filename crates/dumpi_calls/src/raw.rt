@@ -28,7 +28,7 @@ pub trait RawSink {
     /// Which states a call may leave, by the state before it.
     ghost step: { Self → TextCall → Call → Self → Type 0 };
 
-    /// A call as it stands in the text, and as the call that it is.
+    /// Takes a call as it stands in the text, and as the typed call. If it is refused, the sink is as it was.
     fn on_call(&mut self, raw: &RawCall, call: Call) -> Result<(), Self::Fault>
         ensures ok { OnOk result (step self.old raw.now call self.new) }
         ensures err { OnErr result (self.new ≡ self.old) };

@@ -15,7 +15,8 @@ pub trait Item: Drop {
     /// The item in front, and what follows it.
     ghost front: { List ℕ → Option (Self × List ℕ) };
 
-    /// Reads the item in front, and hands on what follows it.
+    /// Reads the item in front, and returns it with what follows it. Fails with `BadValue` if the text has another
+    /// form, and with `Memory` when memory is refused.
     fn read<'t>(alloc: Global, text: &'t [u8]) -> Result<(Self, &'t [u8]), ValueFault>
         ensures ok { IfOk result (λ item. front text.now ≡ Some (item.0, item.1.now)) }
         ensures bad { IfErr result (λ fault. fault ≡ BadValue → front text.now ≡ None) };

@@ -48,20 +48,21 @@ pub trait Store: Drop {
     /// How often it has failed, up to 2^64 - 1.
     ghost failures: { Self → ℕ };
 
-    /// Adds a file of a name that no file has, whole or not at all.
+    /// Adds a file of a name that no file has, whole or not at all. On an error no file changes; `There` says that
+    /// there is such a file.
     fn add(&mut self, path: &str, bytes: &[u8]) -> Result<(), StoreFault>
         ensures ok { OnOk result (Goes (Adds path.now bytes.now) (files self.old) (files self.new)) }
         ensures err { OnErr result (Goes Same (files self.old) (files self.new)) }
         ensures there { IfErr result (λ fault. fault ≡ There → Told (IsThere path.now) (files self.old)) }
         ensures failures { CountsAdding (failures self.old) (failures self.new) result };
 
-    /// Removes a file.
+    /// Removes a file. On `Failed` no file changes.
     fn remove(&mut self, path: &str) -> Result<(), Failed>
         ensures ok { OnOk result (Goes (Removes path.now) (files self.old) (files self.new)) }
         ensures err { OnErr result (Goes Same (files self.old) (files self.new)) }
         ensures failures { CountsFailure (failures self.old) (failures self.new) result };
 
-    /// Renames a file, and replaces the file that has the new name.
+    /// Renames a file, and replaces the file that has the new name. On `Failed` no file changes.
     fn rename(&mut self, from: &str, to: &str) -> Result<(), Failed>
         ensures ok { OnOk result (Goes (Moves from.now to.now) (files self.old) (files self.new)) }
         ensures err { OnErr result (Goes Same (files self.old) (files self.new)) }

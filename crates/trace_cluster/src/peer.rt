@@ -23,8 +23,8 @@ pub trait Participant: Drop {
     fn knowledge(&self) -> &Knowledge
         ensures { result.now ≡ (held self.now).know };
 
-    /// Joins what its side of an exchange heard. `Rank` comes exactly for facts of a rank that the layout
-    /// lacks. After a refusal the node is as it was, but where it is stale: then it has joined them.
+    /// Joins what its side of an exchange heard. Fails with `Rank` exactly for facts of a rank that the layout lacks.
+    /// After an error the node is as it was, unless it is stale: then it has joined them.
     fn learn(&mut self, know: &Knowledge) -> Result<(), NodeFault>
         ensures more { OnOk result (IsMore (held self.old) (held self.new)) }
         ensures learned { OnOk result ((held self.new).know ≡ join (held self.old).know know.now) }
@@ -32,7 +32,7 @@ pub trait Participant: Drop {
         ensures unchanged { IfErr result (λ fault. fault ≢ NodeFault.Stale → held self.new ≡ held self.old) }
         ensures stale { IsErrOf result NodeFault.Stale → (held self.new).know ≡ join (held self.old).know know.now };
 
-    /// Follows in an exchange over a connection, and closes it.
+    /// Follows in an exchange over a connection, and closes it. [`ExchangeFault`] says which step failed.
     fn follow_over(&mut self, alloc: Global, stream: TcpStream) -> Result<(), ExchangeFault>
         ensures { OnOk result (IsMore (held self.old) (held self.new)) };
 }

@@ -19,15 +19,15 @@ pub trait Keeper: Drop {
     /// What its node holds, and the segments that it refused.
     ghost kept: { Self → Keeping };
 
-    /// Takes one item in, and answers which segment of which worker it was: None where it ends its
-    /// worker's posts. Only a segment can be refused: no memory was left to list it.
+    /// Takes one item in, and returns which segment of which worker it was; `None` if it ends its worker's posts. Fails
+    /// with `AllocError` when memory to list a refused segment is refused.
     fn take_in(&mut self, item: WorkerPost) -> Result<Option<(Worker, u64)>, AllocError>
         ensures err { OnErr result (is_end item ≡ false) }
         ensures end { IfOk result (λ taken. ends_told taken ≡ counted (is_end item)) }
         ensures sorted { OnOk result (TakesIn item (kept self.old) (kept self.new)) };
 
-    /// Makes the answer to all that was joined, where it isn't made yet, and shows it. Without memory for
-    /// it the node stays stale.
+    /// Makes the answer to all that was joined, where it isn't made yet, and shows it. If memory for it runs out, the
+    /// node stays stale.
     fn settle<R: Wait>(&mut self, rt: &R) -> Result<(), AllocError>
         ensures kept { IsKept (kept self.old).node (kept self.new).node }
         ensures listed { (kept self.new).refused ≡ (kept self.old).refused }

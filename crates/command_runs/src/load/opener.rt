@@ -28,7 +28,8 @@ pub trait Opener: Drop {
     /// The bytes of the file of a name; `None` if no contract can know them.
     ghost file: { Self → List ℕ → Option (List ℕ) } = { λ _ _. None };
 
-    /// Opens the file of a name, taken as it stands, at its first byte.
+    /// Opens the file of a name, taken as it stands, at its first byte. Fails with `File` if it can't be opened, and
+    /// with `Memory` when memory is refused.
     fn open(&self, path: &str) -> Result<Self::R, OpenFault>
         ensures told { IfOk result (λ reader. StandsAtFirst (file self.now path.now) (Self.R.left reader)) }
         ensures absent { result ≡ Err OpenFault.File → file self.now path.now ≡ None };
