@@ -22,7 +22,8 @@ function showRoots() {
   at("headline").textContent = answer.headline();
   document.title = answer.headline();
   at("summary").textContent = answer.summary();
-  const roots = answer.value.roots.map((root, i) => {
+  const { roots: all } = answer.value;
+  const roots = all.slice(0, MOST_BOXES).map((root, i) => {
     const proved = root.kind === "cycle" || root.kind === "ended" ? (root.proved ? " (proved)" : " (not proved)") : "";
     const head = made("p", "", made("span", "kind", `${i + 1} ${root.kind}${proved}`), made("strong", "", answer.rootWords(root)));
     const members = listOf(answer.membersOf(root), 12);
@@ -31,6 +32,9 @@ function showRoots() {
     const waiting = answer.groupsOf(root.holds_up).map((it) => ({ ranks: it.ranks, words: answer.groupWords(it) }));
     return made("li", "", head, members, ...(count === 0 ? [] : [made("p", "", those), listOf(waiting, 6)]));
   });
+  if (all.length > MOST_BOXES) {
+    roots.push(made("li", "", `and ${all.length - MOST_BOXES} more: the table below has their ranks`));
+  }
   at("roots").replaceChildren(...(roots.length > 0 ? roots : [made("li", "", "Nothing holds it up.")]));
 }
 

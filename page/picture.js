@@ -45,10 +45,12 @@ function boxOf(parts, about) {
   return { ...about, lines, width: longest * CHARACTER + 2 * AROUND, height: lines.length * LINE + 2 * AROUND - 4 };
 }
 
-/** The boxes of ranks that wait: alike, and for the same roots. The last one stands for those that are too many. */
+/** The boxes of ranks that wait: alike, and for the same roots. They stand by the middle of their roots; the last one is for those that
+ * are too many. */
 function waitingBoxes(answer) {
   const ranks = [...answer.holders.keys()].sort((a, b) => a - b);
-  const groups = answer.groupsOf(ranks, (rank) => answer.holders.get(rank));
+  const middle = ({ ranks: [rank] }) => answer.holders.get(rank).reduce((sum, it) => sum + it, 0) / answer.holders.get(rank).length;
+  const groups = answer.groupsOf(ranks, (rank) => answer.holders.get(rank)).sort((a, b) => middle(a) - middle(b));
   const boxes = groups.slice(0, MOST_BOXES).map((group) => boxOf(
     [{ words: rankWords(group.ranks), strong: true }, { words: answer.groupWords(group) }],
     { ranks: group.ranks, roots: answer.holders.get(group.ranks[0]), kind: "waits" }));
@@ -64,7 +66,7 @@ function waitingBoxes(answer) {
 /** The box of a root: what it is, and its ranks with where they stand. */
 function rootBox(answer, root, at) {
   const members = answer.membersOf(root);
-  const parts = [{ words: `${root.kind}: ${answer.rootWords(root)}`, strong: true }];
+  const parts = [{ words: `${at + 1} ${root.kind}: ${answer.rootWords(root)}`, strong: true }];
   for (const { ranks, words } of members.slice(0, MOST_MEMBERS)) {
     parts.push({ words: `${rankWords(ranks)} ${words}` });
   }

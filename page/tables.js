@@ -105,7 +105,9 @@ class Table {
     if (column >= 0) {
       rows.sort((a, b) => compared(a.cells[column].by, b.cells[column].by) * (isRising ? 1 : -1));
     }
-    this.body.replaceChildren(...rows.slice(0, this.most).map((it) => this.shownRow(it)));
+    const fragment = document.createDocumentFragment();
+    rows.slice(0, this.most).forEach((it) => fragment.append(this.shownRow(it)));
+    this.body.replaceChildren(fragment);
     this.count.textContent = rows.length < this.rows.length ? `(${rows.length} of ${this.rows.length} rows) ${this.about}` : this.about;
     this.more.textContent = `Show all ${rows.length} rows`;
     this.more.hidden = rows.length <= this.most;

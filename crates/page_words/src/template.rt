@@ -5,7 +5,7 @@ pub const HEAD: &[u8] = br##"<!DOCTYPE html>
 <html lang="en">
 <head>
 <meta charset="utf-8">
-<meta http-equiv="Content-Security-Policy" content="default-src 'none'; script-src 'sha256-gCjh/5D9ayJG7Y5Tw41RA+CbQKhffsV43L/zCXKuCfc='; style-src 'sha256-q2D2lHSd3oALs3rhQXfIn4CUBaorktfVsJb26Y2pczM='; base-uri 'none'; form-action 'none'; require-trusted-types-for 'script'; trusted-types 'none'">
+<meta http-equiv="Content-Security-Policy" content="default-src 'none'; script-src 'sha256-Li3w55BNIhwunRTTtdLHRlHSeBgTBp1nOZCGjF/F9XM='; style-src 'sha256-iRJONu/XnPProZPRAwqXUVN0YNAU+Q2iPTCWvJQkIkY='; base-uri 'none'; form-action 'none'; require-trusted-types-for 'script'; trusted-types 'none'">
 <meta name="viewport" content="width=device-width, initial-scale=1">
 <meta name="color-scheme" content="light dark">
 <meta name="referrer" content="no-referrer">
@@ -92,7 +92,8 @@ th.number, td.number { text-align: right; font-variant-numeric: tabular-nums; wh
 thead th { background: var(--band); white-space: nowrap; }
 thead button { padding: 0; border: 0; background: none; font-weight: bold; }
 tbody tr:nth-child(even) { background: var(--band); }
-td ul { margin: 0; padding-left: 1.1rem; }
+td ul { margin: 0; padding-left: 1.1rem; min-width: 15em; }
+td li .name:not(.short) { display: inline; }
 dl { display: grid; grid-template-columns: max-content 1fr; gap: 0.15rem 1.2rem; margin: 0; }
 dt { color: var(--faint); }
 dd { margin: 0; }
@@ -464,10 +465,12 @@ function boxOf(parts, about) {
   return { ...about, lines, width: longest * CHARACTER + 2 * AROUND, height: lines.length * LINE + 2 * AROUND - 4 };
 }
 
-/** The boxes of ranks that wait: alike, and for the same roots. The last one stands for those that are too many. */
+/** The boxes of ranks that wait: alike, and for the same roots. They stand by the middle of their roots; the last one is for those that
+ * are too many. */
 function waitingBoxes(answer) {
   const ranks = [...answer.holders.keys()].sort((a, b) => a - b);
-  const groups = answer.groupsOf(ranks, (rank) => answer.holders.get(rank));
+  const middle = ({ ranks: [rank] }) => answer.holders.get(rank).reduce((sum, it) => sum + it, 0) / answer.holders.get(rank).length;
+  const groups = answer.groupsOf(ranks, (rank) => answer.holders.get(rank)).sort((a, b) => middle(a) - middle(b));
   const boxes = groups.slice(0, MOST_BOXES).map((group) => boxOf(
     [{ words: rankWords(group.ranks), strong: true }, { words: answer.groupWords(group) }],
     { ranks: group.ranks, roots: answer.holders.get(group.ranks[0]), kind: "waits" }));
@@ -483,7 +486,7 @@ function waitingBoxes(answer) {
 /** The box of a root: what it is, and its ranks with where they stand. */
 function rootBox(answer, root, at) {
   const members = answer.membersOf(root);
-  const parts = [{ words: `${root.kind}: ${answer.rootWords(root)}`, strong: true }];
+  const parts = [{ words: `${at + 1} ${root.kind}: ${answer.rootWords(root)}`, strong: true }];
   for (const { ranks, words } of members.slice(0, MOST_MEMBERS)) {
     parts.push({ words: `${rankWords(ranks)} ${words}` });
   }
@@ -685,7 +688,9 @@ class Table {
     if (column >= 0) {
       rows.sort((a, b) => compared(a.cells[column].by, b.cells[column].by) * (isRising ? 1 : -1));
     }
-    this.body.replaceChildren(...rows.slice(0, this.most).map((it) => this.shownRow(it)));
+    const fragment = document.createDocumentFragment();
+    rows.slice(0, this.most).forEach((it) => fragment.append(this.shownRow(it)));
+    this.body.replaceChildren(fragment);
     this.count.textContent = rows.length < this.rows.length ? `(${rows.length} of ${this.rows.length} rows) ${this.about}` : this.about;
     this.more.textContent = `Show all ${rows.length} rows`;
     this.more.hidden = rows.length <= this.most;
@@ -846,7 +851,8 @@ function showRoots() {
   at("headline").textContent = answer.headline();
   document.title = answer.headline();
   at("summary").textContent = answer.summary();
-  const roots = answer.value.roots.map((root, i) => {
+  const { roots: all } = answer.value;
+  const roots = all.slice(0, MOST_BOXES).map((root, i) => {
     const proved = root.kind === "cycle" || root.kind === "ended" ? (root.proved ? " (proved)" : " (not proved)") : "";
     const head = made("p", "", made("span", "kind", `${i + 1} ${root.kind}${proved}`), made("strong", "", answer.rootWords(root)));
     const members = listOf(answer.membersOf(root), 12);
@@ -855,6 +861,9 @@ function showRoots() {
     const waiting = answer.groupsOf(root.holds_up).map((it) => ({ ranks: it.ranks, words: answer.groupWords(it) }));
     return made("li", "", head, members, ...(count === 0 ? [] : [made("p", "", those), listOf(waiting, 6)]));
   });
+  if (all.length > MOST_BOXES) {
+    roots.push(made("li", "", `and ${all.length - MOST_BOXES} more: the table below has their ranks`));
+  }
   at("roots").replaceChildren(...(roots.length > 0 ? roots : [made("li", "", "Nothing holds it up.")]));
 }
 
