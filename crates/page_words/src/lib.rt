@@ -6,7 +6,7 @@
 //! value is; the template is not.
 //!
 //! In a page each `<` of the value stands as `\u003c`, which JSON reads as the same character, so nothing in it ends the
-//! element in which it stands. The page takes as much memory as it has bytes.
+//! element in which it stands ([`page_laws`]). The page takes as much memory as it has bytes.
 //!
 //! To change something, open:
 //!
@@ -16,8 +16,10 @@
 //! Its tests are in `tests/run/run_page`.
 #![tactic(auto)]
 
+mod laws;
 mod page;
 mod template;
 
+pub use laws::page_laws;
 pub use page::page_of;
 pub use template::{HEAD, TAIL};
