@@ -8,6 +8,7 @@ pub(crate) mod facts;
 pub(crate) mod init;
 pub(crate) mod node;
 pub(crate) mod pack;
+pub(crate) mod page;
 pub(crate) mod replay;
 pub(crate) mod report;
 pub(crate) mod schedule;

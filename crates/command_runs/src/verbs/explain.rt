@@ -67,7 +67,7 @@ pub(crate) fn explain<O: Opener, V: Watcher, W: Write>(
 }
 
 /// What holds up the run, printed so.
-fn text_with<O: Opener, V: Watcher>(
+pub(crate) fn text_with<O: Opener, V: Watcher>(
     printing: Printing,
     run: &Run<'_, O>,
     watcher: &mut V,
