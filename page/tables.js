@@ -205,7 +205,8 @@ function nearWords({ why, message, receive, by }) {
 
 /** All further tables that have rows. */
 function otherTables(answer) {
-  const { mismatched, open, left_over: left, starving, unfinished, truncated = [], arguments: differing = [], doubts } = answer.value;
+  const { truncated, differing } = answer;
+  const { mismatched, open, left_over: left, starving, unfinished, doubts } = answer.value;
   const lone = (call, ...more) => rowOf([call.rank], undefined,
     ranksCell([call.rank]), number(call.call), words(siteWords(call)), words(traceWords(call)), ...more);
   const rounds = (list, row) => list.flatMap((it) => it.groups.map((group) =>

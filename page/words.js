@@ -84,6 +84,8 @@ class Answer {
     this.standing = new Map(value.standing.map((it) => [it.rank, it]));
     this.polls = new Map(value.polls.map((it) => [it.rank, it]));
     this.stuck = new Set(value.stuck);
+    this.truncated = value.truncated ?? [];
+    this.differing = value.arguments ?? [];
     this.ownRoots = this.rootsBy("ranks");
     this.holders = this.rootsBy("holds_up");
   }
@@ -147,7 +149,7 @@ class Answer {
     return this.value.standing.filter((it) => it.state === state).length;
   }
 
-  /** The first line of `mpimatch explain`. */
+  /** The first line of `mpimatch explain`; of arguments that don't agree by what the value tells of them. */
   headline() {
     const all = this.value.ranks;
     const ofAll = (count) => `${count} of ${counted(all, "rank")}`;
@@ -155,9 +157,15 @@ class Answer {
     if (stuck > 0) {
       return `${ofAll(stuck)} ${stuck === 1 ? "is" : "are"} stuck.`;
     }
+    const mismatched = this.countIn((it) => it.kind === "mismatch");
+    if (mismatched > 0) {
+      const words = mismatched === 1 ? "stands in them or waits for those that do" : "stand in them or wait for those that do";
+      return `Collective calls don't match, which MPI forbids: ${ofAll(mismatched)} ${words}.`;
+    }
+    if (this.truncated.length > 0 || this.differing.length > 0) {
+      return `Arguments of calls don't agree, which MPI forbids: ${this.disagreementWords()}.`;
+    }
     const cases = [
-      [(it) => it.kind === "mismatch", "Collective calls don't match, which MPI forbids: ",
-        "stands in them or waits for those that do.", "stand in them or wait for those that do."],
       [(it) => it.kind === "silent" || it.kind === "open", "No rank is proved to be stuck, but ",
         "waits for ranks that give no sign.", "wait for ranks that give no sign."],
       [(it) => it.kind === "cycle" && !it.proved, "No rank is proved to be stuck, but ",
@@ -174,6 +182,19 @@ class Answer {
     const ended = this.countOf("ended");
     const others = ended < all ? `, ${all - ended} ${all - ended === 1 ? "is" : "are"} not seen to wait` : "";
     return `Nobody waits: ${counted(ended, "rank")} ended${others}.`;
+  }
+
+  /** The first message that is longer than its receive, or the first round in which arguments differ. */
+  disagreementWords() {
+    const [longer] = this.truncated;
+    if (longer !== undefined) {
+      const { message, receive, sent, room } = longer;
+      return `rank ${receive.rank} has room for ${counted(room, "element")} (${callWords(receive)}), and the message of rank ${message.rank} `
+        + `(${callWords(message)}) has ${sent}`;
+    }
+    const [{ comm, k, kind, what, groups }] = this.differing;
+    const values = groups.slice(0, 4).map(({ value, ranks, call }) => `${shown(value)} at ${rankWords(ranks)} (${callWords(call)})`);
+    return `round ${k} on object ${comm}, ${functionOf(kind)}: ${shown(what)} ${values.join(", ")}${groups.length > 4 ? ", .." : ""}`;
   }
 
   /** Its second line. */
