@@ -1,0 +1,59 @@
+-- Lists, one element more.
+use Rattle.std.proofs.Common.{◌≡◌, ◌∙◌, ◌+◌, ◌<◌, ℕ, zero, suc, Bool, true, false, cond, List, [], ◌∷◌, ◌++◌, Option, Some, None, append_assoc, filter, get_or, length, map, take, refl, sym, ap, arith}
+use Rattle.std.specs.List.{find, flat_map}
+use Rattle.std.proofs.lemmas.Grind.{flat_map-append}
+use Rattle.std.proofs.lemmas.List.{map-append, take_more}
+use Rattle.std.proofs.lemmas.List.Elements.{filter-append}
+
+-- what goes through appending
+abbrev pub Joins : {X Y : Type 0} → (List X → List Y) → Type 0
+Joins {X} h = (a b : List X) → h (a ++ b) ≡ h a ++ h b
+
+module _ {X Y : Type 0} (h : List X → List Y) (joins : Joins h) (xs : List X) (i : ℕ) (x : X) (before after : List Y) (lt : i < length xs) (is : x ≡ get_or xs i x) where
+  grown : take (i + 1) xs ≡ take i xs ++ x ∷ []
+  grown = take_more xs i x lt ∙ ap (λ (y : X). take i xs ++ y ∷ []) (sym is)
+
+  -- what is made of one more
+  pub one_more : before ≡ h (take i xs) → after ≡ before ++ h (x ∷ []) → after ≡ h (take (i + 1) xs)
+  one_more so_far more =
+      more ∙ ap (λ (l : List Y). l ++ h (x ∷ [])) so_far ∙ sym (joins (take i xs) (x ∷ [])) ∙ ap h (sym grown)
+
+  -- the same behind a list
+  pub one_more_behind : (front : List Y) → before ≡ front ++ h (take i xs) → after ≡ before ++ h (x ∷ []) → after ≡ front ++ h (take (i + 1) xs)
+  one_more_behind front so_far more =
+      more ∙ ap (λ (l : List Y). l ++ h (x ∷ [])) so_far ∙ append_assoc front (h (take i xs)) (h (x ∷ []))
+      ∙ ap (λ (l : List Y). front ++ l) (sym (joins (take i xs) (x ∷ [])) ∙ ap h (sym grown))
+
+module _ {X Y Z : Type 0} where
+  pub mapped_joins : (g : X → Y) (p : X → Bool) → Joins (λ xs. map g (filter p xs))
+  mapped_joins g p a b = ap (map g) (filter-append p a b) ∙ map-append g (filter p a) (filter p b)
+
+  pub flat_joins : (g : X → List Y) (p : X → Bool) → Joins (λ xs. flat_map g (filter p xs))
+  flat_joins g p a b = ap (flat_map g) (filter-append p a b) ∙ flat_map-append g (filter p a) (filter p b)
+
+  pub named_joins : (g : Y → Z) (p : Y → Bool) (n : X → Y) → Joins (λ xs. map g (filter p (map n xs)))
+  named_joins g p n a b =
+      ap (λ (l : List Y). map g (filter p l)) (map-append n a b) ∙ ap (map g) (filter-append p (map n a) (map n b)) ∙ map-append g (filter p (map n a)) (filter p (map n b))
+
+-- ---- the first of a list that passes
+
+module _ {X : Type 0} (p : X → Bool) where
+  rest_found : (b : Bool) (y x : X) (q r : Option X) → cond b (Some y) q ≡ None → (q ≡ None → r ≡ Some x) → cond b (Some y) r ≡ Some x
+  rest_found true y x q r e h = cc
+  rest_found false y x q r e h = h e
+
+  rest_none : (b : Bool) (y : X) (q r : Option X) → cond b (Some y) q ≡ None → (q ≡ None → r ≡ None) → cond b (Some y) r ≡ None
+  rest_none true y q r e h = cc
+  rest_none false y q r e h = h e
+
+  -- none so far, and this one
+  pub found : (xs : List X) (i : ℕ) (x : X) → i < length xs → x ≡ get_or xs i x → find p (take i xs) ≡ None → p x ≡ true → find p xs ≡ Some x
+  found [] i x lt e before is = absurd (omega arith)
+  found (y ∷ xs) zero x lt e before is = ap (λ (t : Bool). cond t (Some y) (find p xs)) (ap p (sym e) ∙ is) ∙ ap (λ (z : X). Some z) (sym e)
+  found (y ∷ xs) (suc i) x lt e before is = rest_found (p y) y x (find p (take i xs)) (find p xs) before (λ none. found xs i x (omega (arith, lt)) e none is)
+
+  -- none so far, and not this one
+  pub none_next : (xs : List X) (i : ℕ) (x : X) → i < length xs → x ≡ get_or xs i x → find p (take i xs) ≡ None → p x ≡ false → find p (take (suc i) xs) ≡ None
+  none_next [] i x lt e before not = absurd (omega arith)
+  none_next (y ∷ xs) zero x lt e before not = ap (λ (t : Bool). cond t (Some y) None) (ap p (sym e) ∙ not)
+  none_next (y ∷ xs) (suc i) x lt e before not = rest_none (p y) y (find p (take i xs)) (find p (take (suc i) xs)) before (λ none. none_next xs i x (omega (arith, lt)) e none not)
