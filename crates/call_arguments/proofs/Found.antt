@@ -1,5 +1,5 @@
 -- A place that is searched from the front of a list.
-use Rattle.std.proofs.Common.{◌≡◌, ◌<◌, ℕ, zero, suc, Bool, true, false, cond, List, [], ◌∷◌, Option, Some, None, option_map, length, take, get_or, refl, sym, ap, ◌∙◌, arith}
+use Rattle.std.proofs.Common.{◌≡◌, ◌<◌, ℕ, zero, suc, Bool, true, false, cond, List, [], ◌∷◌, Option, Some, None, option_map, length, take, get_or, refl, ap, arith}
 use Rattle.call_arguments.specs.Places.{first_where}
 
 none_behind : (b : Bool) (p q : Option ℕ) → cond b (Some zero) (option_map suc p) ≡ None → (p ≡ None → q ≡ None) → cond b (Some zero) (option_map suc q) ≡ None
@@ -13,17 +13,13 @@ behind false None q i e h = ap (option_map suc) (h refl)
 behind false (Some j) q i e h = cc
 
 -- none so far, and this one
-pub found : {X : Type 0} (p : X → Bool) (xs : List X) (i : ℕ) (x : X) → i < length xs → x ≡ get_or xs i x
-    → first_where p (take i xs) ≡ None → p x ≡ true → first_where p xs ≡ Some i
-found p [] i x lt e before is = absurd (omega arith)
-found p (y ∷ xs) zero x lt e before is = ap (λ (t : Bool). cond t (Some zero) (option_map suc (first_where p xs))) (ap p (sym e) ∙ is)
-found p (y ∷ xs) (suc i) x lt e before is =
-    behind (p y) (first_where p (take i xs)) (first_where p xs) i before (λ none. found p xs i x (omega arith) e none is)
+pub found : {X : Type 0} (p : X → Bool) (xs : List X) (i : ℕ) (d : X) → i < length xs → first_where p (take i xs) ≡ None → p (get_or xs i d) ≡ true → first_where p xs ≡ Some i
+found p [] i d lt before is = absurd (omega arith)
+found p (y ∷ xs) zero d lt before is = ap (λ (t : Bool). cond t (Some zero) (option_map suc (first_where p xs))) is
+found p (y ∷ xs) (suc i) d lt before is = behind (p y) (first_where p (take i xs)) (first_where p xs) i before (λ none. found p xs i d (omega arith) none is)
 
 -- none so far, and not this one
-pub none_next : {X : Type 0} (p : X → Bool) (xs : List X) (i : ℕ) (x : X) → i < length xs → x ≡ get_or xs i x
-    → first_where p (take i xs) ≡ None → p x ≡ false → first_where p (take (suc i) xs) ≡ None
-none_next p [] i x lt e before not = absurd (omega arith)
-none_next p (y ∷ xs) zero x lt e before not = ap (λ (t : Bool). cond t (Some zero) None) (ap p (sym e) ∙ not)
-none_next p (y ∷ xs) (suc i) x lt e before not =
-    none_behind (p y) (first_where p (take i xs)) (first_where p (take (suc i) xs)) before (λ none. none_next p xs i x (omega arith) e none not)
+pub none_next : {X : Type 0} (p : X → Bool) (xs : List X) (i : ℕ) (d : X) → i < length xs → first_where p (take i xs) ≡ None → p (get_or xs i d) ≡ false → first_where p (take (suc i) xs) ≡ None
+none_next p [] i d lt before not = absurd (omega arith)
+none_next p (y ∷ xs) zero d lt before not = ap (λ (t : Bool). cond t (Some zero) None) not
+none_next p (y ∷ xs) (suc i) d lt before not = none_behind (p y) (first_where p (take i xs)) (first_where p (take (suc i) xs)) before (λ none. none_next p xs i d (omega arith) none not)

@@ -1,2 +1,0 @@
--- What is the same, part by part, is one.
-use Rattle.std.proofs.Common.{◌≡◌, Bool, true, false, ◌&&◌}
