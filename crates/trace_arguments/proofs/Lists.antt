@@ -1,9 +1,9 @@
 -- Lists, one element more.
-use Rattle.std.proofs.Common.{◌≡◌, ◌∙◌, ◌+◌, ◌<◌, ℕ, zero, suc, Bool, true, false, cond, List, [], ◌∷◌, ◌++◌, Option, Some, None, append_assoc, filter, get_or, length, map, take, refl, sym, ap, arith}
-use Rattle.std.specs.List.{find, flat_map}
+use Rattle.std.proofs.Common.{◌≡◌, ◌∙◌, ◌+◌, ◌<◌, ℕ, zero, suc, Bool, true, false, cond, List, [], ◌∷◌, ◌++◌, Option, Some, None, append-nil, append_assoc, filter, get_or, length, map, take, refl, sym, ap, arith}
+use Rattle.std.specs.List.{cons_option, filter_map, find, flat_map}
 use Rattle.std.proofs.lemmas.Grind.{flat_map-append}
 use Rattle.std.proofs.lemmas.List.{map-append, take_more}
-use Rattle.std.proofs.lemmas.List.Elements.{filter-append}
+use Rattle.std.proofs.lemmas.List.Elements.{filter-append, filter_map-append}
 
 -- what goes through appending
 abbrev pub Joins : {X Y : Type 0} → (List X → List Y) → Type 0
@@ -24,16 +24,27 @@ module _ {X Y : Type 0} (h : List X → List Y) (joins : Joins h) (xs : List X) 
       more ∙ ap (λ (l : List Y). l ++ h (x ∷ [])) so_far ∙ append_assoc front (h (take i xs)) (h (x ∷ []))
       ∙ ap (λ (l : List Y). front ++ l) (sym (joins (take i xs) (x ∷ [])) ∙ ap h (sym grown))
 
-module _ {X Y Z : Type 0} where
-  pub mapped_joins : (g : X → Y) (p : X → Bool) → Joins (λ xs. map g (filter p xs))
-  mapped_joins g p a b = ap (map g) (filter-append p a b) ∙ map-append g (filter p a) (filter p b)
+pub mapped_joins : {X Y : Type 0} (g : X → Y) (p : X → Bool) → Joins (λ xs. map g (filter p xs))
+mapped_joins g p a b = ap (map g) (filter-append p a b) ∙ map-append g (filter p a) (filter p b)
 
-  pub flat_joins : (g : X → List Y) (p : X → Bool) → Joins (λ xs. flat_map g (filter p xs))
-  flat_joins g p a b = ap (flat_map g) (filter-append p a b) ∙ flat_map-append g (filter p a) (filter p b)
+pub named_joins : {X Y Z : Type 0} (g : Y → Z) (p : Y → Bool) (n : X → Y) → Joins (λ xs. map g (filter p (map n xs)))
+named_joins {Y = Y} g p n a b =
+    ap (λ (l : List Y). map g (filter p l)) (map-append n a b) ∙ ap (map g) (filter-append p (map n a) (map n b)) ∙ map-append g (filter p (map n a)) (filter p (map n b))
 
-  pub named_joins : (g : Y → Z) (p : Y → Bool) (n : X → Y) → Joins (λ xs. map g (filter p (map n xs)))
-  named_joins g p n a b =
-      ap (λ (l : List Y). map g (filter p l)) (map-append n a b) ∙ ap (map g) (filter-append p (map n a) (map n b)) ∙ map-append g (filter p (map n a)) (filter p (map n b))
+-- one list more, of one item more
+pub flat_more : {X Y : Type 0} (g : X → List Y) (xs : List X) (i : ℕ) (x : X) (before after : List Y) → i < length xs → x ≡ get_or xs i x
+    → before ≡ flat_map g (take i xs) → after ≡ before ++ g x → after ≡ flat_map g (take (i + 1) xs)
+flat_more {Y = Y} g xs i x before after lt is so_far more =
+    more ∙ ap (λ (l : List Y). l ++ g x) so_far
+    ∙ sym (ap (flat_map g) (take_more xs i x lt) ∙ flat_map-append g (take i xs) (get_or xs i x ∷ [])
+    ∙ ap (λ (l : List Y). flat_map g (take i xs) ++ l) (append-nil (g (get_or xs i x)) ∙ ap g (sym is)))
+
+-- one that is kept or not, of one item more
+pub kept_more : {X Y : Type 0} (g : X → Option Y) (xs : List X) (i : ℕ) (d : X) (before after : List Y) → i < length xs
+    → before ≡ filter_map g (take i xs) → after ≡ before ++ cons_option (g (get_or xs i d)) [] → after ≡ filter_map g (take (i + 1) xs)
+kept_more {Y = Y} g xs i d before after lt so_far more =
+    more ∙ ap (λ (l : List Y). l ++ cons_option (g (get_or xs i d)) []) so_far
+    ∙ sym (filter_map-append g (take i xs) (get_or xs i d ∷ [])) ∙ ap (filter_map g) (sym (take_more xs i d lt))
 
 -- ---- the first of a list that passes
 

@@ -9,7 +9,8 @@ use Rattle.trace_ops.specs.declared.entered.Entered.{Entered}
 use Rattle.trace_stuck.specs.declared.condition.RoundName.{RoundName}
 use Rattle.trace_wait.specs.Ranks.{ops_of}
 use Rattle.trace_wait.specs.Rounds.{group, on_comm}
-use Rattle.trace_arguments.specs.Calls.{Calls, told_at}
+use Rattle.trace_arguments.specs.Calls.{told_at}
+use Rattle.trace_arguments.specs.declared.calls.CallsTold.{CallsTold}
 use Rattle.trace_arguments.specs.declared.disagreement.Comparison.{Comparison}
 
 -- the call by which a rank entered a round, where it has
@@ -39,19 +40,19 @@ abbrev pub valued : ℕ → ℕ → ℕ → KnownParts → ValuedParts
 valued place rank call known = record { place = place; rank = rank; call = call; known = known }
 
 -- what a call of a member tells
-abbrev pub told_by : Calls → Comparison → ℕ → ℕ → ℕ → Option ValuedParts
+abbrev pub told_by : CallsTold → Comparison → ℕ → ℕ → ℕ → Option ValuedParts
 told_by calls c place rank call =
     option_and_then (λ told. option_map (valued place rank call) (told_in c.line (is_root c.root place) told)) (told_at calls rank call)
 
 -- what is known of the member at a place of the group, where it has entered the round
-abbrev pub valued_at : List Ops → Calls → Comparison → ℕ → ℕ → Option ValuedParts
+abbrev pub valued_at : List Ops → CallsTold → Comparison → ℕ → ℕ → Option ValuedParts
 valued_at ops calls c place rank = option_and_then (λ entered. told_by calls c place rank entered.call) (entered_at ops c.round rank)
 
 -- what is known of the members from a place on
-abbrev pub values_from : List Ops → Calls → Comparison → ℕ → List ℕ → List ValuedParts
+abbrev pub values_from : List Ops → CallsTold → Comparison → ℕ → List ℕ → List ValuedParts
 values_from ops calls c place [] = []
 values_from ops calls c place (rank ∷ ranks) = option_to_list (valued_at ops calls c place rank) ++ values_from ops calls c (place + 1) ranks
 
 -- what is known of all members, in group order
-abbrev pub values_of : Parts → List Ops → Calls → Comparison → List ValuedParts
+abbrev pub values_of : Parts → List Ops → CallsTold → Comparison → List ValuedParts
 values_of layout ops calls c = values_from ops calls c 0 (group layout.comms c.round.object)

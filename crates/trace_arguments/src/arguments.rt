@@ -37,7 +37,7 @@ fn groups_of(
 
 /// The members in the order of their ranks.
 fn by_rank<'a>(values: Vec<Valued<'a>>) -> Result<Vec<Valued<'a>>, AllocError>
-    ensures all { IfOk result (λ sorted. IsPermutation values.items sorted.items) }
+    ensures all { IfOk result (λ sorted. IsPermutation values.entry.items sorted.items) }
     ensures rising { IfOk result (λ sorted. IsNonDecreasingBy (λ v. v.rank) sorted.items) }
 {
     let mut sorted = values;

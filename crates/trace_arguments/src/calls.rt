@@ -15,14 +15,6 @@ pub struct CallsTold {
     calls: BTreeMap<(u32, u64), SharedTold>,
 }
 
-impl Model for CallsTold {
-    ghost use Rattle.trace_arguments.specs.Calls.{Calls};
-
-    ghost Value = { Calls };
-
-    ghost view = { λ c. c.calls };
-}
-
 impl CallsTold {
     /// Nothing is told of any call.
     pub fn new(alloc: Global) -> CallsTold

@@ -73,10 +73,7 @@ fn do_differ(line: Line, values: &[Valued<'_>]) -> bool
 }
 
 /// What is known of the root.
-pub(crate) fn root_of<'v, 'a>(
-    root: Option<u32>,
-    values: &'v [Valued<'a>],
-) -> Option<&'v Valued<'a>>
+pub(crate) fn root_of<'v, 'a>(root: Option<u32>, values: &'v [Valued<'a>]) -> Option<&'v Valued<'a>>
     ensures { option_copied result ≡ root_of root values.now }
 {
     for value in values {

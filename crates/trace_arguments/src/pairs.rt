@@ -25,11 +25,7 @@ fn listed(alloc: Global, count: Option<u64>) -> Result<Vec<u64>, AllocError>
 }
 
 /// The count that the root's list has for a member.
-fn roots_value(
-    alloc: Global,
-    root: &Valued<'_>,
-    value: &Valued<'_>,
-) -> Result<Known, AllocError>
+fn roots_value(alloc: Global, root: &Valued<'_>, value: &Valued<'_>) -> Result<Known, AllocError>
     ensures { IfOk result (λ known. known ≡ roots_value root.now value.now) }
 {
     let name = Vec::from_slice(alloc, root.known.name())?;

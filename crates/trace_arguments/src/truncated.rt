@@ -1,7 +1,7 @@
 //! Messages that are longer than their receives.
 
-ghost use Rattle.std.specs.Prelude.{◌≡◌, ◌++◌, None, IfErr, IfOk, OnOk, option_to_list, slice_get};
-ghost use Rattle.std.specs.List.{filter_map, find};
+ghost use Rattle.std.specs.Prelude.{◌≡◌, ◌++◌, [], None, IfErr, IfOk, OnOk, slice_get};
+ghost use Rattle.std.specs.List.{cons_option, filter_map, find};
 ghost use Rattle.trace_ops.specs.Ops.{AreOwn};
 ghost use Rattle.trace_ops.specs.Order.{AreInOrder, ArePosted};
 ghost use Rattle.trace_wait.specs.Parts.{is_of, receive_of, send_of};
@@ -40,15 +40,22 @@ fn send_in(sends: &[Message], name: OpName) -> Option<Message>
     }
 }
 
+/// The messages of a rank.
+fn sends_at(ops: &[RankOps], rank: u32) -> &[Message]
+    ensures { result.now ≡ (ops_of ops.now rank).sends }
+{
+    match ops.get(rank as usize) {
+        Some(own) => own.sends(),
+        None => &[],
+    }
+}
+
 /// The same of a rank of the run.
 fn send_of(ops: &[RankOps], name: OpName) -> Option<Message>
     requires { AreOwn 0 ops.now }
     ensures { result ≡ send_of (ops_of ops.now name.rank) name }
 {
-    match ops.get(name.rank as usize) {
-        Some(own) => send_in(own.sends(), name),
-        None => None,
-    }
+    send_in(sends_at(ops, name.rank), name)
 }
 
 /// Where the receive of a name stands.
@@ -71,15 +78,22 @@ fn receive_in(receives: &[Receive], name: OpName) -> Option<Receive>
     }
 }
 
+/// The receives of a rank.
+fn receives_at(ops: &[RankOps], rank: u32) -> &[Receive]
+    ensures { result.now ≡ (ops_of ops.now rank).receives }
+{
+    match ops.get(rank as usize) {
+        Some(own) => own.receives(),
+        None => &[],
+    }
+}
+
 /// The same of a rank of the run.
 fn receive_of(ops: &[RankOps], name: OpName) -> Option<Receive>
     requires { AreOwn 0 ops.now }
     ensures { result ≡ receive_of (ops_of ops.now name.rank) name }
 {
-    match ops.get(name.rank as usize) {
-        Some(own) => receive_in(own.receives(), name),
-        None => None,
-    }
+    receive_in(receives_at(ops, name.rank), name)
 }
 
 /// The message and the receive of a pair.
@@ -97,15 +111,16 @@ fn truncated_by(ops: &[RankOps], pair: &Pair) -> Option<Truncated>
     requires { AreOwn 0 ops.now }
     ensures { result ≡ truncated_by ops.now pair.now }
 {
-    if pair.over { couple_of(ops, pair) } else { None }
+    if pair.over {
+        couple_of(ops, pair)
+    } else {
+        None
+    }
 }
 
 /// Adds one, where there is one.
-fn push_truncated(
-    found: &mut Vec<Truncated>,
-    one: Option<Truncated>,
-) -> Result<(), AllocError>
-    ensures { OnOk result (found.new.items ≡ found.old.items ++ option_to_list one) }
+fn push_truncated(found: &mut Vec<Truncated>, one: Option<Truncated>) -> Result<(), AllocError>
+    ensures { OnOk result (found.new.items ≡ found.old.items ++ cons_option one []) }
 {
     if let Some(one) = one {
         found.push(one)?;

@@ -71,11 +71,7 @@ fn told_in(line: Line, root: bool, told: &Told) -> Option<&Known>
     match line {
         Line::Operation => told.operation(),
         Line::Alike => told.counts(),
-        Line::Rooted | Line::Listed => if root {
-            told.at_root()
-        } else {
-            told.counts()
-        },
+        Line::Rooted | Line::Listed => if root { told.at_root() } else { told.counts() },
     }
 }
 
@@ -114,11 +110,8 @@ fn valued_at<'a>(
 }
 
 /// Adds what is known of a member.
-fn push_value<'a>(
-    values: &mut Vec<Valued<'a>>,
-    value: Option<Valued<'a>>,
-) -> Result<(), AllocError>
-    ensures { OnOk result (values.new.items ≡ values.old.items ++ option_to_list value) }
+fn push_value<'a>(values: &mut Vec<Valued<'a>>, value: Option<Valued<'a>>) -> Result<(), AllocError>
+    ensures { OnOk result (values.new.items ≡ values.old.items ++ option_to_list value.entry) }
 {
     if let Some(value) = value {
         values.push(value)?;
