@@ -1,31 +1,30 @@
 -- Lists, one element more.
-use Rattle.std.proofs.Common.{◌≡◌, ◌∙◌, ◌+◌, ◌<◌, ℕ, zero, suc, Bool, true, false, cond, List, [], ◌∷◌, ◌++◌, Option, Some, None, append-nil, append_assoc, filter, get_or, length, map, take, refl, sym, ap, arith}
+use Rattle.std.proofs.Common.{◌≡◌, ◌∙◌, ◌+◌, ◌<◌, ℕ, zero, suc, Bool, true, false, cond, List, [], ◌∷◌, ◌++◌, Option, Some, None, append-nil, append_assoc, filter, get_or, length, map, take, refl, subst, sym, ap, arith}
+use Rattle.std.specs.Prelude.{All}
 use Rattle.std.specs.List.{cons_option, filter_map, find, flat_map}
 use Rattle.std.proofs.lemmas.Grind.{flat_map-append}
 use Rattle.std.proofs.lemmas.List.{map-append, take_more}
-use Rattle.std.proofs.lemmas.List.Elements.{filter-append, filter_map-append}
+use Rattle.std.proofs.lemmas.List.Elements.{All-append, filter-append, filter_map-append}
 
 -- what goes through appending
 abbrev pub Joins : {X Y : Type 0} → (List X → List Y) → Type 0
 Joins {X} h = (a b : List X) → h (a ++ b) ≡ h a ++ h b
 
-module _ {X Y : Type 0} (h : List X → List Y) (joins : Joins h) (xs : List X) (i : ℕ) (x : X) (before after : List Y) (lt : i < length xs) (is : x ≡ get_or xs i x) where
-  grown : take (i + 1) xs ≡ take i xs ++ x ∷ []
-  grown = take_more xs i x lt ∙ ap (λ (y : X). take i xs ++ y ∷ []) (sym is)
+-- what is made of one more, behind a list
+pub one_more_behind : {X Y : Type 0} (h : List X → List Y) → Joins h → (xs : List X) (i : ℕ) (d : X) (front before after : List Y) → i < length xs
+    → before ≡ front ++ h (take i xs) → after ≡ before ++ h (get_or xs i d ∷ []) → after ≡ front ++ h (take (i + 1) xs)
+one_more_behind {Y = Y} h joins xs i d front before after lt so_far more =
+    let x = get_or xs i d in
+    more ∙ ap (λ (l : List Y). l ++ h (x ∷ [])) so_far ∙ append_assoc front (h (take i xs)) (h (x ∷ []))
+    ∙ ap (λ (l : List Y). front ++ l) (sym (joins (take i xs) (x ∷ [])) ∙ ap h (sym (take_more xs i d lt)))
 
-  -- what is made of one more
-  pub one_more : before ≡ h (take i xs) → after ≡ before ++ h (x ∷ []) → after ≡ h (take (i + 1) xs)
-  one_more so_far more =
-      more ∙ ap (λ (l : List Y). l ++ h (x ∷ [])) so_far ∙ sym (joins (take i xs) (x ∷ [])) ∙ ap h (sym grown)
+only : {X : Type 0} (P : X → Type 0) (x : X) → P x → All P (x ∷ [])
+only P x one zero d lt = one
+only P x one (suc k) d lt = absurd (omega (arith, lt))
 
-  -- the same behind a list
-  pub one_more_behind : (front : List Y) → before ≡ front ++ h (take i xs) → after ≡ before ++ h (x ∷ []) → after ≡ front ++ h (take (i + 1) xs)
-  one_more_behind front so_far more =
-      more ∙ ap (λ (l : List Y). l ++ h (x ∷ [])) so_far ∙ append_assoc front (h (take i xs)) (h (x ∷ []))
-      ∙ ap (λ (l : List Y). front ++ l) (sym (joins (take i xs) (x ∷ [])) ∙ ap h (sym grown))
-
-pub mapped_joins : {X Y : Type 0} (g : X → Y) (p : X → Bool) → Joins (λ xs. map g (filter p xs))
-mapped_joins g p a b = ap (map g) (filter-append p a b) ∙ map-append g (filter p a) (filter p b)
+-- what holds of each holds with one more
+pub all_more : {X : Type 0} (P : X → Type 0) (old new : List X) (x : X) → new ≡ old ++ x ∷ [] → P x → All P old → All P new
+all_more {X = X} P old new x e one all = subst (λ (l : List X). All P l) (sym e) (All-append P old (x ∷ []) all (only P x one))
 
 pub named_joins : {X Y Z : Type 0} (g : Y → Z) (p : Y → Bool) (n : X → Y) → Joins (λ xs. map g (filter p (map n xs)))
 named_joins {Y = Y} g p n a b =

@@ -1,6 +1,6 @@
 //! What calls tell, by rank and number.
 
-ghost use Rattle.std.specs.Prelude.{◌≡◌, OnOk};
+ghost use Rattle.std.specs.Prelude.{◌≡◌, OnOk, is_some};
 ghost use Rattle.std.specs.Option.{option_copied};
 ghost use Rattle.trace_arguments.specs.Calls.{AddsCall, TellNothing, told_at};
 
@@ -25,13 +25,24 @@ impl CallsTold {
         }
     }
 
+    /// Whether something is told of a call.
+    fn has(&self, rank: u32, number: u64) -> bool
+        ensures { result ≡ is_some (told_at self.now rank number) }
+    {
+        match self.get(rank, number) {
+            Some(_) => true,
+            None => false,
+        }
+    }
+
     /// What a call tells, unless something was told of it before.
     pub fn add(&mut self, rank: u32, number: u64, told: SharedTold) -> Result<(), AllocError>
         ensures { OnOk result (AddsCall rank number told self.old self.new) }
     {
-        if self.calls.get(&(rank, number)).is_none() {
-            self.calls.insert((rank, number), told)?;
+        if self.has(rank, number) {
+            return Ok(());
         }
+        self.calls.insert((rank, number), told)?;
         Ok(())
     }
 

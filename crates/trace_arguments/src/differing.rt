@@ -4,6 +4,7 @@ ghost use Rattle.std.specs.Prelude.{◌≡◌, ◌∷◌, []};
 ghost use Rattle.std.specs.List.{list_all, list_any};
 ghost use Rattle.std.specs.Option.{option_copied};
 ghost use Rattle.trace_arguments.specs.Differing.{are_compared, differ, do_differ, is_alike, is_one_type, is_other_than, misfits, root_of, some_misfits};
+ghost use Rattle.trace_arguments.specs.Values.{is_root};
 
 use crate::disagreement::Comparison;
 use crate::values::{Valued, is_root};
@@ -72,12 +73,19 @@ fn do_differ(line: Line, values: &[Valued<'_>]) -> bool
     }
 }
 
+/// Whether a member is the root.
+fn is_the_root(root: Option<u32>, value: &Valued<'_>) -> bool
+    ensures { result ≡ is_root root value.now.place }
+{
+    is_root(root, value.place)
+}
+
 /// What is known of the root.
 pub(crate) fn root_of<'v, 'a>(root: Option<u32>, values: &'v [Valued<'a>]) -> Option<&'v Valued<'a>>
     ensures { option_copied result ≡ root_of root values.now }
 {
     for value in values {
-        if is_root(root, value.place) {
+        if is_the_root(root, value) {
             return Some(value);
         }
     }
