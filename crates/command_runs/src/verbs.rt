@@ -1,6 +1,7 @@
 //! What each verb does over a run.
 
 pub(crate) mod answerer;
+pub(crate) mod arguments;
 pub(crate) mod check;
 pub(crate) mod cluster;
 pub(crate) mod explain;
