@@ -26,7 +26,9 @@ impl<'a> Writer<'a> {
         }
         self.put(b"no rank would be stuck");
         if do_wait {
-            self.put(b": whether the program hangs depends on the sizes of messages and on the MPI library");
+            self.put(
+                b": whether the program hangs depends on the sizes of messages and on the MPI library",
+            );
         }
         self.put(b".\n");
     }
