@@ -37,7 +37,11 @@ pub(crate) fn value_text(
         text.put(value.name());
     } else {
         for (i, count) in value.counts().iter().enumerate() {
-            text.put(if i == 0 { b"".as_slice() } else { b" ".as_slice() });
+            text.put(if i == 0 {
+                b"".as_slice()
+            } else {
+                b" ".as_slice()
+            });
             text.put_number(*count);
         }
     }

@@ -55,7 +55,11 @@ impl<'a> Writer<'a> {
         let mut told: usize = 0;
         for (at, group) in groups.iter().enumerate() {
             if Some(at) != most && (told < MOST_VALUES || self.all) {
-                self.put(if told == 0 { b"".as_slice() } else { b", ".as_slice() });
+                self.put(if told == 0 {
+                    b"".as_slice()
+                } else {
+                    b", ".as_slice()
+                });
                 self.put_value_group(line, group);
                 told = told.saturating_add(1);
             }
@@ -95,7 +99,11 @@ impl<'a> Writer<'a> {
         for (at, own) in groups.iter().enumerate() {
             if at % 2 == 0 && (told < MOST_VALUES || self.all) {
                 if let Some(root) = groups.get(at.saturating_add(1)) {
-                    self.put(if told == 0 { b"".as_slice() } else { b"; ".as_slice() });
+                    self.put(if told == 0 {
+                        b"".as_slice()
+                    } else {
+                        b"; ".as_slice()
+                    });
                     self.put_value_pair(own, root);
                     told = told.saturating_add(1);
                 }
