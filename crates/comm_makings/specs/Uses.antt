@@ -157,6 +157,15 @@ pub record IsOnly (handles : List Stretch) (uses : List Uses) (calls : List Held
   pub within : (i : ℕ) (group : Uses) → slice_get uses i ≡ Some group → group.number ≡ handle.number → holds_all group handle ≡ true
   pub known : (i : ℕ) (group : HeldUses) → slice_get calls i ≡ Some group → group.uses.number ≡ handle.number → is_some group.holder ≡ true
 
+-- What groups of calls say of handles: how many calls name each, how many of these don't end it, and whether its number is that
+-- of no other and of no calls that name no handle.
+pub record IsTally (handles : List Stretch) (held : List HeldUses) (tally : HandleUses) : Type 0 where
+  pub counts : EachIs tally.counts.items (count_of held)
+  pub count_each : length tally.counts.items ≡ length handles
+  pub used : EachIs tally.used.items (count_of (but_ends handles held))
+  pub used_each : length tally.used.items ≡ length handles
+  pub only : tally.only.items ≡ map (stands_alone handles held) handles
+
 -- What the calls of the profile, and those on communicators, say of a rank's handles: how many name each, how many of these
 -- don't end it, and which numbers name one alone.
 pub record IsCounted (handles : List Stretch) (uses : List Uses) (calls : List HeldUses) (counted : HandleUses) : Type 0 where

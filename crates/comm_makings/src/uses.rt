@@ -8,7 +8,7 @@ ghost use Rattle.indexmap.specs.IndexMap.{get};
 ghost use Rattle.mpi_model.specs.Names.{holds};
 ghost use Rattle.comm_makings.specs.Each.{EachBecomes, EachIs};
 ghost use Rattle.comm_makings.specs.Objects.{end_uses};
-ghost use Rattle.comm_makings.specs.Uses.{AreAllCounted, AreCounted, IsCountedOf, uses_by, AreHeld, AreOrdered, IsCounted, IsHolderOf, IsLatestOf, but_ends, call_use, call_use_at, count_at, count_for, count_of, ends_with, held_calls, holds_all, is_at, is_stray, is_use, number_on, numbered, places_from, precedes, stands_alone, used_at};
+ghost use Rattle.comm_makings.specs.Uses.{AreAllCounted, AreCounted, IsCountedOf, uses_by, AreHeld, AreOrdered, IsCounted, IsHolderOf, IsLatestOf, IsTally, but_ends, call_use, call_use_at, count_at, count_for, count_of, ends_with, held_calls, holds_all, is_at, is_stray, is_use, number_on, numbered, places_from, precedes, stands_alone, used_at};
 
 use crate::answer::Choice;
 use crate::calls::{Action, CommCall, Making, RankCalls, Uses};
@@ -350,6 +350,17 @@ fn only_of(alloc: Global, handles: &[Handle], held: &[HeldUses]) -> Result<Vec<b
     Ok(only)
 }
 
+/// What groups of calls say of handles.
+fn tally(alloc: Global, handles: &[Handle], held: &[HeldUses]) -> Result<HandleUses, AllocError>
+    ensures { IfOk result (IsTally handles.now held.now) }
+{
+    Ok(HandleUses {
+        counts: counts_of(alloc, handles.len(), held)?,
+        used: used_of(alloc, handles, held)?,
+        only: only_of(alloc, handles, held)?,
+    })
+}
+
 /// What the calls of a rank name: those of the profile, and those on communicators.
 #[tactic(auto, using(crate::proofs::Holders::counted))]
 fn uses_of(alloc: Global, view: &RankView, calls: &RankCalls) -> Result<HandleUses, AllocError>
@@ -358,11 +369,7 @@ fn uses_of(alloc: Global, view: &RankView, calls: &RankCalls) -> Result<HandleUs
     let handles = &view.handles;
     let mut held = held_by(alloc, handles, &calls.uses)?;
     add_calls(&calls.calls, &view.meant, &mut held)?;
-    Ok(HandleUses {
-        counts: counts_of(alloc, handles.len(), &held)?,
-        used: used_of(alloc, handles, &held)?,
-        only: only_of(alloc, handles, &held)?,
-    })
+    tally(alloc, handles, &held)
 }
 
 /// These calls that name windows, or files, and behind them those that end one.
@@ -394,11 +401,7 @@ fn object_uses(
 {
     let uses = with_ends(alloc, object, uses, calls)?;
     let held = held_by(alloc, handles, &uses)?;
-    Ok(HandleUses {
-        counts: counts_of(alloc, handles.len(), &held)?,
-        used: used_of(alloc, handles, &held)?,
-        only: only_of(alloc, handles, &held)?,
-    })
+    tally(alloc, handles, &held)
 }
 
 /// What the calls of a rank name of objects of one sort.
