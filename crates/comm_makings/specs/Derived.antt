@@ -1,5 +1,5 @@
--- What derives from what the ranks called: the communicators, windows and files of a layout, and which communicators are left
--- out of it.
+-- What derives from what the ranks called: the communicators, windows and files of a layout, and which communicators
+-- are left out of it.
 use Rattle.std.specs.Prelude.{◌≡◌, ◌⊎◌, ◌++◌, ℕ, List, Some, Vec, length}
 use Rattle.std.specs.List.{Contains}
 use Rattle.std.specs.declared.alloc.Global.{Global}
@@ -38,8 +38,8 @@ pub record IsLeftOut (left_out : List LeftOut) (rank call count : ℕ) : Type 0 
   pub of_call : left.call ≡ call
   pub counted : left.uses ≡ count
 
--- Nothing is lost: each handle that a returned call gives is a member's of a communicator that is made, which is written
--- where a call of the profile names it, or it is left out, and the calls that name it are counted.
+-- Nothing is lost: each handle that a returned call gives is a member's of a communicator that is made, which is
+-- written where a call of the profile names it, or it is left out, and the calls that name it are counted.
 pub record AreAccounted (ranks : List RankCalls) (views : List RankView) (uses : List HandleUses) (made : List Made) (left_out : List LeftOut) : Type 0 where
   pub each : (rank at handle : ℕ) (call : CommCall) (giver : Giver) (meant : Meant) → call_at ranks rank at ≡ Some call → giving call.action ≡ Some giver
       → meant_at views rank at ≡ Some meant → meant.gives ≡ gives.Handle handle → IsOfMade made rank handle ⊎ IsLeftOut left_out rank call.call (count_at uses rank (Some handle))
