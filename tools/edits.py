@@ -1,8 +1,9 @@
 """What a wrong body is: an edit, the functions that it changes, and what the prover says of these.
 
-An edit is a file NAME.edit with a line `file: src/x.rt` and then pairs of lines `old: TEXT` and `new: TEXT`, each TEXT one
-line and each `old` standing once. It turns the meaning of a function, and the prover must refuse that function. The edits of
-a crate stand in edits/CRATE/. Those that every `rt ci` tries stand in crates/CRATE/must-fail/ too: rt takes no links.
+An edit is a file NAME.edit with a line `file: src/x.rt` and then pairs of lines `old: TEXT` and `new: TEXT`, each TEXT
+one line and each `old` standing once. It turns the meaning of a function, and the prover must refuse that function. The
+edits of a crate stand in edits/CRATE/. Those that every `rt ci` tries stand in crates/CRATE/must-fail/ too: rt takes no
+links.
 """
 import pathlib
 import re
@@ -26,8 +27,8 @@ LOST_NAME = re.compile(r"has no field|is not in scope|has no `|was not admitted|
 
 @dataclass(frozen=True)
 class Function:
-    """A function of a source file, its rows from its attributes on, the impl or trait that it stands in, and the cycle of
-    functions that it is proved with."""
+    """A function of a source file, its rows from its attributes on, the impl or trait that it stands in, and the cycle
+    of functions that it is proved with."""
 
     file: str
     name: str
@@ -181,7 +182,8 @@ def sources_of(name):
 
 
 def standing(names):
-    """Of each edit of these crates its crate, its name, and why it can't be put into the sources as they are; empty where it can."""
+    """Of each edit of these crates its crate, its name, and why it can't be put into the sources as they are; empty
+    where it can."""
     for name in names:
         texts = sources_of(name)
         for path in edit_files(name):

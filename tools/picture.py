@@ -1,8 +1,9 @@
 #!/usr/bin/env python3
 """Draws docs/crates.svg from crates.txt: tools/picture.py [--check]
 
-An arrow leads from each crate to those that use it, except where a longer way leads there anyway. It asks for `dot` (Graphviz). With
---check it draws nothing, asks for nothing, and fails where the picture that is there has other crates or arrows than crates.txt.
+An arrow leads from each crate to those that use it, except where a longer way leads there anyway. It asks for `dot`
+(Graphviz). With --check it draws nothing, asks for nothing, and fails where the picture that is there has other crates
+or arrows than crates.txt.
 """
 import html
 import pathlib

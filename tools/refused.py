@@ -1,10 +1,10 @@
 """The record of what was refused: edits/refused.txt, one line a crate.
 
-A line says by which digest of the crate all of its edits were refused, how many these were, and on which day. The digest is
-of the crate's src/ and specs/ without comments and its edits, and of the public contracts of the crates below it: their
-specs/, and their sources without private functions, bodies, imports and comments. So a line is stale where something
-changed on which it rests that an edit could notice. Only tools/try_edits writes a line, and only where it saw every edit
-refused.
+A line says by which digest of the crate all of its edits were refused, how many these were, and on which day. The
+digest is of the crate's src/ and specs/ without comments and its edits, and of the public contracts of the crates below
+it: their specs/, and their sources without private functions, bodies, imports and comments. So a line is stale where
+something changed on which it rests that an edit could notice. Only tools/try_edits writes a line, and only where it saw
+every edit refused.
 """
 import datetime
 import functools
@@ -32,7 +32,8 @@ def head_rows(rows, function):
 
 
 def is_public(rows, function):
-    """Whether a function can be called from another crate, as far as its text tells: also one of a trait or its impl."""
+    """Whether a function can be called from another crate, as far as its text tells: also one of a trait or its
+    impl."""
     return function.is_of_trait or any(it.lstrip().startswith(("pub fn", "pub const fn", "pub unsafe fn")) for it in rows[function.first : function.last + 1])
 
 

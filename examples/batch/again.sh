@@ -1,5 +1,6 @@
 #!/bin/sh
-# again.sh: jobs that run twice, are lost and are repeated make the same report as one run over all texts. Ends with 0 if so.
+# again.sh: jobs that run twice, are lost and are repeated make the same report as one run over all texts. Ends with 0
+# if so.
 set -eu
 cd "$(dirname "$0")"
 mpimatch=${MPIMATCH:-../../mpimatch}

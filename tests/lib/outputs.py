@@ -1,9 +1,10 @@
 """The commands whose outputs stand in README.md and docs/tutorial.md: how they are found, run and written anew.
 
-A block that is fenced as text and begins with `$ ` has commands, each with what it prints: its standard output where there is any,
-else its standard error. They run from a folder that looks like a clone with a trace: `mpimatch` is the program, `examples` the
-repository's, and `mpimatch-trace` has the texts of examples/hangs/traces/NAME, by the last comment `<!-- trace: NAME -->` above. A
-page's commands run one after another in one folder. A line `..` stands for any lines.
+A block that is fenced as text and begins with `$ ` has commands, each with what it prints: its standard output where
+there is any, else its standard error. They run from a folder that looks like a clone with a trace: `mpimatch` is the
+program, `examples` the repository's, and `mpimatch-trace` has the texts of examples/hangs/traces/NAME, by the last
+comment `<!-- trace: NAME -->` above. A page's commands run one after another in one folder. A line `..` stands for any
+lines.
 """
 import pathlib
 import re
@@ -56,8 +57,8 @@ def fits(shown, printed):
 
 
 def run_page(program, page, each):
-    """Runs the commands of a page. `each(command, shown, printed)` gives the lines that are to stand below a command; the page with
-    these lines is given."""
+    """Runs the commands of a page. `each(command, shown, printed)` gives the lines that are to stand below a command;
+    the page with these lines is given."""
     with tempfile.TemporaryDirectory(prefix="outputs-") as folder:
         room = Room(program, folder)
 

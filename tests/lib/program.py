@@ -1,4 +1,5 @@
-"""What the scripts of tests/run share: the built program, runs of it, texts of calls, sizes of frames, and the count of checks."""
+"""What the scripts of tests/run share: the built program, runs of it, texts of calls, sizes of frames, and the count of
+checks."""
 import importlib.machinery
 import importlib.util
 import json
@@ -24,8 +25,9 @@ CALLS_OF_A_SEGMENT = 32_768
 LONGEST, COUNT = 67_108_864, 4
 # rank, first place and count of a run; kind of a cell; kind, wall and CPU time of an event
 RUN, CELL, EVENT = 16, 1, 17
-# By docs/formats/frames.md the Enter of a call that waits for requests has their number (4 bytes) and each of them (8), and its Return
-# as many told sources (4 each). So many calls of so many requests, all in one run, fit a frame, and no more.
+# By docs/formats/frames.md the Enter of a call that waits for requests has their number (4 bytes) and each of them (8),
+# and its Return as many told sources (4 each). So many calls of so many requests, all in one run, fit a frame, and no
+# more.
 REQUESTS = 32_000
 MOST_HEAVY = (LONGEST - COUNT - RUN) // (2 * (CELL + EVENT + 4) + 12 * REQUESTS)
 
@@ -48,7 +50,8 @@ class Checks:
         self.show(f"note: {why}")
 
     def end(self):
-        """Prints the counts, and gives the status of the script: it fails where a check failed, or none ran or was left out."""
+        """Prints the counts, and gives the status of the script: it fails where a check failed, or none ran or was left
+        out."""
         print(f"{self.passed} passed, {self.failed} failed")
         return 0 if (self.passed or self.left_out) and not self.failed else 1
 
@@ -82,8 +85,9 @@ def do_some(items, work, lay_out, queue, out):
 
 
 def by_workers(checks, items, work, lay_out=None):
-    """Calls `work(checks, item, room)` of each item, by as many processes as there are processors, and gives what it answered,
-    in the order of the items. The room is a folder of each process, in which `lay_out(room)` may put files first."""
+    """Calls `work(checks, item, room)` of each item, by as many processes as there are processors, and gives what it
+    answered, in the order of the items. The room is a folder of each process, in which `lay_out(room)` may put files
+    first."""
     items, found, workers = list(items), {}, []
     sys.stdout.flush()
     with tempfile.TemporaryDirectory(prefix="workers-") as folder, open(f"{folder}/queue", "wb+") as queue:
@@ -116,7 +120,8 @@ def by_workers(checks, items, work, lay_out=None):
 
 
 def found_program():
-    """The program of these sources: bin/mpimatch, where the digest beside it is theirs, else the one that was built here."""
+    """The program of these sources: bin/mpimatch, where the digest beside it is theirs, else the one that was built
+    here."""
     program, beside = TOP / "bin" / "mpimatch", TOP / "bin" / "sources.sha256"
     if program.exists() and beside.exists():
         digest, kit = beside.read_text().rstrip("\n").split(" ", 1)
@@ -127,8 +132,8 @@ def found_program():
 
 
 def program_of(words):
-    """The program that is the first of these words (without one that of these sources), and the other words; None where it
-    isn't there."""
+    """The program that is the first of these words (without one that of these sources), and the other words; None where
+    it isn't there."""
     program = pathlib.Path(words[0]).resolve() if words else found_program()
     if not program.is_file() or not os.access(program, os.X_OK):
         print(f"{program} is not built: run ./mpimatch --version, which proves and builds it")
@@ -153,7 +158,8 @@ def script(name, folder=TESTS / "run"):
 
 
 def run(program, room, *words, manifest=None, **how):
-    """The status of the program in a folder, and its two streams; with a manifest, that is written first, and named last."""
+    """The status of the program in a folder, and its two streams; with a manifest, that is written first, and named
+    last."""
     if manifest is not None:
         (room / "manifest.json").write_text(json.dumps(manifest))
         words = [*words, "layout.json", "manifest.json"]
@@ -162,7 +168,8 @@ def run(program, room, *words, manifest=None, **how):
 
 
 def call(name, at, *parameters, shift=0, returns=True):
-    """The text of a call, the one of this number of its rank: it was entered at that second, and returned half a second later."""
+    """The text of a call, the one of this number of its rank: it was entered at that second, and returned half a second
+    later."""
     lines = [f"{name} entering at walltime {at + shift}.0, cputime 0.0 seconds in thread 0."]
     lines += [f"int {it}" for it in parameters]
     if returns:

@@ -1,7 +1,7 @@
 /* Laid before a program by LD_PRELOAD: refuses one of its requests to the system, and notes what it met.
  *
- * REFUSE=KIND:N:HOW names the request, the Nth of its kind from 1 on (0: none), and how it is refused; REFUSE_SEEN names a file
- * of the size of `struct seen`, which gets what was met.
+ * REFUSE=KIND:N:HOW names the request, the Nth of its kind from 1 on (0: none), and how it is refused; REFUSE_SEEN
+ * names a file of the size of `struct seen`, which gets what was met.
  * After REFUSE_SECONDS the program ends by a signal.
  *
  *     memory    malloc, realloc of the program itself        fail

@@ -1,4 +1,5 @@
-"""Runs of the built program in which the system refuses one request: what tests/run/run_refusals and tests/run/run_devices share."""
+"""Runs of the built program in which the system refuses one request: what tests/run/run_refusals and
+tests/run/run_devices share."""
 import itertools
 import mmap
 import os
@@ -14,16 +15,18 @@ from program import CASES, LIB, TOP, is_alone
 SECONDS, STACK = 120, 4096
 HEAD = struct.Struct("5Q256sQ")
 
-# how a run ended: its status, its two streams, what was met of the kind in all and before a file was opened; whether one was
-# refused, its file, what that had moved before, the stack and where the program lies; and the most memory of the run, in KB
+# how a run ended: its status, its two streams, what was met of the kind in all and before a file was opened; whether
+# one was refused, its file, what that had moved before, the stack and where the program lies; and the most memory of
+# the run, in KB
 Ran = namedtuple("Ran", "status out err met before refused file moved stack base memory")
 # a name, the words of the run, and the folder in which it runs
 Case = namedtuple("Case", "name words room")
 
 
 def refusable(checks, program, room):
-    """The program and tests/lib/refuse.c as a library that is laid before it; neither where this machine can't do that. A
-    program without a loader takes no library: then the one beside it does, which is the same but for its C library."""
+    """The program and tests/lib/refuse.c as a library that is laid before it; neither where this machine can't do that.
+    A program without a loader takes no library: then the one beside it does, which is the same but for its C
+    library."""
     if is_alone(program):
         program = program.with_name(f"{program.name}-dynamic")
     try:
@@ -52,7 +55,8 @@ def compiled(room):
 
 
 class Refuser:
-    """Runs the program, with one request refused by a compiled library, in the folder of a case; what it notes lies in a room."""
+    """Runs the program, with one request refused by a compiled library, in the folder of a case; what it notes lies in
+    a room."""
 
     def __init__(self, program, library, room):
         self.program, self.library, self.room, self.runs = program, library, room, 0
@@ -88,15 +92,17 @@ def without_words(end):
 
 
 def without_sites(case, end):
-    """How `explain` or `graph` ended, without what a second look at the texts finds: where calls stand, and names of functions that
-    aren't read. A person's words are left in outline, since ranks that differ in a line alone share one without it."""
+    """How `explain` or `graph` ended, without what a second look at the texts finds: where calls stand, and names of
+    functions that aren't read. A person's words are left in outline, since ranks that differ in a line alone share one
+    without it."""
     status, out, err = end
     plain = [re.sub(r",? ?[\w./-]+\.(txt|c)\b(:\d+)?( in \w+)?", "", it) for it in out.splitlines()]
     return status, [it for it in plain if case.words[0] == "graph" or not it.startswith(" ")], err
 
 
 def second_looks(case, whole, ran):
-    """How `explain` and `graph` may end where they can't look at a text once more: without what that would have told."""
+    """How `explain` and `graph` may end where they can't look at a text once more: without what that would have
+    told."""
     if case.words[:1] in (["explain"], ["graph"]) and without_sites(case, ended(ran)) == without_sites(case, ended(whole)):
         yield ended(ran)
 
@@ -118,9 +124,10 @@ class Sweep:
         self.checks, self.refuser, self.refused = checks, refuser, Counter()
 
     def over(self, case, kind, how, wanted, numbers=None, note=None, share=(0, 1)):
-        """Refuses the requests of these numbers (None: each) until a run meets none, and looks how each run ends. `wanted` tells
-        by the case, the run without a refusal and the one with it, how that may end, with words below a fault's line or
-        without; `note` gets the latter. Of a share (K, N) every Nth of the numbers is refused, from the Kth on."""
+        """Refuses the requests of these numbers (None: each) until a run meets none, and looks how each run ends.
+        `wanted` tells by the case, the run without a refusal and the one with it, how that may end, with words below a
+        fault's line or without; `note` gets the latter. Of a share (K, N) every Nth of the numbers is refused, from the
+        Kth on."""
         whole, wrong = self.refuser.run(case, kind), []
         for at in itertools.islice(numbers(whole) if numbers else itertools.count(1), share[0], None, share[1]):
             ran = self.refuser.run(case, kind, at, how)

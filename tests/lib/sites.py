@@ -1,4 +1,5 @@
-"""Where a program asks for memory: its functions and the calls between them, read from the file of the program (ELF, x86-64)."""
+"""Where a program asks for memory: its functions and the calls between them, read from the file of the program (ELF,
+x86-64)."""
 import bisect
 import struct
 
@@ -7,8 +8,8 @@ ALLOCATORS = ("rattle_alloc", "rattle_realloc")
 
 
 class Sites:
-    """The places in functions of some crates from which a request for memory comes: each call of an allocator, or of a function
-    of another crate that comes to one. `all` has them, each as its place in the program."""
+    """The places in functions of some crates from which a request for memory comes: each call of an allocator, or of a
+    function of another crate that comes to one. `all` has them, each as its place in the program."""
 
     def __init__(self, path, crates):
         self.crates = set(crates)
@@ -44,7 +45,8 @@ class Sites:
         return found
 
     def askers(self, calls):
-        """The allocators, and the functions of other crates that come to one of them by functions of other crates alone."""
+        """The allocators, and the functions of other crates that come to one of them by functions of other crates
+        alone."""
         callers = {}
         for at, to in calls.items():
             callers.setdefault(to, set()).add(self.function(at))
@@ -58,8 +60,8 @@ class Sites:
         return found
 
     def of_stack(self, base, stack):
-        """The place of `all` from which a request came, by the stack: its first word is the address to which the request
-        returns, and the program lies at `base`. None where no chain of direct calls leads there."""
+        """The place of `all` from which a request came, by the stack: its first word is the address to which the
+        request returns, and the program lies at `base`. None where no chain of direct calls leads there."""
         now = self.function(stack[0] - base)
         for it in stack[1:]:
             at = it - base - 5

@@ -9,6 +9,11 @@
 //! - [`envelopes`], [`calls`]: a call with what it names, as
 //!   `MPI_Send to rank 1 of MPI_COMM_WORLD, tag 7, 65536 elements`
 //! - [`functions`]: a call by its function and communicator alone; [`names`]: an operation by its number
+//!
+//! To change something, open:
+//!
+//! - how a call is written: `specs/Words.antt`; [`calls`], [`envelopes`]
+//! - how ranks are written: `specs/Ranges.antt`; [`ranges`]
 #![tactic(auto)]
 
 mod calls;

@@ -5,7 +5,7 @@ ghost use Rattle.call_words.specs.Texts.{Adds};
 
 use crate::text::Text;
 
-/// A line of how many more there are than are named, as `  and 3 more`: none where all are.
+/// The line `  and 3 more`, which says how many more there are than are named; nothing if all are.
 pub fn put_more(out: &mut Text, more: usize)
     ensures { Adds out.old out.new (more_text more) }
 {

@@ -6,8 +6,8 @@ ghost use Rattle.call_words.specs.Texts.{Adds};
 use itoa::Buffer;
 use std::alloc::{AllocError, Global};
 
-/// A text in memory, to which pieces are added. Where memory was wanting for one it is not whole, and
-/// takes no more: who builds it asks once, at its end.
+/// A text in memory, to which pieces are added. If memory is refused for a piece, the text stays incomplete and takes
+/// no more, so its builder checks only once, at the end.
 #[derive(Debug, Drop)]
 pub struct Text {
     bytes: Vec<u8>,
@@ -26,7 +26,7 @@ impl Text {
         }
     }
 
-    /// Adds a piece at the end.
+    /// Appends a piece, unless memory was refused before.
     pub fn put(&mut self, piece: &[u8])
         ensures { Adds self.old self.new piece.now }
     {
@@ -35,7 +35,7 @@ impl Text {
         }
     }
 
-    /// Adds a number.
+    /// Appends a number in decimal digits, unless memory was refused before.
     pub fn put_number(&mut self, n: u64)
         ensures { Adds self.old self.new (decimal n) }
     {
@@ -43,14 +43,14 @@ impl Text {
         self.put(buffer.format(n).as_bytes());
     }
 
-    /// Takes no more, since memory was wanting for a piece.
+    /// Marks the text as incomplete, because memory was refused for a piece. It takes no more.
     pub fn give_up(&mut self)
         ensures { self.new.is_whole ≡ false }
     {
         self.is_whole = false;
     }
 
-    /// The bytes of the text, where it is whole.
+    /// The bytes of the text. Fails with `AllocError` if memory was refused for one of its pieces.
     pub fn into_bytes(self) -> Result<Vec<u8>, AllocError>
         ensures bytes { IfOk result (λ bytes. bytes.items ≡ self.bytes.items) }
         ensures whole { IfOk result (λ _. self.is_whole ≡ true) }

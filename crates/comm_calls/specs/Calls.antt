@@ -20,8 +20,8 @@ use Rattle.comm_calls.specs.Uses.{AreOpen, AreUses, changed_at, changed_by, chan
 use Rattle.comm_calls.specs.declared.function.Function.{Function}
 use Rattle.comm_calls.specs.declared.uses.NumberUses.{NumberUses}
 
--- The groups of calls of the profile that name one number of an object of one sort; of each number the group that goes on, by
--- its place among them.
+-- The groups of calls of the profile that name one number of an object of one sort; of each number the group that goes
+-- on, by its place among them.
 pub record ReadUses : Type 0 where
   pub groups : List Uses
   pub going : List (ℕ × ℕ)
@@ -30,9 +30,9 @@ pub record ReadUses : Type 0 where
 abbrev pub read_of : NumberUses → ReadUses
 read_of uses = record { groups = uses.groups.items; going = uses.going.entries }
 
--- What was read of a text: how many calls, the numbers beside MPI_COMM_WORLD and MPI_COMM_SELF, the size of MPI_COMM_WORLD,
--- the calls on communicators and groups, windows and files, and of each of the three sorts of objects which calls of the
--- profile name which numbers.
+-- What was read of a text: how many calls, the numbers beside MPI_COMM_WORLD and MPI_COMM_SELF, the size of
+-- MPI_COMM_WORLD, the calls on communicators and groups, windows and files, and of each of the three sorts of objects
+-- which calls of the profile name which numbers.
 pub record ReadCalls : Type 0 where
   pub place : ℕ
   pub world : Option ℕ

@@ -1,6 +1,6 @@
--- Which calls of the profile name which communicators, windows and files by their numbers. A number comes back once what it
--- names is freed or closed (MPI 4.0, 7.4.3, 12.2.5 and 14.2.2), so calls that name one number are told apart where a call
--- between them gives or ends it.
+-- Which calls of the profile name which communicators, windows and files by their numbers. A number comes back once
+-- what it names is freed or closed (MPI 4.0, 7.4.3, 12.2.5 and 14.2.2), so calls that name one number are told apart
+-- where a call between them gives or ends it.
 use Rattle.std.specs.Prelude.{◌≡◌, ◌≢◌, ◌<◌, ◌≤◌, ℕ, ◌+◌, ◌-◌, ◌^◌, ◌==◌, List, [], ◌∷◌, ◌++◌, Option, Some, None, Result, Ok, Err, codes, cond, count_by, is_some, length, min, nat_eq, slice_get, slice_set, if◌then◌else◌, Bool, false}
 use Rattle.std.specs.List.{range_with_len}
 use Rattle.std.specs.Option.{option_and_then}
@@ -126,8 +126,8 @@ is_number number (Some named) = named == number
 abbrev pub count_named : (ℕ → Option ℕ) → ℕ → ℕ → ℕ → ℕ
 count_named named number first many = count_by (λ place. is_number number (named place)) (range_with_len first many)
 
--- Calls from the first to the last that name one number, and between which none gives or frees it; all that name it there
--- are counted.
+-- Calls from the first to the last that name one number, and between which none gives or frees it; all that name it
+-- there are counted.
 pub record IsGroup (named changed : ℕ → Option ℕ) (group : Uses) : Type 0 where
   pub first : named group.first ≡ Some group.number
   pub last : named group.last ≡ Some group.number

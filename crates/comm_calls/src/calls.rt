@@ -18,8 +18,8 @@ use mpi_model::{Call, Object};
 use std::alloc::Global;
 use std::marker::Model;
 
-/// What the calls of a text say of communicators and groups, windows and files. It is given the calls in their order, each
-/// once: as the sink of a walk over the text, or by [`read`](CommCalls::read).
+/// Collects what the calls of a text say of communicators and groups, windows and files. It gets the calls in their
+/// order, each once: as the sink of a walk over the text, or by [`read`](CommCalls::read).
 #[derive(Drop)]
 pub struct CommCalls {
     alloc: Global,
@@ -106,7 +106,7 @@ fn changed_of(call: &CommCall) -> (Object, Option<u32>)
 impl CommCalls {
     ghost use Rattle.comm_calls.specs.Calls.{AddsSaid, NamesCall, Reads, ReadsNumber, TakesCall};
 
-    /// What no call says. Takes no memory.
+    /// The collection before the first call. Takes no memory.
     pub fn new(alloc: Global) -> CommCalls
         ensures { result ≡ nothing_read }
     {
@@ -180,8 +180,9 @@ impl CommCalls {
         self.name_number(call.object(), named_number(call))
     }
 
-    /// Reads the next call of the text, which is this one of the profile or none. Memory grows only with a call that makes,
-    /// tells or frees a communicator or a group, and with the first call behind it that names the number.
+    /// Reads the next call of the text: `raw` is the call as it stands there, `call` is what the profile makes of it.
+    /// Memory grows only with a call that makes, tells or frees a communicator or a group, and with the first call
+    /// after it that names the number. If memory runs out, nothing changes.
     pub fn read(&mut self, raw: &RawCall, call: &Call) -> Result<(), Memory>
         ensures ok { OnOk result (Reads self.old raw.now call.now self.new) }
         ensures err { OnErr result (self.new ≡ self.old) }
@@ -205,15 +206,15 @@ impl CommCalls {
         self.place
     }
 
-    /// The number beside MPI_COMM_WORLD in the first parameter that says one.
+    /// The number that stands beside the name MPI_COMM_WORLD in the first parameter that has both; `None` if none has.
     pub fn world(&self) -> Option<u32>
         ensures { result ≡ self.now.world }
     {
         self.world
     }
 
-    /// The calls on communicators and groups, windows and files, with the first numbers beside MPI_COMM_WORLD and MPI_COMM_SELF,
-    /// the first size of MPI_COMM_WORLD that is told, and which calls of the profile name which numbers.
+    /// The calls on communicators and groups, windows and files, with the first numbers beside MPI_COMM_WORLD and
+    /// MPI_COMM_SELF, the first size of MPI_COMM_WORLD that is told, and which calls of the profile name which numbers.
     pub fn into_rank_calls(self) -> RankCalls
         ensures world { result.world ≡ self.world }
         ensures own { result.own ≡ self.own }

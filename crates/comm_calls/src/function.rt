@@ -41,8 +41,8 @@ pub(crate) enum Grouper {
     UnreadNew,
 }
 
-/// By which parameter a function gives a communicator from which nothing is derived, and by which one it names the
-/// communicator that it is called on.
+/// The parameters of a function whose communicators aren't derived: the one that gives the communicator, and the one
+/// that names the communicator it is called on.
 #[derive(Clone, Copy)]
 pub(crate) enum Giver {
     /// MPI_Comm_split_type: `newcomm`, on `oldcomm` or `comm`.

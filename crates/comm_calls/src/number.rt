@@ -1,4 +1,5 @@
-//! What one parameter says: a communicator, a group, a window, a file, a color, a number. What can't be read is unknown.
+//! What one parameter says: a communicator, a group, a window, a file, a color, a number. What can't be read is
+//! unknown.
 
 ghost use Rattle.std.specs.Prelude.{◌≡◌, IfOk, option_and_then, option_map};
 ghost use Rattle.std.specs.Option.{option_copied};

@@ -9,7 +9,7 @@ ghost use Rattle.comm_calls.specs.Parameters.{any_text, either_text, note_of, te
 use crate::function::is;
 use dumpi_text::RawCall;
 
-/// The text of the first parameter of a name.
+/// The text of the first parameter with this name; `None` if there is none.
 pub(crate) fn text_of<'a>(raw: &'a RawCall, name: &str) -> Option<&'a [u8]>
     ensures { option_copied result ≡ text_of name.now raw.now }
 {

@@ -55,6 +55,7 @@ pub(crate) struct NumberUses {
 }
 
 impl NumberUses {
+    /// No group of calls. It takes no memory.
     pub(crate) fn new(alloc: Global) -> NumberUses
         ensures groups { result.groups.items ≡ [] }
         ensures going { result.going.entries ≡ [] }

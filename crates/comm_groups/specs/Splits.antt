@@ -19,7 +19,8 @@ split_cmp x y = ordering_then (nat_cmp x.color y.color) (ordering_then (int_cmp 
 abbrev pub colored : Group → List (ℕ × ℕ)
 colored g = map (λ r. (g.color, r)) g.ranks
 
--- One group for each color that is named: put one behind the other, the groups have all ranks that name a color, in order.
+-- One group for each color that is named: put one behind the other, the groups have all ranks that name a color, in
+-- order.
 pub record IsSplit (asked : List Colored) (groups : List Group) : Type 0 where
   pub order : List Colored
   pub same : IsPermutation asked order

@@ -12,6 +12,7 @@ use std::marker::Model;
 #[derive(Clone, Copy, Debug, PartialEq, Eq, PartialOrd, Ord)]
 pub struct Colored {
     pub color: u32,
+    /// By which the members of one color are ordered.
     pub key: i32,
     /// Its rank in the parent.
     pub rank: u32,
@@ -81,8 +82,8 @@ fn groups_of(alloc: Global, order: &[Colored]) -> Result<Vec<ColorGroup>, AllocE
     Ok(groups)
 }
 
-/// Of each color the ranks that name it, in the order of their keys and then of their ranks in the parent; the colors
-/// rise. It sorts: n log n.
+/// For each color, in rising order, the ranks that name it, in the order of their keys and then of their ranks in the
+/// parent (MPI 4.0, 7.4.2). It sorts, in n log n. Fails with `AllocError` when memory is refused.
 pub fn split(alloc: Global, asked: Vec<Colored>) -> Result<Vec<ColorGroup>, AllocError>
     ensures { IfOk result (λ v. IsSplit asked.items v.items) }
 {

@@ -7,7 +7,7 @@ ghost use Rattle.comm_groups.specs.Grids.{AreParts, are_sizes, first_alike, grid
 use crate::color::{ColorGroup, Colored, split};
 use std::alloc::{AllocError, Global};
 
-/// How many ranks a grid of these dimensions has; `None` where a dimension has size 0, or the grid more ranks than the
+/// How many ranks a grid of these dimensions has; `None` if a dimension has size 0 or the grid has more ranks than the
 /// limit.
 pub fn grid_size(dims: &[u32], limit: u32) -> Option<u32>
     ensures { result ≡ size_within limit dims.now }
@@ -71,7 +71,7 @@ fn placed(
 }
 
 /// The parts of a grid (MPI_Cart_sub, MPI 4.0, 8.5): of the ranks below its size those that agree in the coordinates of
-/// the dimensions that do not remain, in row-major order.
+/// the dimensions that do not remain, in row-major order. Fails with `AllocError` when memory is refused.
 pub fn grid_parts(
     alloc: Global,
     dims: &[u32],
@@ -86,7 +86,7 @@ pub fn grid_parts(
     split(alloc, placed(alloc, dims, remain, size)?)
 }
 
-/// The dimensions that remain.
+/// The sizes of the dimensions that remain. Fails with `AllocError` when memory is refused.
 pub fn kept_dims(alloc: Global, dims: &[u32], remain: &[bool]) -> Result<Vec<u32>, AllocError>
     requires { length remain.now ≡ length dims.now }
     ensures { IfOk result (λ v. v.items ≡ kept remain.now dims.now) }

@@ -20,7 +20,7 @@ pub(crate) fn set_of(alloc: Global, ranks: &[u32]) -> Result<BTreeSet<u64>, Allo
     Ok(set)
 }
 
-/// Whether some rank stands in the list twice.
+/// Whether some rank is in the list twice.
 pub(crate) fn has_double(alloc: Global, ranks: &[u32]) -> Result<bool, AllocError>
     ensures { IfOk result (λ double. double ≡ has_double ranks.now) }
 {
@@ -52,7 +52,8 @@ pub(crate) fn are_ranks(alloc: Global, size: usize, ranks: &[u32]) -> Result<boo
     Ok(!double)
 }
 
-/// The members of the first group that the second has, in the first's order (MPI 4.0, 7.3.2).
+/// The members of the first group that the second has, in the first's order (MPI 4.0, 7.3.2). Fails with `AllocError`
+/// when memory is refused.
 pub fn intersection(alloc: Global, first: &[u32], second: &[u32]) -> Result<Vec<u32>, AllocError>
     ensures { IfOk result (λ v. v.items ≡ intersection_of first.now second.now) }
 {
@@ -66,7 +67,8 @@ pub fn intersection(alloc: Global, first: &[u32], second: &[u32]) -> Result<Vec<
     Ok(members)
 }
 
-/// The members of the first group that the second lacks, in the first's order (MPI 4.0, 7.3.2).
+/// The members of the first group that the second lacks, in the first's order (MPI 4.0, 7.3.2). Fails with `AllocError`
+/// when memory is refused.
 pub fn difference(alloc: Global, first: &[u32], second: &[u32]) -> Result<Vec<u32>, AllocError>
     ensures { IfOk result (λ v. v.items ≡ difference_of first.now second.now) }
 {
@@ -80,7 +82,8 @@ pub fn difference(alloc: Global, first: &[u32], second: &[u32]) -> Result<Vec<u3
     Ok(members)
 }
 
-/// The first group, and then the members of the second that the first lacks (MPI 4.0, 7.3.2).
+/// The first group, and then the members of the second that the first lacks (MPI 4.0, 7.3.2). Fails with `AllocError`
+/// when memory is refused.
 pub fn union(alloc: Global, first: &[u32], second: &[u32]) -> Result<Vec<u32>, AllocError>
     ensures { IfOk result (λ v. v.items ≡ union_of first.now second.now) }
 {
@@ -109,7 +112,7 @@ pub(crate) fn members_at(
 }
 
 /// Only the members with these ranks, in the order of the ranks (MPI 4.0, 7.3.2); `None` where a rank is outside the
-/// group or named twice.
+/// group or named twice. Fails with `AllocError` when memory is refused.
 pub fn incl(alloc: Global, group: &[u32], ranks: &[u32]) -> Result<Option<Vec<u32>>, AllocError>
     ensures { IfOk result (λ found. option_map (λ v. v.items) found ≡ incl_of group.now ranks.now) }
 {
@@ -134,7 +137,7 @@ fn members_without(alloc: Global, group: &[u32], ranks: &[u32]) -> Result<Vec<u3
 }
 
 /// All members but those with these ranks, in the group's order (MPI 4.0, 7.3.2); `None` where a rank is outside the
-/// group or named twice.
+/// group or named twice. Fails with `AllocError` when memory is refused.
 pub fn excl(alloc: Global, group: &[u32], ranks: &[u32]) -> Result<Option<Vec<u32>>, AllocError>
     ensures { IfOk result (λ found. option_map (λ v. v.items) found ≡ excl_of group.now ranks.now) }
 {

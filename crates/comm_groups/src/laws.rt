@@ -2,8 +2,8 @@
 
 ghost use Rattle.comm_groups.specs.Grids.{PartsAgree};
 
-/// Two ranks of a grid are in one part exactly if their coordinates agree in the dimensions that do not remain (MPI 4.0,
-/// 8.5).
+/// Two ranks of a grid are in one part exactly if their coordinates agree in the dimensions that do not remain (MPI
+/// 4.0, 8.5).
 pub fn parts_agree()
     ensures { PartsAgree }
 {}

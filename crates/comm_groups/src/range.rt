@@ -74,8 +74,8 @@ fn push_ranks(ranks: &mut Vec<u32>, range: RankRange) -> Result<(), AllocError>
     Ok(())
 }
 
-/// The ranks of the ranges, one range after the other; `None` where one is no range, or the ranks are more than the group
-/// has. It makes no list that is longer than the group.
+/// The ranks of the ranges, one range after the other; `None` where one is no range, or the ranks are more than the
+/// group has. It makes no list that is longer than the group.
 fn all_ranks(
     alloc: Global,
     size: usize,
@@ -97,8 +97,9 @@ fn all_ranks(
     Ok(Some(ranks))
 }
 
-/// Only the members with the ranks of the ranges, one range after the other (MPI 4.0, 7.3.2); `None` where a range has no
-/// stride or goes away from its last rank, or a rank is outside the group or named twice.
+/// Only the members with the ranks of the ranges, one range after the other (MPI 4.0, 7.3.2); `None` where a range has
+/// no stride or goes away from its last rank, or a rank is outside the group or named twice. Fails with `AllocError`
+/// when memory is refused.
 pub fn range_incl(
     alloc: Global,
     group: &[u32],
@@ -113,7 +114,7 @@ pub fn range_incl(
 }
 
 /// All members but those with the ranks of the ranges, in the group's order (MPI 4.0, 7.3.2); `None` as for
-/// [`range_incl`].
+/// [`range_incl`]. Fails with `AllocError` when memory is refused.
 pub fn range_excl(
     alloc: Global,
     group: &[u32],

@@ -18,8 +18,8 @@ fn places_of(alloc: Global, told: &[u32]) -> Result<Vec<usize>, AllocError>
     Ok(order)
 }
 
-/// Who was told rank 0, who rank 1, and so on, of those that were told these ranks; `None` where these are not the ranks
-/// from 0 on, each once.
+/// The members by the ranks that they were told: who was told rank 0, who rank 1, and so on. `None` if these are not
+/// the ranks from 0 on, each once. Fails with `AllocError` when memory is refused.
 pub fn order_of(alloc: Global, told: &[u32]) -> Result<Option<Vec<usize>>, AllocError>
     ensures none { IfOk result (λ o. MatchOption o (are_each_once told.now ≡ false) (λ _. are_each_once told.now ≡ true)) }
     ensures order { IfOk result (λ found. IfSome found (λ v. IsOrderOf told.now v.items)) }

@@ -1,5 +1,5 @@
--- What derives from what the ranks called: the communicators, windows and files of a layout, and which communicators are left
--- out of it.
+-- What derives from what the ranks called: the communicators, windows and files of a layout, and which communicators
+-- are left out of it.
 use Rattle.std.specs.Prelude.{◌≡◌, ◌⊎◌, ◌++◌, ℕ, List, Some, Vec, length}
 use Rattle.std.specs.List.{Contains}
 use Rattle.std.specs.declared.alloc.Global.{Global}
@@ -37,15 +37,15 @@ pub record IsLeftOut (left_out : List LeftOut) (rank call count : ℕ) : Type 0 
   pub of_call : left.call ≡ call
   pub counted : left.uses ≡ count
 
--- Nothing is lost: each handle that a returned call gives is a member's of a communicator that is made, which is written
--- where a call of the profile names it, or it is left out, and the calls that name it are counted.
+-- Nothing is lost: each handle that a returned call gives is a member's of a communicator that is made, which is
+-- written where a call of the profile names it, or it is left out, and the calls that name it are counted.
 pub record AreAccounted (ranks : List RankCalls) (views : List RankView) (uses : List HandleUses) (made : List Made) (left_out : List LeftOut) : Type 0 where
   pub each : (rank at handle : ℕ) (call : CommCall) (giver : Giver) (meant : Meant) → call_at ranks rank at ≡ Some call → giving call.action ≡ Some giver
       → meant_at views rank at ≡ Some meant → meant.gives ≡ gives.Handle handle → IsOfMade made rank handle ⊎ IsLeftOut left_out rank call.call (count_at uses rank (Some handle))
 
--- What derives from what the ranks called: each communicator that is made derives (MPI 4.0, chapters 7 and 8), and so do the
--- windows and files of these (12.2 and 14.2); those that calls of the profile name are written, behind the world, and all other
--- communicators that calls give are left out.
+-- What derives from what the ranks called: each communicator that is made derives (MPI 4.0, chapters 7 and 8), and so
+-- do the windows and files of these (12.2 and 14.2); those that calls of the profile name are written, behind the
+-- world, and all other communicators that calls give are left out.
 --
 -- `Derives` asks for less than a communicator needs, in these points:
 -- * A making of which nothing is made counts as read where its calls have one function and what they give can be read,

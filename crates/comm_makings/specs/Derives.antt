@@ -27,8 +27,9 @@ use Rattle.comm_makings.specs.declared.state.Member.{Member}
 use Rattle.comm_makings.specs.declared.state.Order.{Order}
 use Rattle.comm_makings.specs.declared.view.RankView.{RankView}
 
--- What may derive: a communicator, by its members in order, its dimensions and its order in a layout; that so many makings of a
--- parent are read, each of which agrees or is merely left out; and a group that a call of a rank names, by its ranks.
+-- What may derive: a communicator, by its members in order, its dimensions and its order in a layout; that so many
+-- makings of a parent are read, each of which agrees or is merely left out; and a group that a call of a rank names, by
+-- its ranks.
 pub data Thing : Type 0 where
   communicator : List Member → Option (List ℕ) → Order → Thing
   read_to : List Member → Option (List ℕ) → ℕ → Thing
@@ -135,8 +136,8 @@ pub record IsGroupMaking (ranks : List RankCalls) (views : List RankView) (membe
   pub given : AreGiven false all (record { places = places; dims = None } ∷ [])
 
 -- A communicator or a group derives: it is the world, MPI_COMM_SELF or the empty group, or calls make it of ones that
--- derive. All members of a communicator call what makes others of it in one order (MPI 4.0, 7.4), so a making counts only
--- behind ones that agree or are merely left out.
+-- derive. All members of a communicator call what makes others of it in one order (MPI 4.0, 7.4), so a making counts
+-- only behind ones that agree or are merely left out.
 pub data Derives (ranks : List RankCalls) (views : List RankView) : Thing → Type 0 where
   -- the world, and MPI_COMM_SELF of a rank that tells its number
   world : Derives ranks views (communicator (world_members (length ranks)) None world_order)

@@ -140,7 +140,8 @@ IsOfTwoNamed comms values call meant value = (waits : Bool)
 abbrev pub IsOfOneNamed : List Made → List GroupValue → GroupCall → Meant → GroupValue → Type 0
 IsOfOneNamed comms values call meant value = (waits : Bool) × IsMadeOfOne call (ranks_at comms values meant.group) waits value
 
--- The group that a call gives: of a communicator, by how its handle stands, or of one or two groups, where they are known.
+-- The group that a call gives: of a communicator, by how its handle stands, or of one or two groups, where they are
+-- known.
 abbrev pub IsValueOf : GroupCall → Option HandleState → Option (List ℕ) → Option (List ℕ) → GroupValue → Type 0
 IsValueOf (calls.OfComm comm) standing first second value = value ≡ group_of_comm standing
 IsValueOf calls.Unread standing first second value = value ≡ values.Unknown

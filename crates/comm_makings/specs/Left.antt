@@ -1,4 +1,5 @@
--- What is left out: each communicator that a call gives and that isn't derived, with the calls of the profile that name it.
+-- What is left out: each communicator that a call gives and that isn't derived, with the calls of the profile that name
+-- it.
 use Rattle.std.specs.Prelude.{◌≡◌, ◌⊎◌, ℕ, Bool, true, false, List, Option, Some, None, cond, length, nat_lt, unwrap_or}
 use Rattle.std.specs.List.{Contains, filter_map, flat_map, range_with_len, slice_get}
 use Rattle.std.specs.Option.{option_and_then, option_map}
@@ -40,8 +41,8 @@ giving (actions.Make parent making given) = Some (record { made_by = function_of
 giving (actions.GivesComm comm given) = Some (record { made_by = functions.Other; number = number_said given })
 giving _ = None
 
--- Why a handle is left out of which nothing was derived: by its function, by a parent that is left out, or by one that is
--- unknown.
+-- Why a handle is left out of which nothing was derived: by its function, by a parent that is left out, or by one that
+-- is unknown.
 abbrev pub why_open : MadeBy → Bool → Why
 why_open functions.Other known = whys.Function
 why_open _ true = whys.Parent

@@ -133,8 +133,8 @@ pub record IsKnownGrid (ranks : List RankCalls) (views : List RankView) (all : L
 abbrev pub dims_fit : ℕ → List ℕ → Bool
 dims_fit members dims = is_some (size_within members dims)
 
--- A grid whose members may be ordered anew, as all calls say. Those that say dimensions say the same, but not all do, or the
--- communicator would have them.
+-- A grid whose members may be ordered anew, as all calls say. Those that say dimensions say the same, but not all do,
+-- or the communicator would have them.
 pub record IsUnknownGrid (ranks : List RankCalls) (views : List RankView) (all : List (Option Here)) (parts : List Selection) : Type 0 where
   pub alike : AreSaidAlike ranks dims_in (dims_fit (length all)) all
   pub reorders : AllSay ranks reorder_in true all

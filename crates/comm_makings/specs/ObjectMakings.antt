@@ -1,5 +1,5 @@
--- The windows and files that the members of communicators make: the k-th calls of all members on one communicator are one
--- making (MPI 4.0, 12.2 and 14.2.1: collective over it, so in one order).
+-- The windows and files that the members of communicators make: the k-th calls of all members on one communicator are
+-- one making (MPI 4.0, 12.2 and 14.2.1: collective over it, so in one order).
 use Rattle.std.specs.Prelude.{◌≡◌, ◌≤◌, ◌++◌, ℕ, List, Option, Some, None, All, true, cond, length, map, nat_lt, unwrap_or}
 use Rattle.std.specs.List.{flat_map, slice_get}
 use Rattle.std.specs.Option.{option_and_then, option_map}
@@ -124,8 +124,8 @@ IsOneMakingOf all (Some first) = IsOneMaking all first
 abbrev pub IsMaking : List RankCalls → List RankView → Object → Made → ℕ → ObjectHere → Type 0
 IsMaking ranks views object comm k first = IsOneMaking (map (object_here ranks views object k) comm.members.items) first
 
--- The k-th object of this sort of a communicator: of all its members, in its order. It is ordered by the call of its smallest
--- member whose text has it.
+-- The k-th object of this sort of a communicator: of all its members, in its order. It is ordered by the call of its
+-- smallest member whose text has it.
 pub record IsMadeOf (ranks : List RankCalls) (views : List RankView) (object : Object) (comm : Made) (k : ℕ) (made : Made) : Type 0 where
   pub first : ObjectHere
   pub making : IsMaking ranks views object comm k first
@@ -140,8 +140,8 @@ abbrev pub IsObject : List RankCalls → List RankView → Object → Made → �
 IsObject ranks views object comm k None = (first : ObjectHere) → IsMaking ranks views object comm k first → ⊥
 IsObject ranks views object comm k (Some made) = IsMadeOf ranks views object comm k made
 
--- The objects of this sort of a communicator, in the order of their makings: up to the first in which its members differ, or
--- that none has.
+-- The objects of this sort of a communicator, in the order of their makings: up to the first in which its members
+-- differ, or that none has.
 pub record AreObjectsOf (ranks : List RankCalls) (views : List RankView) (object : Object) (comm : Made) (listed : List Made) : Type 0 where
   pub each : (k : ℕ) (made : Made) → slice_get listed k ≡ Some made → IsMadeOf ranks views object comm k made
   pub end : (first : ObjectHere) → IsMaking ranks views object comm (length listed) first → ⊥

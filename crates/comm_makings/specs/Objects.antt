@@ -1,5 +1,5 @@
--- Windows and files (MPI 4.0, 12.2 and 14.2). They are made by collective calls on a communicator, of all its members in its
--- order, and each of the two sorts has numbers and an order of makings of its own.
+-- Windows and files (MPI 4.0, 12.2 and 14.2). They are made by collective calls on a communicator, of all its members
+-- in its order, and each of the two sorts has numbers and an order of makings of its own.
 use Rattle.std.specs.Prelude.{◌≡◌, ℕ, ◌+◌, ◌==◌, ◌||◌, Bool, true, false, List, [], ◌∷◌, Option, Some, None, cond, count_by, is_some, length, take}
 use Rattle.std.specs.List.{filter_map, slice_get}
 use Rattle.std.specs.Option.{option_and_then, option_map}
@@ -66,8 +66,8 @@ is_number number (Some other) = other == number
 abbrev pub changes : Object → ℕ → CommCall → Bool
 changes object number call = is_number number (number_given object call) || is_number number (number_ended object call)
 
--- The end of a number's stretch that begins before these calls: one above the first that gives or ends it, which still names
--- it.
+-- The end of a number's stretch that begins before these calls: one above the first that gives or ends it, which still
+-- names it.
 abbrev pub end_in : Object → ℕ → List CommCall → Option ℕ
 end_in object number [] = None
 end_in object number (call ∷ calls) = cond (changes object number call) (Some (next_call call.call)) (end_in object number calls)
@@ -94,8 +94,8 @@ given_before object calls at = count_by (λ call. is_some (number_given object c
 abbrev pub handle_given : Object → List CommCall → ℕ → Option ℕ
 handle_given object calls at = option_map (λ number. given_before object calls at) (option_and_then (number_given object) (slice_get calls at))
 
--- A call counts where it makes such objects of the handle of a communicator; from the first on whose parent is unknown none
--- does.
+-- A call counts where it makes such objects of the handle of a communicator; from the first on whose parent is unknown
+-- none does.
 abbrev pub object_making_before : Bool → ℕ → ℕ → Option ℕ → List ℕ → List ℕ
 object_making_before false handle at parent others = others
 object_making_before true handle at None others = []
@@ -108,8 +108,8 @@ object_makings_on object handle at (call ∷ calls) [] = []
 object_makings_on object handle at (call ∷ calls) (here ∷ meant) =
     object_making_before (makes_such object call.action) handle at here.comm (object_makings_on object handle (at + 1) calls meant)
 
--- The objects of one sort of a rank: their handles, which call gives which, and which calls make them of which of so many
--- handles of communicators.
+-- The objects of one sort of a rank: their handles, which call gives which, and which calls make them of which of so
+-- many handles of communicators.
 pub record IsObjectView (object : Object) (calls : List CommCall) (meant : List Meant) (count : ℕ) (view : ObjectView) : Type 0 where
   pub handles : view.handles.items ≡ object_handles object calls
   pub given : EachIs view.given.items (handle_given object calls)

@@ -43,8 +43,8 @@ pub record IsWanted (values : List (Vec GroupValue Global)) (comms : List Made) 
 pub record AreWanted (values : List (Vec GroupValue Global)) (comms : List Made) (all : List (Option Here)) (offers : List Offer) : Type 0 where
   pub each : (k : ℕ) (offer : Offer) → slice_get offers k ≡ Some offer → offer.wanted ≡ true → IsWanted values comms all offer.ranks.items
 
--- Behind the call of a rank that names a group no other offers are marked than were before, but for that group if the rank
--- is in it.
+-- Behind the call of a rank that names a group no other offers are marked than were before, but for that group if the
+-- rank is in it.
 pub record AddsOffer (old new : List Offer) (rank : ℕ) (ranks : List ℕ) : Type 0 where
   pub each : (k : ℕ) (offer : Offer) → slice_get new k ≡ Some offer → offer.wanted ≡ true
       → ((before : Offer) × (slice_get old k ≡ Some before) × (before.wanted ≡ true) × (offer.ranks.items ≡ before.ranks.items)) ⊎ ((offer.ranks.items ≡ ranks) × (has ranks rank ≡ true))

@@ -1,4 +1,5 @@
--- Communicators whose members may be ordered anew (MPI 4.0, chapter 8): each is told by MPI_Comm_rank which rank it got.
+-- Communicators whose members may be ordered anew (MPI 4.0, chapter 8): each is told by MPI_Comm_rank which rank it
+-- got.
 use Rattle.std.specs.Prelude.{◌≡◌, ℕ, ◌+◌, ◌==◌, Bool, true, false, not, List, [], ◌∷◌, Option, Some, None, Vec, is_some, length, cond}
 use Rattle.std.specs.List.{filter_map, list_all, slice_get}
 use Rattle.std.specs.Option.{option_and_then, option_map}

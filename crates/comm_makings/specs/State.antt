@@ -168,7 +168,8 @@ pub record AreNext (ranks : List RankCalls) (views : List RankView) (members : L
   pub calls : all ≡ kth_calls ranks views k members
   pub reads : Derives ranks views (read_to members dims k)
 
--- Where all makings before are read, each communicator of the outcome derives, and the making is read unless it is unsound.
+-- Where all makings before are read, each communicator of the outcome derives, and the making is read unless it is
+-- unsound.
 pub record IsDerivedOutcome (ranks : List RankCalls) (views : List RankView) (members : List Member) (dims : Option (List ℕ)) (all : List (Option Here)) (outcome : Outcome) : Type 0 where
   pub each : (k : ℕ) (parts : List Selection) (at : ℕ) (part : Selection) (order : Order) → AreNext ranks views members dims all k
       → parts_in outcome ≡ Some parts → slice_get parts at ≡ Some part → IsMakingOrder part.places all order

@@ -5,6 +5,7 @@ use Rattle.comm_makings.specs.Makes.{IsOneMaking}
 use Rattle.comm_makings.specs.declared.answer.MadeBy.{MadeBy}
 use Rattle.comm_makings.specs.declared.here.Here.{Here}
 
--- The calls of a parent's members are merely left out: there are none, or they are one making, of which nothing is made.
+-- The calls of a parent's members are merely left out: there are none, or they are one making, of which nothing is
+-- made.
 abbrev pub AreLeft : List (Option Here) → Type 0
 AreLeft all = (first_of all ≡ None) ⊎ ((function : MadeBy) × IsOneMaking function all)

@@ -1,5 +1,5 @@
--- Which calls of the profile name which handles of a rank. A number names the communicator that it was given to last, and
--- none once that is freed (MPI 4.0, 7.4.3).
+-- Which calls of the profile name which handles of a rank. A number names the communicator that it was given to last,
+-- and none once that is freed (MPI 4.0, 7.4.3).
 use Rattle.std.specs.Prelude.{◌≡◌, ◌↔◌, ◌⊎◌, ◌<◌, ◌≤◌, ◌==◌, ◌&&◌, ◌||◌, ◌+◌, ◌-◌, ◌^◌, ℕ, Bool, true, false, List, [], ◌∷◌, ◌++◌, Option, Some, None, All, IsTrue, cond, count_by, is_some, length, map, min, not, unwrap_or, nat_le, nat_lt, slice_index_or}
 use Rattle.std.specs.List.{filter_map, list_any, range_with_len, slice_get, sum_by}
 use Rattle.std.specs.Option.{option_and_then, option_map}
@@ -64,8 +64,8 @@ pub record AreHeld (handles : List Stretch) (uses : List Uses) (held : List Held
   pub same : map (λ g. g.uses) held ≡ uses
   pub each : All (λ g. IsHolderOf handles g.uses g.holder) held
 
--- the number of the communicator that a call names of which all members make it: they make other communicators, windows or
--- files of it, or free it (MPI 4.0, 7.4, 11.8 to 11.10, 12.2 and 14.2.1)
+-- the number of the communicator that a call names of which all members make it: they make other communicators, windows
+-- or files of it, or free it (MPI 4.0, 7.4, 11.8 to 11.10, 12.2 and 14.2.1)
 abbrev pub number_on : Action → Option ℕ
 number_on (actions.Make parent (makings.CreateGroup group tag) given) = None
 number_on (actions.Make parent making given) = parent
@@ -123,8 +123,8 @@ numbered handles number = count_by (has_number number) handles
 abbrev pub stands_alone : List Stretch → List HeldUses → Stretch → Bool
 stands_alone handles held handle = (numbered handles handle.number == 1) && not (is_stray held handle.number)
 
--- The number of the handle at this place names it alone: no other handle of the rank has the number, all calls of the profile
--- that name it lie in the handle's stretch, and those on communicators mean a handle.
+-- The number of the handle at this place names it alone: no other handle of the rank has the number, all calls of the
+-- profile that name it lie in the handle's stretch, and those on communicators mean a handle.
 pub record IsOnly (handles : List Stretch) (uses : List Uses) (calls : List HeldUses) (at : ℕ) : Type 0 where
   pub handle : Stretch
   pub here : slice_get handles at ≡ Some handle
@@ -132,8 +132,8 @@ pub record IsOnly (handles : List Stretch) (uses : List Uses) (calls : List Held
   pub within : (i : ℕ) (group : Uses) → slice_get uses i ≡ Some group → group.number ≡ handle.number → holds_all group handle ≡ true
   pub known : (i : ℕ) (group : HeldUses) → slice_get calls i ≡ Some group → group.uses.number ≡ handle.number → is_some group.holder ≡ true
 
--- What the calls of the profile, and those on communicators, say of a rank's handles: how many name each, and which numbers
--- name one alone.
+-- What the calls of the profile, and those on communicators, say of a rank's handles: how many name each, and which
+-- numbers name one alone.
 pub record IsCounted (handles : List Stretch) (uses : List Uses) (calls : List HeldUses) (counted : HandleUses) : Type 0 where
   pub held : List HeldUses
   pub holders : AreHeld handles uses held
@@ -142,8 +142,8 @@ pub record IsCounted (handles : List Stretch) (uses : List Uses) (calls : List H
   pub only : (at : ℕ) (is : Bool) → slice_get counted.only.items at ≡ Some is → IsTrue is ↔ IsOnly handles uses calls at
   pub only_each : length counted.only.items ≡ length handles
 
--- What the calls of a rank say of its objects of one sort: of communicators those of the profile and those on communicators;
--- of windows and files those of the profile, those that end one among them.
+-- What the calls of a rank say of its objects of one sort: of communicators those of the profile and those on
+-- communicators; of windows and files those of the profile, those that end one among them.
 abbrev pub IsCountedOf : Object → RankCalls → RankView → HandleUses → Type 0
 IsCountedOf objects.Communicator calls view counted = IsCounted view.handles.items calls.uses.items (held_calls calls.calls.items view.meant.items) counted
 IsCountedOf objects.Window calls view counted = IsCounted view.windows.handles.items (calls.windows.items ++ end_uses objects.Window calls.calls.items) [] counted
@@ -172,7 +172,7 @@ abbrev pub count_at : List HandleUses → ℕ → Option ℕ → ℕ
 count_at uses rank None = 0
 count_at uses rank (Some handle) = unwrap_or (option_and_then (λ u. slice_get u.counts.items handle) (slice_get uses rank)) 0
 
--- ---- by halves
+-- ---- by binary search
 
 -- a handle, as it is ordered
 abbrev pub place_of : ℕ → Stretch → Place

@@ -35,8 +35,8 @@ making_before by_group handle at None parent others = others
 making_before by_group handle at (Some making) None others = []
 making_before by_group handle at (Some making) (Some parent) others = place_if (is_kind by_group making && (parent == handle)) at others
 
--- The calls that make communicators of a handle, the first of which stands at this place of the rank's list: those before
--- the first whose parent is unknown.
+-- The calls that make communicators of a handle, the first of which stands at this place of the rank's list: those
+-- before the first whose parent is unknown.
 abbrev pub makings_on : Bool → ℕ → ℕ → List CommCall → List Meant → List ℕ
 makings_on by_group handle at [] meant = []
 makings_on by_group handle at (call ∷ calls) [] = []
@@ -81,7 +81,8 @@ is_orphan call parent = is_some (making_of call.action) && not (is_some parent)
 abbrev pub is_orphan_at : List CommCall → List Meant → ℕ → Bool
 is_orphan_at calls meant at = unwrap_or (option_map (λ call. is_orphan call (comm_at meant at)) (slice_get calls at)) false
 
--- The first call that makes communicators of an unknown parent stands at this place; where none does, it is behind the last.
+-- The first call that makes communicators of an unknown parent stands at this place; where none does, it is behind the
+-- last.
 pub record IsEnd (calls : List CommCall) (meant : List Meant) (end : ℕ) : Type 0 where
   pub none : (at : ℕ) → at < end → is_orphan_at calls meant at ≡ false
   pub one : (end ≡ length calls) ⊎ (is_orphan_at calls meant end ≡ true)

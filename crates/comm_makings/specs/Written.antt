@@ -46,8 +46,8 @@ stretch_of only stretch = cond only (always stretch.number) stretch
 abbrev pub entry_by : List RankView → List HandleUses → Object → ℕ → ℕ → Option Stretch
 entry_by views uses object rank handle = option_map (stretch_of (is_only uses rank handle)) (handle_at views object rank handle)
 
--- A member names an object by its handle's number: in all calls where the number names nothing else of its sort, and else over
--- the handle's stretch.
+-- A member names an object by its handle's number: in all calls where the number names nothing else of its sort, and
+-- else over the handle's stretch.
 abbrev pub entry_of : List RankView → List HandleUses → Object → Member → Option Stretch
 entry_of views uses object member = option_and_then (entry_by views uses object member.rank) member.handle
 
@@ -78,8 +78,8 @@ pub record HasNumber (views : List RankView) (uses : List HandleUses) (made : Ma
   pub sort : is_comm made.object ≡ true
   pub all : All (IsNamedOnly views uses number) made.members.items
 
--- A communicator by its id, where each member names it by that number and names nothing else so; or by an entry for each
--- member, as windows and files always.
+-- A communicator by its id, where each member names it by that number and names nothing else so; or by an entry for
+-- each member, as windows and files always.
 abbrev pub IsNamedIn : List RankView → AllUses → Made → Communicator → Type 0
 IsNamedIn views uses made comm = ((comm.numbers ≡ []) × HasNumber views uses.comms.items made comm.comm) ⊎ (comm.numbers ≡ map (entry_of views (uses_by uses made.object) made.object) made.members.items)
 
@@ -108,8 +108,8 @@ named_with uses place made = cond (nat_lt 0 made.order.class && is_named uses ma
 abbrev pub named_at : AllUses → List Made → ℕ → Option Named
 named_at uses made place = option_and_then (named_with uses place) (slice_get made place)
 
--- In a layout MPI_COMM_SELF comes before others, by rank, and the others by the making call of their smallest member whose
--- text has it, and then by that member.
+-- In a layout MPI_COMM_SELF comes before others, by rank, and the others by the making call of their smallest member
+-- whose text has it, and then by that member.
 abbrev pub order_cmp : Order → Order → Ordering
 order_cmp x y = ordering_then (nat_cmp x.class y.class) (ordering_then (nat_cmp x.call y.call) (nat_cmp x.rank y.rank))
 

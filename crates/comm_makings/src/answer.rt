@@ -5,22 +5,25 @@ use mpi_model::Comm;
 /// The communicators that the calls of all ranks make.
 #[derive(Drop)]
 pub struct Derived {
-    /// The number of MPI_COMM_WORLD, 2 where no rank tells it.
+    /// The number of MPI_COMM_WORLD; 2 if no rank says it.
     pub world: u32,
-    /// The world, and the communicators, windows and files that some call of the profile names, in the order of a layout.
+    /// The world, and the communicators, windows and files that some call of the profile names, in the order of a
+    /// layout.
     pub comms: Vec<Comm>,
     /// What is left out, by rank and then by call.
     pub left_out: Vec<LeftOut>,
 }
 
-/// A communicator that a call of a rank gave, and from which nothing is derived: its number stays foreign.
+/// A communicator that a call of a rank gave, but that couldn't be derived: its number stays foreign.
 #[derive(Clone, Copy)]
 pub struct LeftOut {
+    /// The rank that called it.
     pub rank: u32,
     /// The call that gave it.
     pub call: u64,
+    /// The function of that call.
     pub made_by: MadeBy,
-    /// The number that the call gave, where it can be read.
+    /// The number that the call gave; `None` if it can't be read.
     pub number: Option<u32>,
     /// How many calls of the profile name it.
     pub uses: u64,
@@ -42,14 +45,14 @@ pub enum MadeBy {
     GraphCreate,
     DistGraphCreate,
     DistGraphCreateAdjacent,
-    /// Another function, from which nothing is derived.
+    /// Another function, whose communicators aren't derived.
     Other,
 }
 
 /// Why a communicator is left out.
 #[derive(Clone, Copy)]
 pub enum Why {
-    /// Nothing is derived from calls of its function.
+    /// Communicators of its function aren't derived.
     Function,
     /// It has the number of MPI_COMM_WORLD or MPI_COMM_SELF.
     Taken,
@@ -57,8 +60,8 @@ pub enum Why {
     UnknownParent,
     /// Its parent is left out.
     Parent,
-    /// A member of the parent has no such call, or no call tells the ranks of one that is reordered, or the parent has no
-    /// known dimensions.
+    /// A member of the parent has no such call, or no call tells the ranks of one that is reordered, or the parent has
+    /// no known dimensions.
     Untold,
     /// The members' calls differ where they have to agree, or a parameter is unknown.
     Unsound,
@@ -66,10 +69,11 @@ pub enum Why {
     Behind,
 }
 
-/// Why nothing is derived.
+/// Why no layout is derived.
 #[derive(Clone, Copy)]
 pub enum DeriveFault {
+    /// Memory was refused.
     Memory,
-    /// Two ranks tell different numbers of MPI_COMM_WORLD.
+    /// Two ranks say different numbers of MPI_COMM_WORLD.
     World { first: u32, second: u32 },
 }

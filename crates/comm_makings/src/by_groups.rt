@@ -46,7 +46,7 @@ struct Offer<'a> {
 #[derive(Drop)]
 struct Offers<'a> {
     calls: Vec<Offer<'a>>,
-    /// Of each member, whether the group of its next call is not known yet.
+    /// For each member, whether the group of its next call is not known yet.
     waits: Vec<bool>,
 }
 
@@ -133,8 +133,8 @@ fn offer_at<'a>(
     }
 }
 
-/// Adds the calls of a member, as far as their groups, tags and communicators are known. Says whether a group is not known
-/// yet.
+/// Adds the calls of a member, as far as their groups, tags and communicators are known. Says whether a group is not
+/// known yet.
 #[tactic(auto, using(crate::proofs::GroupCalls::offer_more))]
 fn offer_all<'a>(
     ranks: &[RankCalls],
@@ -187,8 +187,8 @@ fn calls_of(views: &[RankView], member: Member) -> &[usize]
     }
 }
 
-/// Adds the calls of the members, as far as they are known, and of each member whether a group is not known yet. At last
-/// no group is waited for.
+/// Adds the calls of the members, as far as they are known, and of each member whether a group is not known yet. At
+/// last no group is waited for.
 fn offer_members<'a>(
     ranks: &[RankCalls],
     views: &[RankView],
@@ -443,7 +443,8 @@ fn one_made(
     made_of(alloc, members, all, &part)
 }
 
-/// Reads the calls of one list of members and one tag, and notes those that are read. Says whether more may be made of them.
+/// Reads the calls of one list of members and one tag, and notes those that are read. Says whether more may be made of
+/// them.
 #[tactic(auto, using(crate::proofs::GroupCalls::found_more))]
 fn read_each(
     alloc: Global,

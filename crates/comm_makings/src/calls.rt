@@ -5,26 +5,26 @@ ghost use Rattle.comm_makings.specs.Objects.{object_made};
 
 use mpi_model::Object;
 
-/// What the calls of a rank say of its communicators and groups, windows and files.
+/// The calls of a rank on communicators and groups, windows and files, with what they say.
 #[derive(Drop)]
 pub struct RankCalls {
-    /// The number of MPI_COMM_WORLD, where some call of the rank says it.
+    /// The number of MPI_COMM_WORLD; `None` if no call of the rank says it.
     pub world: Option<u32>,
-    /// The number of MPI_COMM_SELF, where some call of the rank says it.
+    /// The number of MPI_COMM_SELF; `None` if no call of the rank says it.
     pub own: Option<u32>,
-    /// The size of MPI_COMM_WORLD, where some call of the rank tells it.
+    /// The size of MPI_COMM_WORLD; `None` if no call of the rank says it.
     pub size: Option<u32>,
     /// The calls that make, name or free communicators and groups, windows and files, in the rank's order.
     pub calls: Vec<CommCall>,
     /// Where the other calls of the profile name which numbers of communicators.
     pub uses: Vec<Uses>,
-    /// The same of windows.
+    /// Where the other calls of the profile name which numbers of windows.
     pub windows: Vec<Uses>,
-    /// The same of files.
+    /// Where the other calls of the profile name which numbers of files.
     pub files: Vec<Uses>,
 }
 
-/// Calls of the profile that name a number, between two calls of the rank that give or free that number.
+/// A group of calls that name one number, between two calls of the rank that give or free that number.
 #[derive(Clone, Copy)]
 pub struct Uses {
     pub number: u32,
@@ -32,7 +32,7 @@ pub struct Uses {
     pub first: u64,
     /// The last call that names it.
     pub last: u64,
-    /// How many do.
+    /// How many calls name it.
     pub count: u64,
 }
 
@@ -41,7 +41,7 @@ pub struct Uses {
 pub struct CommCall {
     /// Its place among all calls of the rank, from 0. The places rise along a rank's list.
     pub call: u64,
-    /// Whether it returned. What a call gives counts only then.
+    /// Whether it returned. What a call gives counts only if it did.
     pub returned: bool,
     pub action: Action,
 }
@@ -74,8 +74,8 @@ pub enum Action {
         comm: Option<u32>,
         given: Given,
     },
-    /// A call that makes a window or a file of the members of a communicator, and the number that it gives, where it gives
-    /// one that can be read.
+    /// A call that makes a window or a file of the members of a communicator. It has the number that the call gives;
+    /// `None` if that can't be read.
     MakeObject {
         maker: ObjectMaker,
         parent: Option<u32>,
@@ -98,7 +98,7 @@ pub enum ObjectMaker {
     FileOpen,
 }
 
-/// The sort of what a call makes.
+/// Whether the call makes a window or a file.
 pub fn object_made(maker: ObjectMaker) -> Object
     ensures { result ≡ object_made maker }
 {
@@ -114,26 +114,34 @@ pub fn object_made(maker: ObjectMaker) -> Object
 /// The calls that make communicators of a parent, with their parameters.
 #[derive(Drop)]
 pub enum Making {
+    /// MPI_Comm_dup.
     Dup,
+    /// MPI_Comm_dup_with_info.
     DupWithInfo,
+    /// MPI_Comm_idup.
     Idup,
+    /// MPI_Comm_idup_with_info.
     IdupWithInfo,
+    /// MPI_Comm_split, with the color and the key of this rank.
     Split {
         color: Option<Color>,
         key: Option<i32>,
     },
+    /// MPI_Comm_create, with the group that this rank gives.
     Create {
         group: GroupName,
     },
+    /// MPI_Comm_create_group, which is collective over the group.
     CreateGroup {
         group: GroupName,
         tag: Option<i32>,
     },
-    /// The sizes of the dimensions, where 0 stands for a size below 1.
+    /// The sizes of the dimensions; a size below 1 is 0.
     CartCreate {
         dims: Option<Vec<u32>>,
         reorder: Option<bool>,
     },
+    /// MPI_Cart_sub: for each dimension whether it remains.
     CartSub {
         remain: Option<Vec<bool>>,
     },
@@ -142,18 +150,23 @@ pub enum Making {
         nodes: Option<i32>,
         reorder: Option<bool>,
     },
+    /// MPI_Dist_graph_create: whether the ranks may be ordered anew.
     DistGraphCreate {
         reorder: Option<bool>,
     },
+    /// MPI_Dist_graph_create_adjacent: whether the ranks may be ordered anew.
     DistGraphCreateAdjacent {
         reorder: Option<bool>,
     },
 }
 
-/// The color of a split (MPI 4.0, 7.4.2): MPI_UNDEFINED, as each negative one counts, makes nothing.
+/// The color of a split (MPI 4.0, 7.4.2). A rank with MPI_UNDEFINED, for which any negative number is taken, gets no
+/// communicator.
 #[derive(Clone, Copy)]
 pub enum Color {
+    /// MPI_UNDEFINED, or another negative number.
     Undefined,
+    /// A color from 0 to 2^31 - 1.
     Number(u32),
 }
 
@@ -162,20 +175,24 @@ pub enum Color {
 pub enum Given {
     /// MPI_COMM_NULL.
     Null,
+    /// A communicator with this number.
     Number(u32),
+    /// It can't be read what the call gives.
     Unknown,
 }
 
-/// A group by the name that a call has for it.
+/// A group, as a call names it.
 #[derive(Clone, Copy)]
 pub enum GroupName {
     /// MPI_GROUP_EMPTY.
     Empty,
+    /// The group that has this number at the rank.
     Number(u32),
+    /// It can't be read which group is meant.
     Unknown,
 }
 
-/// The calls that give groups. A list of ranks is `None` also where one of them is negative.
+/// The calls that give groups. A list of ranks is `None` also if one of them is negative.
 #[derive(Drop)]
 pub enum GroupCall {
     /// MPI_Comm_group.

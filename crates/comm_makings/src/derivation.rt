@@ -104,9 +104,9 @@ fn answer_of(
     })
 }
 
-/// The communicators, windows and files that the calls of the ranks make: the world, and those that calls name, as a layout
-/// has them. Time and memory grow with the calls on communicators and groups, windows and files and the members of what they
-/// make, not with all calls.
+/// Derives the communicators, windows and files that the calls of the ranks make: the world, and those that calls name,
+/// as a layout has them. Time and memory grow with the calls on communicators, groups, windows and files and with the
+/// members of what they make, not with all calls.
 pub fn derive(alloc: Global, ranks: &[RankCalls]) -> Result<Derived, DeriveFault>
     requires { length ranks.now < 2 ^ 32 }
     ensures world { IfOk result (λ d. d.world ≡ world_of ranks.now) }

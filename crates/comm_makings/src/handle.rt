@@ -2,13 +2,13 @@
 
 use mpi_model::Stretch;
 
-/// A number by which a rank names a communicator, and the calls in which it does.
+/// A handle: a number by which a rank names a communicator, and the calls in which it does.
 pub(crate) type Handle = Stretch;
 
 /// What a call gives.
 #[derive(Clone, Copy, PartialEq, Eq)]
 pub(crate) enum Gives {
-    /// It didn't return.
+    /// The call didn't return.
     Nothing,
     /// MPI_COMM_NULL.
     Null,
@@ -16,7 +16,7 @@ pub(crate) enum Gives {
     Handle(usize),
     /// A handle that has the number of MPI_COMM_WORLD or MPI_COMM_SELF: no call can be known to mean it.
     Taken(usize),
-    /// What can't be read.
+    /// What it gives can't be read.
     Unknown,
 }
 

@@ -192,8 +192,8 @@ impl Names {
         Ok(place)
     }
 
-    /// A new handle from a call that gives this number. The number may have named another communicator: in the call itself it
-    /// still does.
+    /// A new handle from a call that gives this number. The number may have named another communicator: in the call
+    /// itself it still does.
     fn give_number(&mut self, number: u32, call: u64) -> Result<Gives, AllocError>
         ensures gives { IfOk result (λ g. g ≡ gives_as self.old true (givens.Number number)) }
         ensures names { OnOk result (AreNamed self.new.comms (with_number self.old call number).comms) }

@@ -17,9 +17,9 @@ use std::alloc::{AllocError, Global};
 #[derive(Drop)]
 pub(crate) struct ObjectView {
     pub handles: Vec<Handle>,
-    /// Of each call the handle that it gives.
+    /// For each call the handle that it gives.
     pub given: Vec<Option<usize>>,
-    /// Of each handle of a communicator the calls that make such objects of it, in their order.
+    /// For each handle of a communicator the calls that make such objects of it, in their order.
     pub makings: Vec<Vec<usize>>,
 }
 
@@ -154,7 +154,7 @@ fn handles_of(alloc: Global, object: Object, calls: &[CommCall]) -> Result<Vec<H
     Ok(handles)
 }
 
-/// Of each call the handle that it gives.
+/// For each call the handle that it gives.
 fn given_of(
     alloc: Global,
     object: Object,
@@ -176,7 +176,7 @@ fn given_of(
     Ok(given)
 }
 
-/// Of each handle of a communicator the calls that make objects of this sort of it, up to the first whose parent is
+/// For each handle of a communicator the calls that make objects of this sort of it, up to the first whose parent is
 /// unknown.
 fn makings_of(
     alloc: Global,

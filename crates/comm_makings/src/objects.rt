@@ -325,8 +325,8 @@ fn objects_by(
     Ok(listed)
 }
 
-/// The windows and files that the members of the communicators make. Each of the two sorts has an order of its own: the k-th
-/// call of each member is one making, and what can't be read of one sort stops nothing else.
+/// The windows and files that the members of the communicators make. Each of the two sorts has an order of its own: the
+/// k-th call of each member is one making, and what can't be read of one sort stops nothing else.
 #[tactic(auto, using(crate::proofs::ObjectLists::are_both))]
 pub(crate) fn objects_of(
     alloc: Global,

@@ -52,7 +52,7 @@ fn outcome_of(
     }
 }
 
-/// Of each place whether it is in a communicator that is made.
+/// For each place whether it is in a communicator that is made.
 fn covered(alloc: Global, parts: &[Part], count: usize) -> Result<Vec<bool>, AllocError>
     ensures { IfOk result (λ v. EachIs v.items (is_covered parts.now)) }
 {

@@ -24,6 +24,8 @@ impl Model for Part {
 }
 
 impl Part {
+    /// A communicator with the members at these places of the parent, and the sizes of its dimensions where they are
+    /// known.
     pub(crate) fn new(places: Vec<u32>, dims: Option<Vec<u32>>) -> Part
         ensures { result ≡ record { places = places.items; dims = list_in dims } }
     {

@@ -27,16 +27,16 @@ use std::alloc::{AllocError, Global};
 /// What is derived so far.
 #[derive(Drop)]
 pub(crate) struct Run {
-    /// Of each rank how its handles stand.
+    /// For each rank how its handles stand.
     pub standings: Vec<Vec<HandleState>>,
-    /// Of each rank what its calls give, where they give groups.
+    /// For each rank what its calls give, where they give groups.
     pub values: Vec<Vec<GroupValue>>,
     pub comms: Vec<Made>,
-    /// Of each communicator how far its makings are read.
+    /// For each communicator how far its makings are read.
     pub next: Vec<Progress>,
-    /// Of each rank which calls of MPI_Comm_create_group are read.
+    /// For each rank which calls of MPI_Comm_create_group are read.
     pub taken: Vec<Vec<bool>>,
-    /// Of each communicator what no MPI_Comm_create_group makes any more.
+    /// For each communicator what no MPI_Comm_create_group makes any more.
     pub over: Vec<Vec<Over>>,
     /// How many makings were read.
     pub read: u64,

@@ -42,7 +42,8 @@ pub(crate) struct Order {
 pub(crate) struct Member {
     /// Its rank in the run.
     pub rank: u32,
-    /// The handle by which it names the communicator, where its text does; of a window or a file it is one of that sort.
+    /// The handle by which it names the communicator, where its text does; of a window or a file it is one of that
+    /// sort.
     pub handle: Option<usize>,
 }
 
@@ -50,7 +51,7 @@ pub(crate) struct Member {
 #[derive(Drop)]
 pub(crate) struct Made {
     pub object: Object,
-    /// In the order of their ranks in it.
+    /// The members, in the order of their ranks in it.
     pub members: Vec<Member>,
     /// Their ranks in the run.
     pub ranks: Vec<u32>,
@@ -66,7 +67,7 @@ pub(crate) fn comm_at(comms: &[Made], place: usize) -> Option<&Made>
     comms.get(place)
 }
 
-/// A copy of the list.
+/// A copy of the list in memory of its own.
 pub(crate) fn copy_of(alloc: Global, list: &[u32]) -> Result<Vec<u32>, AllocError>
     ensures { IfOk result (λ v. v.items ≡ list.now) }
 {

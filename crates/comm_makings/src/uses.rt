@@ -21,7 +21,7 @@ use std::alloc::{AllocError, Global};
 pub(crate) struct HandleUses {
     /// How many name each handle.
     pub counts: Vec<u64>,
-    /// Of each handle, whether its number names nothing else of the rank.
+    /// For each handle, whether its number names nothing else of the rank.
     pub only: Vec<bool>,
 }
 
@@ -81,7 +81,7 @@ fn count_to(places: &[Place], number: u32, call: u64) -> usize
     places.partition_point(|p| p.number < number || (p.number == number && p.first <= call))
 }
 
-/// The last handle of a number that begins at this call or before it, found by halves.
+/// The last handle of a number that begins at this call or before it, found by binary search.
 fn latest(handles: &[Handle], places: &[Place], number: u32, call: u64) -> Option<usize>
     requires { AreOrdered handles.now places.now }
     ensures { IsLatestOf handles.now number call result }
@@ -278,7 +278,7 @@ fn is_only(counts: &IndexMap<u32, usize>, strays: &IndexMap<u32, ()>, number: u3
     counts.get(&number).copied().unwrap_or(0) == 1 && strays.get(&number).is_none()
 }
 
-/// Of each handle, whether its number names nothing else of the rank.
+/// For each handle, whether its number names nothing else of the rank.
 fn only_of(alloc: Global, handles: &[Handle], held: &[HeldUses]) -> Result<Vec<bool>, AllocError>
     ensures { IfOk result (λ v. v.items ≡ map (stands_alone handles.now held.now) handles.now) }
 {

@@ -18,13 +18,13 @@ pub(crate) struct RankView {
     pub handles: Vec<Handle>,
     /// What each call means.
     pub meant: Vec<Meant>,
-    /// Of each handle the calls that make communicators of it by all its members, in their order.
+    /// For each handle the calls that make communicators of it by all its members, in their order.
     pub makings: Vec<Vec<usize>>,
-    /// Of each handle the calls of MPI_Comm_create_group on it, in their order.
+    /// For each handle the calls of MPI_Comm_create_group on it, in their order.
     pub by_group: Vec<Vec<usize>>,
     /// What MPI_Comm_rank first tells on each handle.
     pub told: Vec<Option<u32>>,
-    /// From this call on the text counts as if it made no communicators.
+    /// From this call on, the rank's calls make no communicators, because a parent is unknown.
     pub end: usize,
     pub windows: ObjectView,
     pub files: ObjectView,
@@ -111,7 +111,7 @@ pub(crate) fn comm_at(meant: &[Meant], at: usize) -> Option<usize>
     meant.get(at)?.comm
 }
 
-/// Of each handle the calls that make communicators of it: by groups, or by all its members.
+/// For each handle the calls that make communicators of it: by groups, or by all its members.
 fn makings_by(
     alloc: Global,
     calls: &[CommCall],

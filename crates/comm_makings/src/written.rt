@@ -1,5 +1,5 @@
-//! The communicators, windows and files as a layout has them: which are written, their ids, and by which numbers their members
-//! name them.
+//! The communicators, windows and files as a layout has them: which are written, their ids, and by which numbers their
+//! members name them.
 
 ghost use Rattle.std.specs.Prelude.{◌≡◌, All, IfOk, IfSome, length, map};
 ghost use Rattle.std.specs.List.{filter_map, range_with_len, slice_get};
@@ -149,7 +149,8 @@ fn note_member(
     }
 }
 
-/// Notes of which communicator the numbers are by which its members name it. Windows and files have numbers of their own.
+/// Notes of which communicator the numbers are by which its members name it. Windows and files have numbers of their
+/// own.
 fn note_owners(
     owners: &mut IndexMap<u32, Owner>,
     views: &[RankView],
@@ -165,7 +166,7 @@ fn note_owners(
     Ok(())
 }
 
-/// Of each number, the communicator of the layout that some rank names by it.
+/// For each number, the communicator of the layout that some rank names by it.
 fn owners_of(
     alloc: Global,
     views: &[RankView],
@@ -344,8 +345,8 @@ fn written_comm(
     }
 }
 
-/// What is at these places as the layout has it, with the ids that communicators have by their numbers. Free ids begin above
-/// this number.
+/// What is at these places as the layout has it, with the ids that communicators have by their numbers. Free ids begin
+/// above this number.
 #[tactic(auto, using(crate::proofs::Choices::written_none, crate::proofs::Choices::written_all))]
 fn written_all(
     alloc: Global,

@@ -127,7 +127,7 @@ with_init app = with_subcommand app init_app.top
 abbrev pub bare : App
 bare = on_top (λ s. record s { has_version = true; subcommand_required = true }) (new_app (codes "mpimatch"))
 
--- the program with the verbs for who asks what happened
+-- the program with the verbs that say what happened in a run
 abbrev pub answering : App
 answering = with_report (with_files (with_graph (with_explain bare)) (codes "page"))
 
@@ -145,7 +145,8 @@ verb_named name = if bytes_eq name (codes "explain") then Some (Explain Cut)
     else if bytes_eq name (codes "check") then Some Check
     else if bytes_eq name (codes "pack") then Some Pack else None
 
--- what `init` is to make: how sends complete, the names of the two files, and whether files of these names are written over
+-- what `init` is to make: how sends complete, the names of the two files, and whether files of these names are written
+-- over
 pub record Wish : Type 0 where
   pub sends : Sends
   pub layout : Text
@@ -156,7 +157,8 @@ pub record Wish : Type 0 where
 abbrev pub wish_of : Wanted → Wish
 wish_of m = record { sends = m.sends; layout = m.layout.now; manifest = m.manifest.now; force = m.force }
 
--- what the words ask for: a verb over a layout and a manifest, a verb over its files, a cluster of a layout and a manifest, or `init` over its texts
+-- what the words ask for: a verb over a layout and a manifest, a verb over its files, a cluster of a layout and a
+-- manifest, or `init` over its texts
 pub data Request : Type 0 where
   pair : Verb → Text → Text → Request
   files : Verb → List Text → Request

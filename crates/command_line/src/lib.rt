@@ -21,12 +21,12 @@ use mpi_model::Sends;
 use std::alloc::{AllocError, Global};
 use thiserror::Error;
 
-/// How much is said of a run.
+/// How much is printed of a run.
 #[derive(Clone, Copy, Debug, PartialEq, Eq)]
 pub enum Extent {
     /// Long lists are cut.
     Cut,
-    /// All there is.
+    /// Lists aren't cut.
     Whole,
 }
 
@@ -50,9 +50,9 @@ pub enum Verb {
     /// Run a schedule of posts, takes, shipments, deliveries and restarts, and print the report of
     /// each node.
     Replay,
-    /// Make what a report tells once more straight from the rules, and print whether both agree.
+    /// Make the contents of a report a second time, straight from the rules, and print whether both agree.
     Check,
-    /// Write what the pieces tell together, as bytes that are a piece of another run.
+    /// Write what the pieces say together as one packed file, which can be a piece of another run.
     Pack,
 }
 
@@ -60,7 +60,7 @@ impl Verb {
     ghost use Rattle.std.specs.Prelude.{◌≡◌};
     ghost use Rattle.command_line.specs.Program.{asked_rank};
 
-    /// The rank that the verb asks for, where it asks for one.
+    /// The rank that the verb asks for; `None` if it asks for none.
     pub fn asked_rank(self) -> Option<u32>
         ensures { result ≡ asked_rank self }
     {
@@ -80,7 +80,7 @@ pub struct Wanted<'a> {
     pub layout: &'a str,
     /// The name of the file for the manifest.
     pub manifest: &'a str,
-    /// Files of these names that are there may be written over.
+    /// Whether files of these names may be overwritten.
     pub force: bool,
 }
 
@@ -111,9 +111,10 @@ pub enum Asked<'a> {
     },
 }
 
-/// Why the words ask for nothing.
+/// Why the words ask for nothing that can be run.
 #[derive(Debug, Drop, Error)]
 pub enum CommandFault {
+    /// Memory was refused.
     #[error("mpimatch: Memory\n")]
     Memory,
     /// A mistake, or a request for the help or the version: `clap` has the text and the status.
@@ -151,7 +152,8 @@ fn shown_status(kind: ErrorKind) -> u8
     }
 }
 
-/// What the words ask for; the first word is the name of the program.
+/// What the words ask for; the first word is the name of the program. [`CommandFault`] comes for a mistake, for the
+/// help and the version, whose text it has, and when memory is refused.
 pub fn command_of<'a>(alloc: Global, words: &'a [&'a str]) -> Result<Asked<'a>, CommandFault>
     ensures asked { IfOk result (λ a. request_in (subcommand_of program (texts_of words.entry.now)) ≡ Some (request_of a)) }
     ensures taken { OnOk result (fault_of program (texts_of words.entry.now) ≡ []) }
@@ -377,7 +379,7 @@ fn program_command<'a>(alloc: Global) -> Result<Command<'a>, AllocError>
     with_init(command, alloc)
 }
 
-/// The program with the verbs for who asks what happened.
+/// The program with the verbs that say what happened in a run.
 fn answering_command<'a>(alloc: Global) -> Result<Command<'a>, AllocError>
     ensures { IfOk result (λ c. app_of c ≡ answering) }
 {

@@ -1,4 +1,5 @@
--- What pieces tell in one order they tell in any other, and what refuses them in another order can be told of them where they are whole.
+-- What pieces tell in one order they tell in any other, and what refuses them in another order can be told of them
+-- where they are whole.
 use Rattle.std.proofs.Common.{◌≡◌, ◌∙◌, inl, inr, ℕ, ◌+◌, ◌<◌, List, [], ◌∷◌, ◌++◌, Option, String, length, map, set, take, get_or, refl, sym, ap, ap₂, subst, arith}
 use Rattle.std.specs.Prelude.{Contains, IsPermutation}
 use Rattle.std.specs.List.{All, flat_map, swap}

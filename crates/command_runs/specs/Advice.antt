@@ -61,8 +61,8 @@ advice_text fault found = plain_text fault
 
 -- ---- what was found
 
--- What was found is of the file that the fault names: what it begins as, or what it has for the parameter that is wrong, where it
--- was read and could be looked at again. Why the system gives no file no clause says.
+-- What was found is of the file that the fault names: what it begins as, or what it has for the parameter that is
+-- wrong, where it was read and could be looked at again. Why the system gives no file no clause says.
 abbrev pub IsFound : (List ℕ → Option (List ℕ)) → RunFault → Found → Type 0
 IsFound file (Json path line column) found = BeginsSo (file (string_bytes path)) found.start
 IsFound file (Text causes.Read path line) found = found.start ≡ None

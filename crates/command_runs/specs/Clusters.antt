@@ -89,9 +89,9 @@ IsOutside file ranks piece = (ranks ≤ piece.rank) × ((facts : Trace) × Tells
 abbrev pub HaveStranger : (List ℕ → Option (List ℕ)) → ℕ → List PieceParts → Type 0
 HaveStranger file ranks pieces = AreWhole file pieces × ((piece : PieceParts) × Contains pieces piece × IsOutside file ranks piece)
 
--- Why the crews of both nodes leave nothing, or there is no exchange, once all texts were read. The first text that is refused is
--- named. A rank that the layout doesn't have comes of a piece, or else of a frame, and that and what threads and sockets are
--- refused for is told of no file.
+-- Why the crews of both nodes leave nothing, or there is no exchange, once all texts were read. The first text that is
+-- refused is named. A rank that the layout doesn't have comes of a piece, or else of a frame, and that and what threads
+-- and sockets are refused for is told of no file.
 abbrev pub RefusesCrews : (List ℕ → Option (List ℕ)) → ℕ → List PieceParts → RunFault → Type 0
 RefusesCrews file ranks pieces faults.Memory = ⊤
 RefusesCrews file ranks pieces faults.Worker = ⊤
@@ -104,8 +104,8 @@ RefusesCrews file ranks pieces faults.Net = AreSound file ranks pieces
 RefusesCrews file ranks pieces (faults.Frame fault) = AreSound file ranks pieces
 RefusesCrews file ranks pieces _ = ⊥
 
--- Why there is no cluster: a packed file is refused; or, where all of them were read, a file of a text can't be read, by readers
--- that fail so; or, where all were, the crews are refused.
+-- Why there is no cluster: a packed file is refused; or, where all of them were read, a file of a text can't be read,
+-- by readers that fail so; or, where all were, the crews are refused.
 abbrev pub RefusesCluster : Type 0 → (List ℕ → Option (List ℕ)) → ℕ → ManifestParts → RunFault → Type 0
 RefusesCluster fails file ranks m fault = (fault ≡ faults.Memory) ⊎ (RefusesFirstPacked file ranks m.packed fault
     ⊎ (((view : View) × TellPacked file ranks m.packed view) × (RefusesBytes fails file m.pieces fault ⊎ RefusesCrews file ranks (by_node m.pieces) fault)))

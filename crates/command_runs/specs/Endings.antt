@@ -58,8 +58,8 @@ abbrev pub EndsUnmade : {W : Type 0} → (List ℕ → Option (List ℕ)) → Ve
 EndsUnmade file verb texts old new e = (fault : InitFault) × (NamesPiped file texts fault ⊎ RefusesWords file texts fault)
     × (new ≡ old) × (e.status ≡ 1) × IsInitShown file verb fault (string_bytes e.errors)
 
--- A verb over the texts of all ranks ends so: they are refused; or it ran over the input that is made of them; or that has no such
--- rank as the verb asks for.
+-- A verb over the texts of all ranks ends so: they are refused; or it ran over the input that is made of them; or that
+-- has no such rank as the verb asks for.
 abbrev pub EndsTexts : {W : Type 0} → Type 0 → (List ℕ → Option (List ℕ)) → Verb → List Text → (W → Option (List ℕ)) → (W → ℕ) → W → W → Ending → Type 0
 EndsTexts fails file verb texts written failures old new e = EndsUnmade file verb texts old new e
     ⊎ ((made : Made) × IsMadeOf file Wait texts made
@@ -81,8 +81,8 @@ abbrev pub strange_line : List Text → List ℕ
 strange_line names = codes "mpimatch: " ++ shown_name (first_name names)
     ++ codes " can't be read as a trace text: name the texts of all ranks, or a layout and a manifest\n"
 
--- A verb over its files ends so: over texts, where the first that isn't empty begins as one; or over a layout and a manifest, where
--- they are two; or they are mistaken, and nothing is written.
+-- A verb over its files ends so: over texts, where the first that isn't empty begins as one; or over a layout and a
+-- manifest, where they are two; or they are mistaken, and nothing is written.
 abbrev pub EndsFiles : {W : Type 0} → Type 0 → (List ℕ → Option (List ℕ)) → Verb → List Text → (W → Option (List ℕ)) → (W → ℕ) → W → W → Ending → Type 0
 EndsFiles fails file verb names written failures old new e = (BeginsWithText file names × EndsTexts fails file verb names written failures old new e)
     ⊎ (((layout manifest : Text) × (names ≡ layout ∷ manifest ∷ []) × EndsPair fails file verb layout manifest written failures old new e)
@@ -95,7 +95,8 @@ EndsCluster fails file layout manifest written failures old new e =
     × RanCluster fails file l m ran written failures old new × IfErr ran (NamesFailed ⊥) × IsEndedBy false file ran e)
     ⊎ ((fault : RunFault) × RefusesLoading fails file None layout manifest fault × EndsShowing false file fault old new e)
 
--- What the program is run on, and what it leaves: the words, the files that it reads, and the store in which `init` keeps its two.
+-- What the program is run on, and what it leaves: the words, the files that it reads, and the store in which `init`
+-- keeps its two.
 pub record Surroundings : Type 0 where
   pub words : List Text
   pub file : List ℕ → Option (List ℕ)
@@ -115,8 +116,8 @@ EndsAsked fails failed s (init texts wish) written failures old new e =
 
 -- ---- the program
 
--- The words ask for nothing, for this cause, and the program ends so: its text was written, or a write failed; or memory was
--- wanting; or its text was shown.
+-- The words ask for nothing, for this cause, and the program ends so: its text was written, or a write failed; or
+-- memory was wanting; or its text was shown.
 abbrev pub EndsFor : {W : Type 0} → CommandFault → (W → Option (List ℕ)) → (W → ℕ) → W → W → Ending → Type 0
 EndsFor fault written failures old new e =
     ((e.status ≡ 0) × (string_bytes e.errors ≡ []) × (0 ≡ status_of fault) × (failures new ≡ failures old))

@@ -25,7 +25,8 @@ abbrev pub FitsIn : ℕ → Option (List ℕ) → Type 0
 FitsIn most None = Unit {0}
 FitsIn most (Some bytes) = length bytes ≤ most
 
--- Why a file that may have so many bytes can't be read: nothing tells its bytes, as where it is absent; or its reader fails; or it has more.
+-- Why a file that may have so many bytes can't be read: its bytes aren't known, as when it is absent; or its reader
+-- fails; or it has more.
 abbrev pub IsUnreadable : ℕ → Type 0 → Option (List ℕ) → Type 0
 IsUnreadable most fails None = Unit {0}
 IsUnreadable most fails (Some bytes) = fails ⊎ (most < length bytes)

@@ -10,7 +10,8 @@ use Rattle.command_runs.specs.InitFaults.{init_fault_line_of}
 use Rattle.command_runs.specs.declared.faults.init_fault.InitFault.{InitFault}
 use Rattle.command_runs.specs.declared.faults.init_fault.InitFault.TheVariants.{Text, NoCall, Made}
 
--- the words: of a text that is refused those of its fault, of one without a call what it begins as, and of a layout that breaks a rule the rule
+-- the words: of a text that is refused those of its fault, of one without a call what it begins as, and of a layout
+-- that breaks a rule the rule
 abbrev pub init_advice_text : InitFault → Found → List ℕ
 init_advice_text (Text fault) found = advice_text fault found
 init_advice_text (NoCall path) found = begun_text found.start

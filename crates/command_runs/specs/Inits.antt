@@ -15,7 +15,7 @@ use Rattle.command_runs.specs.declared.ending.Ending.{Ending}
 use Rattle.command_runs.specs.declared.faults.init_fault.InitFault.{InitFault}
 use Rattle.command_runs.specs.declared.faults.init_fault.InitFault.TheVariants as faults
 
--- One of these words names a text that nothing tells: it is no file that can be read twice.
+-- One of these words names a text whose bytes aren't known, because its file can't be read twice.
 abbrev pub NamesPiped : (List ℕ → Option (List ℕ)) → List (List ℕ) → InitFault → Type 0
 NamesPiped file words (faults.Piped path) = Contains words (string_bytes path) × (file (string_bytes path) ≡ None)
 NamesPiped file words _ = ⊥
@@ -50,7 +50,8 @@ refuses_keeping false one other = RefusesAdding one other
 abbrev pub RefusesPutting : Wish → Option Files → Type 0 → PutFault → Type 0
 RefusesPutting wish = refuses_keeping wish.force wish.layout wish.manifest
 
--- What was made of the texts isn't kept for this cause; nothing has changed, unless the fault says that something is left.
+-- What was made of the texts isn't kept for this cause; nothing has changed, unless the fault says that something is
+-- left.
 pub record IsUnkept (wish : Wish) (old new : Option Files) (failed : Type 0) (fault : InitFault) : Type 0 where
   pub why : PutFault
   pub told : IsPutFault wish.layout wish.manifest why fault
@@ -66,8 +67,8 @@ pub record KeepsMade (wish : Wish) (made : Made) (names : List (List ℕ)) (old 
   pub are : AreFilesOf made names layout manifest
   pub kept : Goes (PutsBoth wish.force (file_with wish.layout layout) (file_with wish.manifest manifest)) old new
 
--- How `init` ran over the texts that these words name, in a store of these files: both files are kept and the notes of them
--- written; or nothing was made, or what was made isn't kept, and nothing written; or only a front of the notes is.
+-- How `init` ran over the texts that these words name, in a store of these files: both files are kept and the notes of
+-- them written; or nothing was made, or what was made isn't kept, and nothing written; or only a front of the notes is.
 abbrev pub RanInit : {W : Type 0} → (List ℕ → Option (List ℕ)) → List (List ℕ) → Wish → Option Files → Option Files → Type 0 → Result (Unit {0}) InitFault → (W → Option (List ℕ)) → (W → ℕ) → W → W → Type 0
 RanInit file words wish old new failed (Ok done) written failures before after = (made : Made) × (is : IsMadeOf file wish.sends words made)
     × KeepsMade wish made is.names old new × Appends (written before) (written after) (notes_of made is)

@@ -14,7 +14,7 @@ use Rattle.command_runs.specs.declared.faults.fault.RunFault.TheVariants.{Memory
 use Rattle.command_runs.specs.declared.load.whole.WholeFault.{WholeFault}
 use Rattle.command_runs.specs.declared.load.whole.WholeFault.TheVariants as wholes
 
--- The file can't be opened: memory was wanting, or nothing tells its bytes, and the fault names it.
+-- The file can't be opened: memory was refused, or its bytes aren't known, and the fault names it.
 abbrev pub RefusesOpening : List ℕ → Option (List ℕ) → RunFault → Type 0
 RefusesOpening name file fault = (fault ≡ Memory) ⊎ ((path : String Global) × (fault ≡ File path) × IsNamed path name × (file ≡ None))
 
@@ -70,8 +70,8 @@ abbrev pub LacksRank : Option ℕ → Parts → Type 0
 LacksRank None l = ⊥
 LacksRank (Some rank) l = l.ranks ≤ rank
 
--- Why there is no input: the layout is refused; or it doesn't have the rank that is asked for, which is seen before the manifest
--- is read; or the manifest is refused.
+-- Why there is no input: the layout is refused; or it doesn't have the rank that is asked for, which is seen before the
+-- manifest is read; or the manifest is refused.
 abbrev pub RefusesLoading : Type 0 → (List ℕ → Option (List ℕ)) → Option ℕ → List ℕ → List ℕ → RunFault → Type 0
 RefusesLoading fails file rank layout manifest fault = RefusesInput RefusesLayout fails layout (file layout) fault
     ⊎ ((l : Parts) × TellsLayout (file layout) l

@@ -8,7 +8,8 @@ use Rattle.run_files.specs.Manifests.{ManifestParts}
 use Rattle.command_runs.specs.Packed.{TellPacked}
 use Rattle.command_runs.specs.Traces.{IsInside, TellTrace}
 
--- The view is the join of what the packed files tell and of the view of the facts of all texts, all of ranks below a number.
+-- The view is the join of what the packed files tell and of the view of the facts of all texts, all of ranks below a
+-- number.
 abbrev pub TellAll : (List ℕ → Option (List ℕ)) → ℕ → ManifestParts → View → Type 0
 TellAll file ranks m view = (packed : View) × (trace : Trace) × TellPacked file ranks m.packed packed
     × TellTrace file m.pieces trace × All (IsInside file ranks) m.pieces × (view ≡ join packed (view_of trace))

@@ -21,7 +21,7 @@ IsFrameFault name fault Memory = Unit {0}
 IsFrameFault name fault (PackedFrame cause path frame) = IsNamed path name × (cause ≡ fault.cause) × (frame ≡ fault.frame)
 IsFrameFault name fault _ = ⊥
 
--- Why a packed file is refused: it can't be opened, so that nothing tells its bytes; or the frame of a number is refused.
+-- Why a packed file is refused: it can't be opened, so its bytes aren't known; or the frame of a number is refused.
 abbrev pub RefusesPackedFile : List ℕ → ℕ → Option (List ℕ) → RunFault → Type 0
 RefusesPackedFile name ranks bytes Memory = Unit {0}
 RefusesPackedFile name ranks bytes (File path) = IsNamed path name × (bytes ≡ None)

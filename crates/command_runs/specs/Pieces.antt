@@ -74,7 +74,8 @@ StopsText (Some text) cause line = (calls : List TextCall) × IsSome (seen_in ca
 abbrev pub PassesPlaces : ℕ → Option (List ℕ) → Type 0
 PassesPlaces first text = (events : List Event) × TellsEvents text events × HasPlacesPast first events
 
--- Why a piece is refused: its file can't be opened, so that nothing tells its text; its text is refused; or a place would be past the last.
+-- Why a piece is refused: its file can't be opened, so its text isn't known; its text is refused; or a place would be
+-- past the last.
 abbrev pub RefusesPiece : List ℕ → ℕ → Option (List ℕ) → RunFault → Type 0
 RefusesPiece name first text Memory = Unit {0}
 RefusesPiece name first text (File path) = IsNamed path name × (text ≡ None)

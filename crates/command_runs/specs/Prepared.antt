@@ -62,7 +62,8 @@ abbrev pub RefusesMade : (List ℕ → Option (List ℕ)) → List (List ℕ) �
 RefusesMade file names (NotMade fault) = (ranks : List RankCalls) × ((calls : ℕ) × AllSay file names ranks calls) × RefusesMaking ranks fault
 RefusesMade file names _ = ⊥
 
--- Why nothing is made of the texts that these words name: their names, then one of the texts, then what they say together.
+-- Why nothing is made of the texts that these words name: their names, then one of the texts, then what they say
+-- together.
 abbrev pub RefusesWords : (List ℕ → Option (List ℕ)) → List (List ℕ) → InitFault → Type 0
 RefusesWords file words fault = RefusesNames words fault
     ⊎ ((names : List (List ℕ)) × ((by_digits : Bool) × IsByRank words by_digits names) × (length words ≤ MOST_RANKS) × (RefusesOne file names fault ⊎ RefusesMade file names fault))
@@ -74,7 +75,8 @@ abbrev pub digits_text : Bool → List ℕ
 digits_text true = codes "ranks by the digits at the ends of the names\n"
 digits_text false = []
 
--- what is said of so many ranks with so many calls and of what they made: by what their ranks are known, and what was found
+-- what is said of so many ranks with so many calls and of what they made: by what their ranks are known, and what was
+-- found
 abbrev pub made_notes : Bool → ℕ → ℕ → Made → List ℕ
 made_notes by_digits ranks calls made = digits_text by_digits ++ notes_text ranks calls made.derived.comms.items made.derived.left_out.items
 

@@ -21,7 +21,8 @@ use Rattle.command_runs.specs.declared.faults.fault.RunFault.TheVariants as faul
 
 -- ---- nodes
 
--- What so many nodes hold after these steps: each knows what the segments that reached it tell, and none is without its answer.
+-- What so many nodes hold after these steps: each knows what the segments that reached it tell, and none is without its
+-- answer.
 abbrev pub nodes_after : Parts → ℕ → List Step → List Held
 nodes_after l nodes steps = map (λ reached. held l (knowledge_of reached) false) (after_all steps (opening nodes)).reached
 
@@ -94,7 +95,8 @@ pub record RefusesStep (l : Parts) (nodes : ℕ) (steps : List Step) (k : ℕ) (
   pub before : CanReplay l nodes (take k steps)
   pub refuses : refusal (world_in l (after_all (take k steps) (opening nodes))) step ≡ Some fault
 
--- What the end of a run at a step is to a replay: memory was wanting, for the step or for its node's answer, or the step can't be done.
+-- What the end of a run at a step is to a replay: memory was wanting, for the step or for its node's answer, or the
+-- step can't be done.
 abbrev pub stop_of : WorldFault → ℕ → RunFault
 stop_of worlds.Stale k = faults.Memory
 stop_of worlds.Memory k = faults.Memory

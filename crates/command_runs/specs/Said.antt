@@ -14,6 +14,7 @@ IsReported l view text = (answer : Answered) × IsAnswer l view answer × (text 
 abbrev pub IsReportedJson : Parts → View → List ℕ → Type 0
 IsReportedJson l view text = (answer : Answered) × IsAnswer l view answer × (text ≡ json_text answer)
 
--- What holds up a run is told of the answer to a view: in words, as JSON or as a picture, for which there is no definition.
+-- What holds up a run is told of the answer to a view: in words, as JSON or as a picture, for which there is no
+-- definition.
 abbrev pub IsDiagnosed : Parts → View → Type 0
 IsDiagnosed l view = (answer : Answered) × IsAnswer l view answer

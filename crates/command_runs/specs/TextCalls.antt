@@ -34,7 +34,7 @@ abbrev pub StopsSo : Option (List ℕ) → WalkFault NoMemory → Type 0
 StopsSo None fault = Unit {0}
 StopsSo (Some text) fault = StopsIn (Some text) fault
 
--- The file can't be opened, so that nothing tells its text, or its text is refused.
+-- The file can't be opened, so its text isn't known, or its text is refused.
 abbrev pub RefusesRead : List ℕ → Option (List ℕ) → RunFault → Type 0
 RefusesRead name text fault = ((path : String Global) × (fault ≡ runs.File path) × IsNamed path name × (text ≡ None))
     ⊎ ((walk : WalkFault NoMemory) × IsWalkFault name walk fault × StopsSo text walk)

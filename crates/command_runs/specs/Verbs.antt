@@ -45,9 +45,9 @@ RefusesVerb file Replay l m fault = RefusesReplay file l m fault
 RefusesVerb file Pack l m fault = RefusesPack file l m fault
 RefusesVerb file verb l m fault = RefusesNamed file l.ranks m fault
 
--- Output or refusal: a run answered so, and a writer tells its bytes and its failures before and after. Its output was written
--- whole, and all that was checked held; or the writer failed, and the output broke off; or the run is refused for this fault, and
--- nothing was written.
+-- Output or refusal: a run answered so, and a writer tells its bytes and its failures before and after. Its output was
+-- written whole, and all that was checked held; or the writer failed, and the output broke off; or the run is refused
+-- for this fault, and nothing was written.
 abbrev pub RanSo : {W : Type 0} → (Is Begins : List ℕ → Type 0) → (RunFault → Type 0) → Result Outcome RunFault → (W → Option (List ℕ)) → (W → ℕ) → W → W → Type 0
 RanSo Is Begins Refuses (Ok outcome) written failures old new = (outcome ≡ Good) × Writes Is (written old) (written new)
 RanSo Is Begins Refuses (Err fault) written failures old new = ((fault ≡ Write) × BreaksOff Begins written failures old new)

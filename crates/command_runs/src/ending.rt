@@ -37,7 +37,9 @@ use std::thread::Threads;
 /// The status of the program, and what standard error shows.
 #[derive(Debug, Drop)]
 pub struct Ending {
+    /// 0 if the run was good, 1 for a refused run, 2 for a mistake in the words.
     pub status: u8,
+    /// The text for standard error.
     pub errors: String,
 }
 
@@ -321,7 +323,7 @@ fn showing_init<O: Opener>(
     Ok(Ending { status: 1, errors })
 }
 
-/// The program ends so where its words can't be read, since one is no UTF-8: a mistake in the words.
+/// The ending when a word of the command line is no UTF-8, which counts as a mistake in the words.
 pub fn ending_without_words(alloc: Global) -> Result<Ending, AllocError>
     ensures { IfOk result (λ e. e.status ≡ 2) }
 {

@@ -29,7 +29,7 @@
 //!   `specs/Inputs.antt`, `Prepared.antt`, `TextCalls.antt`
 //! - when files are texts ([`load::first_look`]), and what is looked at twice ([`load::second_look`]):
 //!   `specs/Looks.antt`, `Notes.antt`
-//! - where files come from ([`load::opener`]), and who is told how the reading comes along ([`load::watch`],
+//! - where files come from ([`load::opener`]), and what observes how far the reading is ([`load::watch`],
 //!   [`load::terminal`]): `specs/Files.antt`
 //! - how a piece is read ([`pieces::piece`], with notes in [`pieces::noted`]), and in which order pieces are refused:
 //!   `specs/Pieces.antt`, `Traces.antt`, `Refusals.antt`, `Notes.antt`

@@ -21,8 +21,8 @@ use mpi_model::{Layout, Write};
 use run_files::{Manifest, RunInput};
 use std::alloc::{AllocError, Global};
 
-/// What a verb runs over: the layout and the manifest, which were read or made, and where the files of the manifest's pieces
-/// come from.
+/// What a verb runs over: the layout and the manifest, which were read or made, and where the files of the manifest's
+/// pieces come from.
 #[derive(Drop)]
 pub struct Run<'a, O: Opener> {
     pub alloc: Global,
@@ -49,12 +49,13 @@ impl<'a, O: Opener> Run<'a, O> {
     }
 }
 
-/// How a run ended whose output was written whole.
+/// How a run ended whose output was written completely.
 #[derive(Clone, Copy, Debug, PartialEq, Eq)]
 pub enum Outcome {
     /// All that was checked held.
     Good,
-    /// The lines of a check say `unequal` or `invalid`. It is proved that no run ends so, and looked at in each.
+    /// The lines of a check say `unequal` or `invalid`. It is proved that no run ends so, and every check looks for it
+    /// all the same.
     CheckFailed,
 }
 
@@ -62,16 +63,16 @@ pub enum Outcome {
 /// glibc learns nothing.
 const FIRST_BLOCK: usize = 32_505_856;
 
-/// Asks for a block of memory and gives it back, unwritten. From that glibc's allocator learns how large the blocks are
-/// that a run frees: lists up to that size then stand in its heap, of which it keeps twice as much for what is asked for
-/// next, and each page isn't fetched anew from the system. Where the block is refused, nothing changes.
+/// Requests a block of memory and frees it, unwritten. From that glibc's allocator learns how large the blocks of a run
+/// are: it then keeps lists up to that size in its heap, and keeps twice as much of freed memory, so pages aren't
+/// fetched anew from the system. If the block is refused, nothing changes.
 fn keep_freed_memory(alloc: Global) {
     let block: Result<Vec<u8>, AllocError> = Vec::with_capacity(alloc, FIRST_BLOCK);
     drop(block);
 }
 
-/// Runs a verb. Nothing is written before the whole run is good. A cluster, which takes threads, is run by
-/// [`cluster`](crate::verbs::cluster::cluster).
+/// Runs a verb. Nothing is written before all else has succeeded. A cluster, which takes threads, is run by
+/// [`cluster`](crate::verbs::cluster::cluster). [`RunFault`] says why a run was refused.
 pub fn run_with<O: Opener, V: Watcher, W: Write>(
     verb: Verb,
     run: &Run<'_, O>,

@@ -135,7 +135,8 @@ impl<'a> Writer<'a> {
         }
     }
 
-    /// Which requests of a call are open: those that lack a partner, where there are such, those of the ranks asked for first.
+    /// Which requests of a call are open: those that lack a partner, where there are such, those of the ranks asked for
+    /// first.
     fn put_open(&mut self, call: &Call, open: &[OpName], asked: &[u32]) {
         let Ok(told) = self.source.told_requests(open, asked) else {
             self.out.give_up();
@@ -210,7 +211,7 @@ impl<'a> Writer<'a> {
         self.put_elsewhere(message.comm);
     }
 
-    /// From whom a receive takes, and which tag.
+    /// Writes from whom a receive takes, and which tag.
     pub fn put_receive(&mut self, receive: &Receive) {
         match receive.source {
             Some(source) => {

@@ -14,9 +14,10 @@ use trace_pair::Pair;
 /// How many calls are told.
 pub(crate) const MOST_CALLS: u64 = 10;
 
-/// Says in words the last ten calls of a rank that can be read, each with its times and with the calls that its messages
-/// went to or came from; nothing of a rank of which nothing can be read. It is said behind
-/// [`rank_words`](crate::rank_words), and of what is known, since a diagnosis tells of no pair.
+/// Says in words the last ten calls of a rank that can be read, each with its times and with the calls that its
+/// messages went to or came from. It says nothing if no call of the rank can be read. It is printed after
+/// [`rank_words`](crate::rank_words). It takes what is known, since a diagnosis has no pairs. Fails with `AllocError`
+/// when memory is refused.
 pub fn last_calls(
     alloc: Global,
     layout: &Layout,

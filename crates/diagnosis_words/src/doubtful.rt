@@ -1,7 +1,7 @@
 //! Functions that may wait for others or move data, and that aren't read.
 
-/// One-sided calls and the synchronization of single windows (MPI 4.0, 12.3 and 12.5), and makings of communicators that
-/// aren't collective over one object (7.4.2, 7.4.3, 7.6.2, 11.9.4).
+/// One-sided calls and the synchronization of single windows (MPI 4.0, 12.3 and 12.5), and makings of communicators
+/// that aren't collective over one object (7.4.2, 7.4.3, 7.6.2, 11.9.4).
 const DOUBTFUL: [&str; 29] = [
     "MPI_Put",
     "MPI_Get",

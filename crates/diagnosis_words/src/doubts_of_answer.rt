@@ -16,9 +16,9 @@ const MOST_SHOWN: usize = 10;
 /// The most messages that are named on a line.
 const MOST_NAMED: usize = 3;
 
-/// Says in words of which places two pieces tell two things, and which messages are in no pair since a receive may have taken
-/// them. It is said behind [`diagnosis_words`](crate::diagnosis_words), and of the answer and of what is known, since a
-/// diagnosis tells neither.
+/// Says in words of which places two pieces say different things, and which messages are in no pair because a receive
+/// may have taken them. It is printed after [`diagnosis_words`](crate::diagnosis_words). It takes the answer and what
+/// is known, since a diagnosis has neither. Fails with `AllocError` when memory is refused.
 pub fn answer_doubts(
     alloc: Global,
     layout: &Layout,

@@ -6,7 +6,7 @@ use std::alloc::{AllocError, Global};
 use std::collections::BTreeMap;
 use trace_diagnosis::{Beyond, Stand, Standing};
 
-/// Ranks that stand alike: in or behind calls of one function on one object in one round, from one place of the program.
+/// Ranks that stand alike: in or after calls of one function on one object in one round, from one place of the program.
 #[derive(Debug, Drop)]
 pub(crate) struct Group {
     pub ranks: Vec<u32>,
@@ -98,7 +98,7 @@ impl Group {
         self.ranks.as_slice().first().copied().unwrap_or(0)
     }
 
-    /// Adds a rank that stands as these do.
+    /// Adds a rank that stands as these do. On `AllocError`, when memory is refused, its contents are unspecified.
     pub fn add(&mut self, standing: &Standing) -> Result<(), AllocError> {
         self.ranks.push(standing.rank)?;
         if let Some(last) = &standing.call {
@@ -121,7 +121,7 @@ pub(crate) fn singles_of(source: Source<'_>, ranks: &[u32]) -> Result<Vec<Group>
     Ok(groups)
 }
 
-/// Ranks by how they stand, in the order of their first ranks.
+/// Groups of ranks that stand alike, in the order of their first ranks.
 pub(crate) fn groups_of(source: Source<'_>, ranks: &[u32]) -> Result<Vec<Group>, AllocError> {
     let mut groups: Vec<Group> = Vec::new(source.alloc);
     let mut places: BTreeMap<Vec<u8>, usize> = BTreeMap::new(source.alloc);

@@ -13,7 +13,8 @@ use trace_diagnosis::{
     NearReceive, OpenRound, Polling, Root, RootKind, RoundName, Stand, Standing, Starving, Why,
 };
 
-/// Writes a diagnosis as JSON, with what the texts tell of the calls that it names. It ends with a line feed.
+/// Writes a diagnosis as JSON, with what the texts tell of the calls that it names. It ends with a line feed. Fails
+/// with `AllocError` when memory is refused.
 pub fn diagnosis_json(
     alloc: Global,
     layout: &Layout,

@@ -26,8 +26,8 @@ fn push_last(
     Ok(())
 }
 
-/// The calls that a diagnosis names, by rank and number, in rising order and each once, and the last ones of a rank that is
-/// asked for: what is said of them wants to be looked up in the texts.
+/// The calls that a diagnosis names, by rank and number, in rising order and each once, and the last ones of a rank
+/// that is asked for: the texts are read again for them. Fails with `AllocError` when memory is refused.
 pub fn named_calls(
     alloc: Global,
     diagnosis: &Diagnosis,

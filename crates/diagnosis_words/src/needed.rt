@@ -71,7 +71,7 @@ pub(crate) fn one_holds(parts: &[Condition], others: Others<'_>) -> bool {
     false
 }
 
-/// Whether a condition takes one of the ranks that it names, whichever that is.
+/// Whether one of the ranks that a condition names is enough, whichever it is.
 #[cycle(ones)]
 pub(crate) fn takes_one(condition: &Condition) -> bool {
     match condition {
@@ -95,7 +95,7 @@ fn each_takes_one(parts: &[Condition]) -> bool {
     true
 }
 
-/// Whether a condition takes all of the ranks that it names.
+/// Whether a condition needs all of the ranks that it names.
 #[cycle(alls)]
 pub(crate) fn takes_all(condition: &Condition) -> bool {
     match condition {

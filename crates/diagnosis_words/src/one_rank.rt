@@ -12,8 +12,9 @@ use trace_diagnosis::{Diagnosis, Held, Need};
 /// The most lines of a list.
 const MOST_SHOWN: usize = 10;
 
-/// Says in words how one rank stands, what it needs, what holds it up, what it holds up, and which of its messages, receives
-/// and requests found no end: the same facts as [`diagnosis_words`](crate::diagnosis_words) tells of all ranks.
+/// Says in words how one rank stands, what it needs, what holds it up, what it holds up, and which of its messages,
+/// receives and requests found no end: the same facts as [`diagnosis_words`](crate::diagnosis_words) tells of all
+/// ranks. Fails with `AllocError` when memory is refused.
 pub fn rank_words(
     alloc: Global,
     layout: &Layout,

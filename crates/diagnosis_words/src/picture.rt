@@ -17,9 +17,10 @@ use trace_stuck::Condition;
 /// The most nodes, unless all are asked for.
 const MOST_NODES: usize = 200;
 
-/// Draws a diagnosis as Graphviz DOT: a node for ranks that stand alike and need the same, with an edge to what they need,
-/// through a point with dashed edges where one of several is enough. What holds up the run is filled, with a bold outline
-/// where it has ended or gives no sign; a round whose calls don't match is a node with its calls.
+/// Draws a diagnosis as Graphviz DOT: a node for ranks that stand alike and need the same, with an edge to what they
+/// need, through a point with dashed edges where one of several is enough. What holds up the run is filled, with a bold
+/// outline where it has ended or gives no sign; a round whose calls don't match is a node with its calls. Fails with
+/// `AllocError` when memory is refused.
 pub fn diagnosis_picture(
     alloc: Global,
     layout: &Layout,
@@ -142,7 +143,8 @@ fn style_of_kind(kind: RootKind) -> &'static [u8] {
     }
 }
 
-/// What ranks have in common that are drawn as one: how they are drawn, how they stand, and what they need; or their shape alone.
+/// What ranks have in common that are drawn as one: how they are drawn, how they stand, and what they need; or their
+/// shape alone.
 fn node_key(
     source: Source<'_>,
     standing: &Standing,
@@ -495,8 +497,8 @@ impl<'a> Picture<'a> {
         Ok(())
     }
 
-    /// What is needed of the parts of which one is enough: those that would hold if all others went on that haven't ended, and
-    /// all where none would.
+    /// What is needed of the parts of which one is enough: those that would hold if all others went on that haven't
+    /// ended, and all where none would.
     #[cycle(parts)]
     fn put_one_parts(
         &mut self,

@@ -122,8 +122,9 @@ impl<'a> Source<'a> {
         Ok(())
     }
 
-    /// Which open requests are told: those that lack a partner, those first that name one of the ranks asked for. Where there
-    /// are none, all but those that name the null process; where there are only such, these.
+    /// Which open requests are printed: those that lack a partner, with those first that name one of the ranks asked
+    /// for. If no request lacks a partner, all but those that name the null process; if there are only such, these.
+    /// Fails with `AllocError` when memory is refused.
     pub fn told_requests(self, open: &[OpName], asked: &[u32]) -> Result<Vec<OpName>, AllocError> {
         let mut told = Vec::new(self.alloc);
         self.requests_in(Order::Asked, open, asked, &mut told)?;

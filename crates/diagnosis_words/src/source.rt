@@ -8,7 +8,7 @@ use trace_diagnosis::{
     Diagnosis, Held, LastCall, Operation, Polling, Root, RootKind, RoundName, Standing,
 };
 
-/// What is printed from.
+/// All that the printers print from.
 #[derive(Clone, Copy)]
 pub(crate) struct Source<'a> {
     pub alloc: Global,

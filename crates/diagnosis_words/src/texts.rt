@@ -5,12 +5,12 @@ use std::alloc::{AllocError, Global};
 use text_notes::{CallSite, Look, TextNote, note_of};
 use trace_arguments::{Disagreement, Truncated};
 
-/// What the texts of a run tell of its calls and of themselves. It is empty where there is no text.
+/// What the texts of a run tell of its calls and of themselves. It is empty if there is no text.
 #[derive(Debug, Drop)]
 pub struct TextFacts {
     /// What was noted of each text, in the order of the pieces.
     pub notes: Vec<TextNote>,
-    /// Where calls stand, by rank and number.
+    /// Where calls stand in the texts, by rank and number.
     pub sites: Vec<PlacedSite>,
     /// How often functions were called that may wait or move data and that aren't read, by name.
     pub local: Vec<LocalCalls>,
@@ -57,18 +57,18 @@ pub struct CutText {
 pub(crate) struct Place<'a> {
     /// The name of the text's file, as the manifest spells it.
     pub path: &'a [u8],
-    /// The same, as a line for a person shows it.
+    /// The name of the text's file as a line for a person shows it.
     pub file: &'a [u8],
     /// The line where the call begins.
     pub line: Option<u64>,
-    /// From where in the program it was made.
+    /// The place in the program from which it was made.
     pub caller: Option<&'a [u8]>,
     /// The name of its function.
     pub function: Option<&'a [u8]>,
 }
 
 impl TextFacts {
-    /// Nothing, as where no text was read.
+    /// The facts when no text was read: none.
     pub fn none(alloc: Global) -> TextFacts {
         TextFacts {
             notes: Vec::new(alloc),
@@ -81,8 +81,9 @@ impl TextFacts {
         }
     }
 
-    /// Adds what a second look at a text has found: the text's place among the notes is given, and each call has the number
-    /// among the calls of its rank that the note's piece gives it.
+    /// Adds what a second look at a text has found: the text's place among the notes is given, and each call has the
+    /// number among the calls of its rank that the note's piece gives it. On `AllocError`, when memory is refused, its
+    /// contents are unspecified.
     pub fn add(&mut self, alloc: Global, note: usize, look: Look) -> Result<(), AllocError> {
         let (rank, first) = match self.notes.as_slice().get(note) {
             Some(noted) => (noted.rank(), noted.first()),
@@ -106,7 +107,7 @@ impl TextFacts {
         Ok(())
     }
 
-    /// Puts what was added in order.
+    /// Puts what was added in order. On `AllocError`, when memory is refused, its contents are unspecified.
     pub fn finish(&mut self) -> Result<(), AllocError> {
         self.sites
             .sort_by_key(|site| (site.rank, site.call, site.note))?;

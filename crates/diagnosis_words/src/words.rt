@@ -29,8 +29,8 @@ const LONGEST_LINE: usize = 400;
 /// Lines that are said beside the lists: the first two, the other sends and the doubts with their heads.
 const OTHER_LINES: usize = 14;
 
-/// Says a diagnosis in words: what holds up the run, where all ranks stand, and what else is known. A list is cut at ten
-/// lines, unless `all` is asked for.
+/// Says a diagnosis in words: what holds up the run, where all ranks stand, and what else is known. A list is cut at
+/// ten lines, unless `all` is asked for. Fails with `AllocError` when memory is refused.
 pub fn diagnosis_words(
     alloc: Global,
     layout: &Layout,

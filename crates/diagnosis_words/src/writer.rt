@@ -74,7 +74,7 @@ fn parted(caller: &[u8]) -> (&[u8], Option<&[u8]>) {
 }
 
 impl<'a> Writer<'a> {
-    /// No word yet.
+    /// A writer without words yet.
     pub fn new(source: Source<'a>, all: bool) -> Writer<'a> {
         Writer {
             out: Text::new(source.alloc),
@@ -84,12 +84,12 @@ impl<'a> Writer<'a> {
         }
     }
 
-    /// Words as they stand.
+    /// Appends words unchanged.
     pub fn put(&mut self, words: &[u8]) {
         self.out.put(words);
     }
 
-    /// A number.
+    /// Appends a number.
     pub fn put_number(&mut self, n: u64) {
         self.out.put_number(n);
     }
@@ -150,7 +150,7 @@ impl<'a> Writer<'a> {
         }
     }
 
-    /// From where in the program a call was made: `main.c:42 in exchange`.
+    /// Writes the place in the program from which a call was made: `main.c:42 in exchange`.
     pub fn put_caller(&mut self, caller: &[u8]) {
         let (place, function) = parted(caller);
         self.put_path(place);

@@ -32,7 +32,8 @@ is_open_from is_open (Return outs stamp ∷ events) = is_open_from false events
 abbrev pub ends_open : List Event → Bool
 ends_open events = is_open_from false events
 
--- The events with those of one call more. A call that comes after one that has not returned is left out: a text has none.
+-- The events with those of one call more. A call that comes after one that has not returned is left out: a text has
+-- none.
 abbrev pub collected : List Event → Seen → List Event
 collected events call = if ends_open events then events else events ++ events_of call
 

@@ -49,7 +49,8 @@ abbrev pub ends_note : List ℕ → Bool
 ends_note [] = true
 ends_note (byte ∷ bytes) = ends_bare (byte ∷ bytes)
 
--- A text begins with a note that gives a number this name, or with nothing, and with a line feed, and then comes the rest.
+-- A text begins with a note that gives a number this name, or with nothing, and with a line feed, and then comes the
+-- rest.
 pub record EndsNote (name : NumName) (text rest : List ℕ) : Type 0 where
   pub note : List ℕ
   pub whole : text ≡ note ++ line_feed ∷ rest
@@ -87,7 +88,8 @@ pub record TellsReceive (envelope : Envelope) (text rest : List ℕ) : Type 0 wh
   pub tells : TellsAll (receive_lines count datatype source tag comm) text rest
   pub says : (raw : TextCall) (more : List Param) → raw.params ≡ receive_lines count datatype source tag comm ++ more → envelope_of_receive raw ≡ Ok envelope
 
--- A text begins with so many parameter lines, which say a call of a function and what it brings back, whatever its times.
+-- A text begins with so many parameter lines, which say a call of a function and what it brings back, whatever its
+-- times.
 pub record TellsCall (function : Function) (call : Call) (outs : Outs) (lines : ℕ) (text rest : List ℕ) : Type 0 where
   pub params : List Param
   pub tells : TellsAll params text rest
@@ -148,7 +150,8 @@ usual_name (functions.Collective Gather) = codes "MPI_Gather"
 usual_name (functions.Collective Reduce) = codes "MPI_Reduce"
 usual_name _ = []
 
--- So many bytes in front of a text are a whole call of a function, of so many lines, and it is typed so, wherever it stands.
+-- So many bytes in front of a text are a whole call of a function, of so many lines, and it is typed so, wherever it
+-- stands.
 pub record IsWhole (function : Function) (call : TypedCall) (bytes lines : ℕ) (text : List ℕ) : Type 0 where
   pub params : List Param
   pub exit : Times

@@ -10,7 +10,8 @@ use Rattle.dumpi_calls.specs.declared.function.Function.TheVariants as functions
 use Rattle.dumpi_calls.specs.declared.parameter.Parameter.{Parameter}
 use Rattle.dumpi_calls.specs.declared.parameter.Parameter.TheVariants.{Request, Requests, Index, Indices, Flag, Status, Statuses}
 
--- the parameters that a call of a function is read by: those of its row, and those that tell how it returned and may be absent
+-- the parameters that a call of a function is read by: those of its row, and those that tell how it returned and may be
+-- absent
 abbrev pub looked_parameters : Function → List Parameter
 looked_parameters (functions.Send mode) = send_parameters
 looked_parameters (functions.Isend mode) = send_parameters ++ Request ∷ []

@@ -45,8 +45,8 @@ abbrev pub source_told : Option Num → Told
 source_told None = Nothing
 source_told (Some number) = told_source (told_by number.name number.value)
 
--- What the fields `cancelled` and `source` of a group tell: where the operation was cancelled, its source says nothing (MPI 4.0,
--- 3.8.4).
+-- What the fields `cancelled` and `source` of a group tell: where the operation was cancelled, its source says nothing
+-- (MPI 4.0, 3.8.4).
 abbrev pub told_from : Option Num → Option Num → Told
 told_from None source = source_told source
 told_from (Some cancelled) source = if is_set cancelled.value then Cancelled else source_told source
@@ -158,8 +158,8 @@ flag raw = do
   flag ← number_in Flag raw
   Ok (outcomes.Flag (is_set flag.value) (told_at (groups_in Status raw) 0))
 
--- What `statuses` tells where all requests are done, and nothing where they are not: then none of them was completed (MPI 4.0,
--- 3.7.5).
+-- What `statuses` tells where all requests are done, and nothing where they are not: then none of them was completed
+-- (MPI 4.0, 3.7.5).
 unfoldable pub all_done : List ℤ → TextCall → Result Outs CallFault
 all_done requests raw = do
   flag ← number_in Flag raw

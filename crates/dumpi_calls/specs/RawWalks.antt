@@ -42,7 +42,8 @@ abbrev pub AdvancesRaw : {S : Type 0} → (S → TextCall → Call → S → Typ
 AdvancesRaw step text calls (Some handed) view old new = TakesNextRaw step text calls handed.open_line view old new
 AdvancesRaw step text calls None view old new = MeansAll text calls (Complete view.told) × (new ≡ old)
 
--- The sink took the next call as it stands, or the text was over, whichever text is walked and whichever of its calls were read before.
+-- The sink took the next call as it stands, or the text was over, whichever text is walked and whichever of its calls
+-- were read before.
 abbrev pub StepsOnRaw : {S F : Type 0} → (S → TextCall → Call → S → Type 0) → TextState → Result (Option HandedCall) (WalkFault F) → TextState → S → S → Type 0
 StepsOnRaw step texts result left old new =
     (text : Option (List ℕ)) (before : List TextCall) → IsRead text before texts → IfOk result (λ found. AdvancesRaw step text before found left old new)

@@ -160,8 +160,9 @@ abbrev pub root_from : ℤ → Option (Option ℕ)
 root_from (pos n) = option_map Some (non_negative (pos n))
 root_from (negsuc n) = Some None
 
--- The root of a call by its name and its number: a rank of its group, or none where the call names `MPI_ROOT`, `MPI_PROC_NULL` or
--- a number below 0, as the calls of the group that has the root do on an intercommunicator (MPI 4.0, 6.2.3).
+-- The root of a call by its name and its number: a rank of its group, or none where the call names `MPI_ROOT`,
+-- `MPI_PROC_NULL` or a number below 0, as the calls of the group that has the root do on an intercommunicator (MPI 4.0,
+-- 6.2.3).
 abbrev pub root_by : NumName → ℤ → Option (Option ℕ)
 root_by names.Root value = Some None
 root_by names.ProcNull value = Some None

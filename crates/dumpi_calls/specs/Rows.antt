@@ -97,7 +97,8 @@ start_named name =
     else if bytes_eq name (codes "MPI_Startall") then Some functions.Startall
     else None
 
--- matched probes, and the receive of what one took; with counts of 64 bits that is the same call (MPI 4.0, 3.8.2 and 3.8.3)
+-- matched probes, and the receive of what one took; with counts of 64 bits that is the same call (MPI 4.0, 3.8.2 and
+-- 3.8.3)
 abbrev pub matched_named : List ℕ → Option Function
 matched_named name =
     if bytes_eq name (codes "MPI_Mprobe") then Some functions.Mprobe
@@ -111,7 +112,8 @@ abbrev pub first_of : Option Function → Option Function → Option Function
 first_of (Some function) next = Some function
 first_of None next = next
 
--- a name without a `_c` behind it: with that a function has counts of 64 bits, and its calls are the same (MPI 4.0, 6, 8, 12 and 14)
+-- a name without a `_c` behind it: with that a function has counts of 64 bits, and its calls are the same (MPI 4.0, 6,
+-- 8, 12 and 14)
 abbrev pub short_name : List ℕ → List ℕ
 short_name name = if bytes_eq (drop (length name - 2) name) (codes "_c") then take (length name - 2) name else name
 
@@ -472,8 +474,9 @@ icollective_call kind call = do
   collective ← collective_in kind call
   Ok (started_call (is_started kind) collective)
 
--- A collective call on an object, by whether its kind is a communication and has a nonblocking function, and whether the call is
--- nonblocking. No name is that of such a function of a communication, nor of a nonblocking one that isn't there.
+-- A collective call on an object, by whether its kind is a communication and has a nonblocking function, and whether
+-- the call is nonblocking. No name is that of such a function of a communication, nor of a nonblocking one that isn't
+-- there.
 abbrev pub made_on : Bool → Bool → Bool → CollectiveCall → Call
 made_on true has_nonblocking nonblocking collective = calls.Local
 made_on false has_nonblocking false collective = calls.Collective collective
@@ -532,8 +535,9 @@ pub data Callback : Type 0 where
   OnUnread : (name : List ℕ) → Callback
   OnOther : (name : List ℕ) → Callback
 
--- A row: the callback, by the call that was read; the parameters that have to be there, those of the outcome where the call returned, by what it says
--- itself; and how the entry parameters are read. `status`, `statuses` and `indices` may be absent.
+-- A row: the callback, by the call that was read; the parameters that have to be there, those of the outcome where the
+-- call returned, by what it says itself; and how the entry parameters are read. `status`, `statuses` and `indices` may
+-- be absent.
 pub record Row : Type 0 where
   pub callback : Call → Callback
   pub entry : List Parameter

@@ -35,7 +35,8 @@ use Rattle.dumpi_calls.specs.declared.walking.Walked.{Walked}
 
 -- ---- a text that is read
 
--- These calls were read of a text, and it is read on, or they are all that it means; the line that it tells is the last one's.
+-- These calls were read of a text, and it is read on, or they are all that it means; the line that it tells is the last
+-- one's.
 pub record IsRead (text : Option (List ℕ)) (calls : List TextCall) (view : TextState) : Type 0 where
   pub stands : ((view.standing ≡ Reading) × HasRead text calls view.at (rest_of view.rest)) ⊎ ((view.standing ≡ Finished) × MeansAll text calls (Complete view.at))
   pub told : view.told ≡ view.at
@@ -58,7 +59,8 @@ BeginsTo text calls line = (at : Position) × (rest : Option (List ℕ)) × HasR
 abbrev pub Begins : Option (List ℕ) → List TextCall → Type 0
 Begins text calls = ((at : Position) × (rest : Option (List ℕ)) × HasRead text calls at rest) ⊎ ((at : Position) × MeansAll text calls (Complete at))
 
--- The text stops at a line after these calls, where it is told, with the fault of that line; or its reader failed there.
+-- The text stops at a line after these calls, where it is told, with the fault of that line; or its reader failed
+-- there.
 abbrev pub StopsAfter : Option (List ℕ) → List TextCall → TextCause → ℕ → Type 0
 StopsAfter text calls causes.Read line = Begins text calls
 StopsAfter text calls (causes.Line fault) line = (at : Position) × MeansAll text calls (Stopped fault at) × (line ≡ at.line)
@@ -73,9 +75,9 @@ RefusesNext text calls faults.Memory line = BeginsTo text calls line
 RefusesNext text calls faults.Ended line = ⊥
 RefusesNext text calls (faults.At at cause) line = (at ≡ line) × StopsAfter text calls cause line
 
--- The reader fails after these calls of its text, once more than before, on the line after the last that was taken whole:
--- `new` is the reader then, and the bytes at hand are those that it gave and that no whole line took. Up to that line the
--- text has no call more and no fault.
+-- The reader fails after these calls of its text, once more than before, on the line after the last that was taken
+-- whole: `new` is the reader then, and the bytes at hand are those that it gave and that no whole line took. Up to that
+-- line the text has no call more and no fault.
 pub record FailsAfter {R : Type 0} (left : R → Option (List ℕ)) (failures : R → ℕ) (text : Option (List ℕ)) (before : ℕ) (calls : List TextCall) (line : ℕ) : Type 0 where
   pub at : Position
   pub known : Option (List ℕ)
@@ -111,7 +113,8 @@ pub record Takes {S : Type 0} (step : S → Seen → S) (raw : TextCall) (old ne
   pub typed_as : typed raw ≡ Ok call
   pub state : new ≡ step old (seen_by (row_of raw) call)
 
--- A call of a text that was read whole: its row, what it is typed as, the line where it begins, and that it has returned.
+-- A call of a text that was read whole: its row, what it is typed as, the line where it begins, and that it has
+-- returned.
 pub record IsTypedAs (raw : TextCall) (function : Function) (call : TypedCall) (line : ℕ) : Type 0 where
   pub row_is : row_of raw ≡ row function (usual_name function)
   pub typed_as : typed raw ≡ Ok call

@@ -19,7 +19,7 @@ use trace_know::{PLACES, ReadyEvents, ReadyPiece, ReadySegment, SegmentFault};
 /// A usual text has an event in somewhat more bytes than these.
 const BYTES_AN_EVENT: u64 = 128;
 
-/// No memory was left for a call's events.
+/// Memory was refused for a call's events.
 #[derive(Clone, Copy, Debug, PartialEq, Eq, Error)]
 #[error("no memory is left")]
 pub struct Memory;
@@ -36,7 +36,7 @@ impl<T: Drop> From<AllocFailed<T>> for Memory {
     }
 }
 
-/// The events of calls, in their order. They alternate: a call that comes after one that has not returned is left out.
+/// The events of calls, in their order. Enter and Return alternate: a call after one that has not returned is left out.
 #[derive(Debug, Drop)]
 pub struct Collect {
     events: ReadyEvents,
@@ -84,7 +84,7 @@ impl Collect {
     ghost use Rattle.dumpi_calls.specs.Rows.{OnCollective};
     ghost use Rattle.dumpi_calls.specs.Seen.{seen};
 
-    /// No events.
+    /// A sink without events.
     pub fn new(alloc: Global) -> Collect
         ensures { result ≡ [] }
     {
@@ -94,8 +94,8 @@ impl Collect {
         }
     }
 
-    /// No events, and room for about as many as a text of so many bytes has, where there is memory for it: a list of
-    /// events that has to grow is moved each time. Room that isn't filled costs next to nothing.
+    /// A sink without events, with room for about as many as a text of this many bytes has, if there is memory for it:
+    /// a list of events that grows is moved each time. Unused room costs next to nothing.
     pub fn for_text(alloc: Global, bytes: u64) -> Collect
         ensures { result ≡ [] }
     {
@@ -110,9 +110,9 @@ impl Collect {
         }
     }
 
-    /// The events as a piece of a rank that stands ready, from the Enter of its call `first_call` on, however many: none
-    /// is moved. No event gives no piece. It answers `Place` where an event would have a place at 2^40 or past it, and
-    /// `Memory`.
+    /// The events as a piece of a rank that stands ready, from the Enter of its call `first_call` on, however many:
+    /// none is moved. No event gives no piece. It answers `Place` where an event would have a place at 2^40 or past it,
+    /// and `Memory`.
     pub fn into_piece(self, rank: u32, first_call: u64) -> Result<Option<ReadyPiece>, SegmentFault>
         ensures ok { IfOk result (λ piece. piece ≡ piece_of rank first_call self) }
         ensures place { result ≡ Err Place ↔ HasPlacesPast first_call self }
@@ -132,8 +132,8 @@ impl Collect {
     }
 
     /// The events as segments of a rank that stand ready, from the Enter of its call `first_call` on, cut after each
-    /// 65,536 events: where there are more, each is moved. No event gives no segment. It answers `Place` where an event would have a place at
-    /// 2^40 or past it, and `Memory`.
+    /// 65,536 events: where there are more, each is moved. No event gives no segment. It answers `Place` where an event
+    /// would have a place at 2^40 or past it, and `Memory`.
     pub fn into_ready(self, rank: u32, first_call: u64) -> Result<Vec<ReadySegment>, SegmentFault>
         ensures ok { IfOk result (λ segments. AreSegments rank first_call self segments.items) }
         ensures place { result ≡ Err Place ↔ HasPlacesPast first_call self }

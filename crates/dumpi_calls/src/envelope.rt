@@ -15,7 +15,9 @@ use std::alloc::Global;
 /// What an envelope says apart from its communicator, which a Sendrecv names once, after both.
 #[derive(Clone, Copy, Debug)]
 pub struct Part {
+    /// Elements of the datatype.
     pub count: u32,
+    /// The trace's number of the datatype.
     pub datatype: i64,
     pub peer: Peer,
     pub tag: Option<u32>,
@@ -102,7 +104,8 @@ pub fn receive_envelope(part: Part, comm: CommRef) -> ReceiveEnvelope
     ReceiveEnvelope::new(envelope(part, comm)).unwrap()
 }
 
-/// The envelope of a send.
+/// The envelope of a send. [`CallFault`] names a parameter that isn't there or is wrong; Fails with `Memory` when
+/// memory is refused.
 #[tactic(auto, unfolding(crate::specs::Rows::envelope_of_send))]
 pub fn send_envelope_in(alloc: Global, raw: &RawCall) -> Result<SendEnvelope, CallFault>
     ensures means { Reads result (envelope_of_send raw.now) }
@@ -119,7 +122,8 @@ pub fn send_envelope_in(alloc: Global, raw: &RawCall) -> Result<SendEnvelope, Ca
     Ok(send_envelope(part, comm))
 }
 
-/// The envelope of a receive.
+/// The envelope of a receive. [`CallFault`] names a parameter that isn't there or is wrong; Fails with `Memory` when
+/// memory is refused.
 #[tactic(auto, unfolding(crate::specs::Rows::envelope_of_receive))]
 pub fn receive_envelope_in(alloc: Global, raw: &RawCall) -> Result<ReceiveEnvelope, CallFault>
     ensures means { Reads result (envelope_of_receive raw.now) }
@@ -136,7 +140,8 @@ pub fn receive_envelope_in(alloc: Global, raw: &RawCall) -> Result<ReceiveEnvelo
     Ok(receive_envelope(part, comm))
 }
 
-/// The call that sends and receives at once.
+/// The call that sends and receives at once. [`CallFault`] names a parameter that isn't there or is wrong; Fails with
+/// `Memory` when memory is refused.
 #[tactic(auto, unfolding(crate::specs::Rows::sendrecv_call))]
 pub fn sendrecv_in(alloc: Global, raw: &RawCall) -> Result<Call, CallFault>
     ensures means { Reads result (sendrecv_call raw.now) }
@@ -164,7 +169,8 @@ pub fn sendrecv_in(alloc: Global, raw: &RawCall) -> Result<Call, CallFault>
     Ok(Call::Sendrecv(exchange.unwrap()))
 }
 
-/// The exchange in place (MPI 4.0, 3.10): one count and one datatype are those of both sides.
+/// The exchange in place (MPI 4.0, 3.10): one count and one datatype are those of both sides. [`CallFault`] names a
+/// parameter that isn't there or is wrong; Fails with `Memory` when memory is refused.
 #[tactic(auto, unfolding(crate::specs::Rows::sendrecv_replace_call))]
 pub fn sendrecv_replace_in(alloc: Global, raw: &RawCall) -> Result<Call, CallFault>
     ensures means { Reads result (sendrecv_replace_call raw.now) }

@@ -5,7 +5,7 @@ use dumpi_text::TextFault;
 use std::fmt::Display;
 use thiserror::Error;
 
-/// Why a walk stops before the end of its text.
+/// Why a walk stopped before the end of its text.
 #[derive(Debug, Drop, Error)]
 #[error_bound(F: Display)]
 pub enum WalkCause<F> {
@@ -32,9 +32,9 @@ pub enum WalkCause<F> {
 #[error("{cause}, at line {line}, after {calls} calls")]
 pub struct WalkFault<F> {
     pub cause: WalkCause<F>,
-    /// Lines are numbered from 1. That of a text's fault is the fault's own; that of a call that is refused, or for which
-    /// no memory was left, is its entering line. Where no memory was left to read the next call it is the last line of the
-    /// call before, 0 before the first.
+    /// The line, numbered from 1. For a fault of the text it is the faulty line; for a call that is refused or for
+    /// which memory was refused, its entering line. If memory was refused while the next call was read, it is the last
+    /// line of the call before, 0 before the first.
     pub line: u64,
     /// How many calls were handed on: those before the line.
     pub calls: u64,

@@ -7,7 +7,7 @@ ghost use Rattle.dumpi_calls.specs.Rows.{called_of, collective_named, completion
 use dumpi_text::RawCall;
 use mpi_model::{CollectiveFunction, Kind, Mode};
 
-/// A function by its name.
+/// A function of MPI, as the walk distinguishes them.
 #[derive(Clone, Copy, Debug, PartialEq, Eq)]
 pub enum Function {
     /// `MPI_Send`, `MPI_Ssend`, `MPI_Bsend`, `MPI_Rsend`.
@@ -35,7 +35,7 @@ pub enum Function {
     Free,
     /// A blocking function of collective communication (MPI 4.0, chapter 6).
     Collective(Kind),
-    /// A nonblocking one (MPI 4.0, 6.12).
+    /// A nonblocking function of collective communication (MPI 4.0, 6.12).
     Icollective(Kind),
     /// Any other collective function, on a communicator, a window or a file (MPI 4.0, chapters 7, 8,
     /// 11, 12 and 14): of a kind, and whether it is nonblocking. A call of it that doesn't name its object is local.
@@ -49,10 +49,10 @@ pub enum Function {
     Improbe,
     /// `MPI_Imrecv`, also with `_c` behind its name.
     Imrecv,
-    /// One that moves messages and that no row reads.
+    /// A function that moves messages and that isn't read.
     Unread,
     Finalize,
-    /// Every other one: its calls are local.
+    /// Every other function: its calls are local.
     Other,
 }
 
@@ -253,8 +253,8 @@ fn short_of(name: &[u8]) -> &[u8]
     }
 }
 
-/// Whether a collective function has this name, of which `short` is what stands before a `_c`. That may stand behind the
-/// name of a function that has a form with counts of 64 bits.
+/// Whether a collective function has this name, of which `short` is what stands before a `_c`. That may stand behind
+/// the name of a function that has a form with counts of 64 bits.
 fn is_called(name: &[u8], short: &[u8], function: CollectiveFunction) -> bool
     requires { short.now ≡ short_name name.now }
     ensures { result ≡ is_called name.now function }
@@ -435,7 +435,7 @@ pub fn function_of(name: &[u8]) -> Function
     }
 }
 
-/// The function of a call: where another thread ended the reading, the call isn't read, whatever its name is.
+/// The function of a call. If another thread ended the reading at this call, the call isn't read, whatever its name is.
 pub fn function_in(raw: &RawCall) -> Function
     ensures { result ≡ function_in raw.now }
 {

@@ -1,5 +1,5 @@
-//! Calls as dumpi2ascii writes them, read whole where they stand at hand: no line of them is copied. What these functions
-//! don't answer for is read line by line.
+//! Calls as dumpi2ascii writes them, read whole where they lie in the buffer: no line of them is copied. Text in
+//! another form is left to the functions that read line by line.
 
 ghost use Rattle.std.specs.Prelude.{◌≡◌, ◌≤◌, ◌<◌, ◌^◌, IfSome, true, false};
 ghost use Rattle.mpi_model.specs.Kinds.{has_root, row as kind_row};
@@ -314,8 +314,8 @@ pub fn usual_name(function: Function) -> &'static str
     }
 }
 
-/// The function whose entering line may stand in front of a text, by a few bytes of its name: no other of those that are
-/// read in place has them.
+/// The function whose entering line may stand in front of a text, by a few bytes of its name: no other of those that
+/// are read in place has them.
 #[tactic(auto, using(crate::proofs::UsualNames::named_send, crate::proofs::UsualNames::named_ssend, crate::proofs::UsualNames::named_isend, crate::proofs::UsualNames::named_issend, crate::proofs::UsualNames::named_recv, crate::proofs::UsualNames::named_irecv, crate::proofs::UsualNames::named_wait, crate::proofs::UsualNames::named_waitall, crate::proofs::UsualNames::named_barrier, crate::proofs::UsualNames::named_bcast, crate::proofs::UsualNames::named_allreduce, crate::proofs::UsualNames::named_allgather, crate::proofs::UsualNames::named_alltoall, crate::proofs::UsualNames::named_scatter, crate::proofs::UsualNames::named_gather, crate::proofs::UsualNames::named_reduce))]
 fn likely_function(text: &[u8]) -> Option<Function>
     ensures word { IfSome result (λ function. is_word (usual_name function) ≡ true) }
@@ -342,8 +342,7 @@ fn likely_function(text: &[u8]) -> Option<Function>
     }
 }
 
-/// The call in front of a text, where it stands there whole and as dumpi2ascii writes it. Where memory is refused, there is
-/// no answer.
+/// The call in front of a text, if it is whole and as dumpi2ascii writes it; `None` if it isn't, or memory is refused.
 #[tactic(auto, using(crate::proofs::InPlace::whole_told))]
 pub fn whole_front(alloc: Global, text: &[u8]) -> Option<Whole>
     ensures whole { IfSome result (λ w. IsWhole w.function w.call w.bytes w.lines text.now) }

@@ -1,5 +1,5 @@
-//! Parameter lines as dumpi2ascii writes them, read where they stand in front of a text: what they tell, and what follows
-//! them. What these functions don't answer for is read line by line.
+//! Parameter lines as dumpi2ascii writes them, read where they stand in front of a text: what they tell, and what
+//! follows them. Text in another form is left to the functions that read line by line.
 
 ghost use Rattle.std.specs.Prelude.{◌≡◌, ◌≤◌, ◌<◌, ◌++◌, ◌^◌, IfSome, length, true};
 ghost use Rattle.dumpi_calls.specs.InPlace.{EndsNumber, PassesLines, TellsNumber, TellsRequests, TellsStatus, TellsStatuses, is_unread};
@@ -35,8 +35,8 @@ fn any_number_front<'a>(
     Some((number, rest))
 }
 
-/// The same, by what stands before the number, and by what follows that: its line is read in one pass where dumpi2ascii wrote
-/// it.
+/// The same, by what stands before the number, and by what follows that: its line is read in one pass where dumpi2ascii
+/// wrote it.
 #[inline(never)]
 fn noted_front<'a>(
     kind: &[u8],
@@ -82,7 +82,8 @@ fn front_by<'a>(
     }
 }
 
-/// The same, by what stands before the number.
+/// The number that the line in front of a text says for a parameter, by what stands before the number, and what follows
+/// the line.
 #[inline(always)]
 pub fn number_front<'a>(
     kind: &[u8],
@@ -154,7 +155,8 @@ pub fn small_of(number: Num) -> Option<u32>
     non_negative_of(number.value)
 }
 
-/// How many lines in front of a text tell this parameter, which says nothing of a call, one or none, and what follows them.
+/// How many lines in front of a text tell this parameter, which says nothing of a call, one or none, and what follows
+/// them.
 #[inline(always)]
 #[tactic(auto, using(crate::proofs::InPlace::nothing_passed, crate::proofs::InPlace::one_passed))]
 pub fn passed_front<'a>(kind: &[u8], name: &[u8], text: &'a [u8]) -> (u64, &'a [u8])

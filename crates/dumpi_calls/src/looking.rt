@@ -27,8 +27,8 @@ fn is_one_of(name: &[u8], parameters: &[Parameter]) -> bool
     false
 }
 
-/// The parameters that a collective call on an object is read by: those that may name it, and the request of a nonblocking
-/// one.
+/// The parameters that a collective call on an object is read by: those that may name it, and the request of a
+/// nonblocking one.
 fn looked_on(parameter: ObjectParameter) -> &'static [Parameter]
     ensures { result.now ≡ Parameter.Request ∷ object_parameters parameter }
 {
@@ -85,7 +85,7 @@ fn is_looked_at(function: Function, name: &[u8]) -> bool
     is_one_of(name, looked_parameters(function))
 }
 
-/// What a call's function has a use for is kept: the first parameter of each name that the call is read by.
+/// Keeps the parameters by which a call of this function is read, the first of each name.
 pub(crate) struct Looked;
 
 impl Keeping for Looked {

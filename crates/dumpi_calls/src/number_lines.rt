@@ -1,5 +1,5 @@
-//! Numbers as dumpi2ascii writes them at the end of a line, each read in one pass with its line feed. What these functions
-//! don't answer for is read as any value is.
+//! Numbers as dumpi2ascii writes them at the end of a line, each read in one pass with its line feed. A value in
+//! another form is left to the functions that read any value.
 
 ghost use Rattle.std.specs.Prelude.{◌≡◌, ◌∷◌, ◌++◌, List, ℕ, IfSome};
 ghost use Rattle.dumpi_calls.specs.InPlace.{EndsNote, EndsNumber};
@@ -113,8 +113,8 @@ fn digits_before<'a>(end: &[u8], text: &'a [u8]) -> Option<(Num, &'a [u8])>
     Some((number, rest))
 }
 
-/// The number of digits that a line feed ends, and what follows that. Small enough to be inlined: where the next line begins
-/// then stays in a register.
+/// The number of digits that a line feed ends, and what follows that. Small enough to be inlined: where the next line
+/// begins then stays in a register.
 #[inline(always)]
 pub fn plain_line(text: &[u8]) -> Option<(Num, &[u8])>
     ensures { IfSome result (λ x. EndsNumber x.0 text.now x.1.now) }

@@ -137,7 +137,7 @@ fn told(alloc: Global, raw: &RawCall) -> Result<Told, AllocError>
     }
 }
 
-/// What the groups tell of each request, by its place.
+/// What the groups tell of each request, by its place. Fails with `AllocError` when memory is refused.
 #[tactic(auto, using(crate::proofs::Tolds::one_told_more))]
 pub fn tolds(alloc: Global, groups: &[Group], requests: &[i64]) -> Result<Sources, AllocError>
     ensures { IfOk result (λ s. s ≡ tolds_from groups.now 0 requests.now) }
@@ -252,7 +252,8 @@ fn tolds_of_text(alloc: Global, requests: &[i64], text: &[u8]) -> Result<Sources
     tolds(alloc, groups.as_slice(), requests)
 }
 
-/// What the groups of a text tell of each request, read in place where there is one status for each.
+/// What the groups of a text tell of each request, read in place where there is one status for each. Fails with
+/// `AllocError` when memory is refused.
 #[tactic(auto, using(crate::proofs::GroupByGroup::whole_list))]
 pub fn sources_in(alloc: Global, requests: &[i64], text: &[u8]) -> Result<Sources, AllocError>
     ensures { IfOk result (λ s. s ≡ tolds_from (groups_from (value_of text.now)) 0 requests.now) }
@@ -352,7 +353,7 @@ fn any_done_in(alloc: Global, requests: &[i64], raw: &RawCall) -> Result<Outs, C
     }
 }
 
-/// Whether the flag of a call is there, readable and set.
+/// Whether the flag of a call is there, readable and set. Fails with `AllocError` when memory is refused.
 pub fn is_flag_set(alloc: Global, raw: &RawCall) -> Result<bool, AllocError>
     ensures { IfOk result (λ set. set ≡ is_flagged (number_in parameters.Flag raw.now)) }
 {
@@ -363,7 +364,8 @@ pub fn is_flag_set(alloc: Global, raw: &RawCall) -> Result<bool, AllocError>
     }
 }
 
-/// What a returned call brings back.
+/// What a returned call brings back. [`CallFault`] names a parameter that isn't there or is wrong; Fails with `Memory`
+/// when memory is refused.
 pub fn outcome(alloc: Global, call: &Call, raw: &RawCall) -> Result<Outs, CallFault>
     ensures means { Reads result (outcome_in call.now raw.now) }
     ensures there { OnOk result (AreThere (brought_by call.now raw.now) raw.now) }

@@ -23,7 +23,7 @@ pub struct Parts {
 }
 
 impl Parts {
-    /// No events.
+    /// Empty parts, without events.
     pub fn new(alloc: Global) -> Parts
         ensures none { events_in result ≡ [] }
         ensures parts { AreParts result }
@@ -34,7 +34,8 @@ impl Parts {
         }
     }
 
-    /// These events: in one part where they fit into it, so that none is moved.
+    /// These events: in one part where they fit into it, so that none is moved. Fails with `AllocError` when memory is
+    /// refused.
     pub fn of_events(events: ReadyEvents) -> Result<Parts, AllocError>
         ensures same { IfOk result (λ parts. events_in parts ≡ events) }
         ensures parts { IfOk result (λ parts. AreParts parts) }
@@ -84,7 +85,7 @@ impl Parts {
         Ok(())
     }
 
-    /// Puts an event behind the others.
+    /// Puts an event behind the others. On `AllocError`, when memory is refused, nothing changes.
     pub fn push(&mut self, event: Event) -> Result<(), AllocError>
         requires { AreParts self.old }
         ensures ok { OnOk result (events_in self.new ≡ events_in self.old ++ event ∷ []) }
@@ -97,6 +98,7 @@ impl Parts {
     }
 
     /// The segments of a rank's events from the Enter of a call on, a part each, none of no event. No event is moved.
+    /// Fails with `AllocError` when memory is refused.
     pub fn into_ready(self, rank: u32, first: u64) -> Result<Vec<ReadySegment>, AllocError>
         requires parts { AreParts self }
         requires halves { alternate true (events_in self) ≡ true }

@@ -1,5 +1,5 @@
-//! Numbers as dumpi2ascii writes them, each read in one pass and in place. What these functions don't answer for is read
-//! as any value is.
+//! Numbers as dumpi2ascii writes them, each read in one pass and in place. A value in another form is left to the
+//! functions that read any value.
 
 ghost use Rattle.std.specs.Prelude.{◌≡◌, ◌∷◌, ◌<◌, ◌≤◌, [], IfSome, Some, false, length, neg_ℤ, pos, take, true};
 ghost use Rattle.std.specs.List.{list_all, list_any};
@@ -88,7 +88,8 @@ fn name_by(note: &[u8]) -> NumName
     }
 }
 
-/// The name that a note gives its number, where it is one of those that stand in most lines, by all that follows its `(`.
+/// The name that a note gives its number, where it is one of those that stand in most lines, by all that follows its
+/// `(`.
 #[tactic(auto, using(crate::proofs::Names::noted), unfolding(dumpi_text::specs::Number::name_of))]
 fn usual_note(rest: &[u8]) -> Option<NumName>
     ensures { IfSome result (λ name. note_front (opening_parenthesis ∷ rest.now) ≡ Some (name, [])) }

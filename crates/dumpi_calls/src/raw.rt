@@ -17,18 +17,18 @@ use dumpi_text::{RawCall, Texts, reading_call_by_call, skipped_lines};
 use mpi_model::{Call, Read};
 use std::alloc::Global;
 
-/// What the calls of a text are handed to as they stand there: each with its name and its parameters, also those that its
-/// function has no use for, and as the call that it is.
+/// A receiver of the calls of a text as they stand there: each with its name and all its parameters, and with its typed
+/// call.
 ///
-/// A sink says by `step` what a call may make of it. It is so where it takes the call, and as it was where it refuses it.
+/// The sink defines by `step` which states a call may leave. If it refuses a call, it stays as it was.
 pub trait RawSink {
-    /// Why a call is refused.
+    /// Why the sink refuses a call.
     type Fault: Drop;
 
     /// Which states a call may leave, by the state before it.
     ghost step: { Self → TextCall → Call → Self → Type 0 };
 
-    /// A call as it stands in the text, and as the call that it is.
+    /// Takes a call as it stands in the text, and as the typed call. If it is refused, the sink is as it was.
     fn on_call(&mut self, raw: &RawCall, call: Call) -> Result<(), Self::Fault>
         ensures ok { OnOk result (step self.old raw.now call self.new) }
         ensures err { OnErr result (self.new ≡ self.old) };
@@ -88,8 +88,8 @@ fn advance_raw<R: Read, S: RawSink>(
     }
 }
 
-/// Hands the calls of a text to a sink as they stand there, in order, up to the first that can't be read or that the sink
-/// refuses: it ends as [`walk`](crate::walk) does. The text is read in one pass, and memory doesn't grow with it.
+/// Hands the calls of a text to a sink as they stand there, in order, up to the first that can't be read or that the
+/// sink refuses. It fails as [`walk`](crate::walk) does. The text is read in one pass, and memory doesn't grow with it.
 #[tactic(auto, using(crate::proofs::RawWalks::advanced, crate::proofs::RawWalks::walked_all, crate::proofs::RawWalks::walk_stopped, crate::proofs::Failing::fails_in))]
 pub fn walk_raw<R: Read, S: RawSink>(
     alloc: Global,

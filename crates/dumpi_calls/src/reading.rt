@@ -61,7 +61,8 @@ fn one(value: Value) -> Option<Num>
     }
 }
 
-/// The number that a parameter is.
+/// The number that a parameter is. [`CallFault`] says that the parameter isn't there or is wrong, or that memory is
+/// refused.
 #[inline(always)]
 #[tactic(auto, unfolding(crate::specs::Readings::number_in))]
 pub fn number(alloc: Global, raw: &RawCall, parameter: Parameter) -> Result<Num, CallFault>
@@ -80,7 +81,8 @@ pub fn number(alloc: Global, raw: &RawCall, parameter: Parameter) -> Result<Num,
     }
 }
 
-/// A count or a tag of a send: 0 to 2^31 - 1.
+/// A count or a tag of a send: 0 to 2^31 - 1. [`CallFault`] says that the parameter isn't there or is wrong, or that
+/// memory is refused.
 #[tactic(auto, unfolding(crate::specs::Readings::non_negative_in))]
 pub fn non_negative(alloc: Global, raw: &RawCall, parameter: Parameter) -> Result<u32, CallFault>
     ensures means { Reads result (non_negative_in parameter raw.now) }
@@ -94,7 +96,8 @@ pub fn non_negative(alloc: Global, raw: &RawCall, parameter: Parameter) -> Resul
     }
 }
 
-/// The tag that a receive asks for: none is any tag (MPI 4.0, 3.2.4).
+/// The tag that a receive asks for; `None` is any tag (MPI 4.0, 3.2.4). [`CallFault`] says that the parameter isn't
+/// there or is wrong, or that memory is refused.
 #[tactic(auto, unfolding(crate::specs::Readings::asked_tag_in))]
 pub fn asked_tag(
     alloc: Global,
@@ -112,7 +115,8 @@ pub fn asked_tag(
     }
 }
 
-/// The destination of a send: a rank of the group, or the null process.
+/// The destination of a send: a rank of the group, or the null process. [`CallFault`] says that the parameter isn't
+/// there or is wrong, or that memory is refused.
 #[tactic(auto, unfolding(crate::specs::Readings::dest_in))]
 pub fn dest(alloc: Global, raw: &RawCall) -> Result<Peer, CallFault>
     ensures means { Reads result (dest_in raw.now) }
@@ -126,7 +130,8 @@ pub fn dest(alloc: Global, raw: &RawCall) -> Result<Peer, CallFault>
     }
 }
 
-/// The source that a receive names: a rank of the group, any, or the null process.
+/// The source that a receive names: a rank of the group, any, or the null process. [`CallFault`] says that the
+/// parameter isn't there or is wrong, or that memory is refused.
 #[tactic(auto, unfolding(crate::specs::Readings::source_in))]
 pub fn source(alloc: Global, raw: &RawCall) -> Result<Peer, CallFault>
     ensures means { Reads result (source_in raw.now) }
@@ -154,7 +159,8 @@ fn named_root(alloc: Global, raw: &RawCall) -> Result<Option<u32>, CallFault>
     }
 }
 
-/// The root of a call of a kind: a rank of its group, or none.
+/// The root of a call of this kind: a rank of its group, or `None` if the kind has no root or the call names no rank.
+/// [`CallFault`] says that the parameter isn't there or is wrong, or that memory is refused.
 pub fn root(alloc: Global, kind: Kind, raw: &RawCall) -> Result<Option<u32>, CallFault>
     ensures means { Reads result (root_in kind raw.now) }
     ensures there { OnOk result (has_root kind ≡ true → AreThere (Parameter.Root ∷ []) raw.now) }
@@ -167,7 +173,8 @@ pub fn root(alloc: Global, kind: Kind, raw: &RawCall) -> Result<Option<u32>, Cal
     }
 }
 
-/// The communicator that a call names.
+/// The communicator that a call names. [`CallFault`] says that the parameter isn't there or is wrong, or that memory is
+/// refused.
 #[tactic(auto, unfolding(crate::specs::Readings::comm_in))]
 pub fn comm(alloc: Global, raw: &RawCall) -> Result<CommRef, CallFault>
     ensures means { Reads result (comm_in raw.now) }
@@ -181,7 +188,8 @@ pub fn comm(alloc: Global, raw: &RawCall) -> Result<CommRef, CallFault>
     }
 }
 
-/// The object of a sort that `comm` names.
+/// The object of a sort that `comm` names. [`CallFault`] says that the parameter isn't there or is wrong, or that
+/// memory is refused.
 #[tactic(auto, unfolding(crate::specs::Readings::named_in))]
 pub fn named_object(alloc: Global, object: Object, raw: &RawCall) -> Result<CommRef, CallFault>
     ensures means { Reads result (named_in object raw.now) }
@@ -244,7 +252,7 @@ fn object_parameters(parameter: ObjectParameter) -> &'static [Parameter]
     }
 }
 
-/// The object that a call of a kind names, where it can be read.
+/// The object that a call of a kind names, where it can be read. Fails with `AllocError` when memory is refused.
 #[tactic(auto, unfolding(crate::specs::Readings::object_in))]
 pub fn object(alloc: Global, kind: Kind, raw: &RawCall) -> Result<Option<CommRef>, AllocError>
     ensures value { IfOk result (λ comm. comm ≡ object_in kind raw.now) }
@@ -254,7 +262,7 @@ pub fn object(alloc: Global, kind: Kind, raw: &RawCall) -> Result<Option<CommRef
     first_object(alloc, row.object, object_parameters(row.parameter), raw)
 }
 
-/// The request that a number names: the null one by its name.
+/// The request that a number names; a note `MPI_REQUEST_NULL` names the null request.
 pub fn request_of(number: Num) -> i64
     ensures { result ≡ request_by number.name number.value }
 {
@@ -265,7 +273,8 @@ pub fn request_of(number: Num) -> i64
     }
 }
 
-/// The request that a call names.
+/// The request that a call names. [`CallFault`] says that the parameter isn't there or is wrong, or that memory is
+/// refused.
 #[tactic(auto, unfolding(crate::specs::Readings::request_in))]
 pub fn request(alloc: Global, raw: &RawCall) -> Result<i64, CallFault>
     ensures means { Reads result (request_in raw.now) }
@@ -286,7 +295,7 @@ fn named(alloc: Global, numbers: &[Num]) -> Result<Vec<i64>, AllocError>
     Ok(named)
 }
 
-/// The numbers of a value that is a list of numbers, or one number.
+/// The numbers of a value that is a list of numbers, or one number. Fails with `AllocError` when memory is refused.
 pub fn listed(alloc: Global, value: Value) -> Result<Option<Nums>, AllocError>
     ensures { IfOk result (λ n. n ≡ all_numbers value) }
 {
@@ -313,7 +322,8 @@ fn number_list(alloc: Global, raw: &RawCall, parameter: Parameter) -> Result<Num
     }
 }
 
-/// The requests that a call lists, in its order.
+/// The requests that a call lists, in its order. [`CallFault`] says that the parameter isn't there or is wrong, or that
+/// memory is refused.
 #[tactic(auto, unfolding(crate::specs::Readings::requests_in))]
 pub fn requests(alloc: Global, raw: &RawCall) -> Result<Requests, CallFault>
     ensures means { Reads result (requests_in raw.now) }
@@ -323,7 +333,7 @@ pub fn requests(alloc: Global, raw: &RawCall) -> Result<Requests, CallFault>
     Ok(Requests::from_vec(named(alloc, numbers.as_slice())?))
 }
 
-/// The destination that a number tells, by its name first.
+/// The destination that a number says; the name in its note decides first.
 pub fn dest_of(number: Num) -> Option<Peer>
     ensures value { result ≡ dest_by number.name number.value }
     ensures range { IfSome result IsTarget }
@@ -337,7 +347,7 @@ pub fn dest_of(number: Num) -> Option<Peer>
     }
 }
 
-/// The source that a number tells, by its name first.
+/// The source that a number says; the name in its note decides first.
 pub fn source_of(number: Num) -> Option<Peer>
     ensures value { result ≡ source_by number.name number.value }
     ensures range { IfSome result IsSource }
@@ -351,7 +361,7 @@ pub fn source_of(number: Num) -> Option<Peer>
     }
 }
 
-/// The tag that a receive asks for by a number: none is any tag.
+/// The tag that a receive asks for by a number; `None` is any tag.
 pub fn asked_tag_of(number: Num) -> Option<Option<u32>>
     ensures value { result ≡ asked_tag_by number.name number.value }
     ensures range { IfSome result IsAskedTag }
@@ -362,7 +372,7 @@ pub fn asked_tag_of(number: Num) -> Option<Option<u32>>
     Some(Some(non_negative_of(number.value)?))
 }
 
-/// The root that a number tells, by its name first: none where it is no rank of the call's group.
+/// The root that a number says; the name in its note decides first. It is `None` if it is no rank of the call's group.
 pub fn root_of(number: Num) -> Option<Option<u32>>
     ensures value { result ≡ root_by number.name number.value }
     ensures range { IfSome result IsAskedTag }
@@ -373,7 +383,7 @@ pub fn root_of(number: Num) -> Option<Option<u32>>
     Some(Some(non_negative_of(number.value)?))
 }
 
-/// The communicator that a number tells, by its name first.
+/// The communicator that a number says; the name in its note decides first.
 pub fn comm_of(number: Num) -> Option<CommRef>
     ensures value { result ≡ comm_by number.name number.value }
     ensures range { IfSome result IsComm }
@@ -384,7 +394,8 @@ pub fn comm_of(number: Num) -> Option<CommRef>
     Some(CommRef::Id(non_negative_of(number.value)?))
 }
 
-/// An object of a sort that a number tells: a communicator by its name first, a window and a file by the number alone.
+/// The object of a sort that a number says. For a communicator the name in the note decides first; for a window or a
+/// file the number alone.
 pub fn object_of(object: Object, number: Num) -> Option<CommRef>
     ensures value { result ≡ object_by object number.name number.value }
     ensures range { IfSome result (λ comm. IsComm comm × IsNamedAs object comm) }

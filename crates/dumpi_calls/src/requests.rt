@@ -1,5 +1,5 @@
-//! Lists of requests as dumpi2ascii writes them, `[count] {number, number, ..}`, read in one pass and in place. What these
-//! functions don't answer for is read as any value is.
+//! Lists of requests as dumpi2ascii writes them, `[count] {number, number, ..}`, read in one pass and in place. A value
+//! in another form is left to the functions that read any value.
 
 ghost use Rattle.std.specs.Prelude.{◌≡◌, ◌∷◌, [], IfOk, IfSome, Some, true};
 ghost use Rattle.dumpi_calls.specs.Skims.{numbers_front, requests_from, requests_with};

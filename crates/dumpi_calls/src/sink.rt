@@ -8,18 +8,19 @@ use crate::function::Function;
 use crate::typing::TypedCall;
 use mpi_model::{Call, Exit, Stamp};
 
-/// What the calls of a text are handed to: one callback for each kind of function.
+/// A receiver of the calls of a text, with one callback for each kind of function.
 ///
 /// A callback is given the call, when it was entered, and how it returned, if it did: the last call of a text can lack
-/// its exit, and no other. It owns what it is given, so a sink keeps lists of requests without a copy.
+/// its exit, and no other. The callback owns the call, so a sink can keep lists of requests without a copy.
 ///
-/// A sink says by `step` what a call makes of it. A callback that takes the call leaves that, and one that refuses it
-/// leaves the sink as it was. So [`walk`](crate::walk) can say in which state it leaves any sink.
+/// The sink defines by `step` which state a call leaves. A callback that takes the call leaves that state; one that
+/// refuses it leaves the sink as it was. So the contract of [`walk`](crate::walk) can say in which state it leaves any
+/// sink.
 ///
 /// # A sink of one's own
 ///
-/// How many elements a rank was sent. `elements_after` is a definition in the `specs/` of the sink's crate: the elements
-/// with one call more.
+/// How many elements a rank was sent. `elements_after` is a definition in the `specs/` of the sink's crate: the
+/// elements with one call more.
 ///
 /// ```rust
 /// struct SentTo {
@@ -29,7 +30,8 @@ use mpi_model::{Call, Exit, Stamp};
 ///
 /// impl SentTo {
 ///     fn add(&mut self, call: Call)
-///         ensures { self.new ≡ record { rank = self.old.rank; elements = elements_after self.old.rank self.old.elements call } }
+///         ensures { self.new ≡
+///             record { rank = self.old.rank; elements = elements_after self.old.rank self.old.elements call } }
 ///     {
 ///         let sent = match &call {
 ///             Call::Send(_, envelope) | Call::Isend(_, envelope) => envelope.envelope(),
@@ -48,7 +50,8 @@ use mpi_model::{Call, Exit, Stamp};
 /// impl CallSink for SentTo {
 ///     type Fault = Infallible;
 ///
-///     ghost step = { λ sink seen. record { rank = sink.rank; elements = elements_after sink.rank sink.elements seen.call } };
+///     ghost step = { λ sink seen.
+///         record { rank = sink.rank; elements = elements_after sink.rank sink.elements seen.call } };
 ///
 ///     fn on_send(&mut self, call: Call, _enter: Stamp, _exit: Option<Exit>) -> Result<(), Infallible> {
 ///         self.add(call);
@@ -65,7 +68,7 @@ use mpi_model::{Call, Exit, Stamp};
 /// It stands whole, with `elements_after` and with a bound on its calls, in `crates/reading_tests`, where it is proved
 /// and run.
 pub trait CallSink {
-    /// Why a call is refused.
+    /// Why the sink refuses a call.
     type Fault: Drop;
 
     /// The state that a call leaves, by the state before it.
@@ -191,7 +194,8 @@ pub trait CallSink {
         ensures ok { OnOk result (self.new ≡ step self.old (seen OnRequestFree call enter exit)) }
         ensures err { OnErr result (self.new ≡ self.old) };
 
-    /// A blocking collective call of a [`Kind`](mpi_model::Kind), where it names its object; also with `_c` behind its name.
+    /// A blocking collective call of a [`Kind`](mpi_model::Kind), where it names its object; also with `_c` behind its
+    /// name.
     fn on_collective(
         &mut self,
         call: Call,
@@ -201,7 +205,7 @@ pub trait CallSink {
         ensures ok { OnOk result (self.new ≡ step self.old (seen OnCollective call enter exit)) }
         ensures err { OnErr result (self.new ≡ self.old) };
 
-    /// A nonblocking one: its end is told by its request.
+    /// A nonblocking collective call of a [`Kind`](mpi_model::Kind): it is complete when its request is.
     fn on_icollective(
         &mut self,
         call: Call,
@@ -271,8 +275,8 @@ pub trait CallSink {
         ensures ok { OnOk result (self.new ≡ step self.old (seen OnImrecv call enter exit)) }
         ensures err { OnErr result (self.new ≡ self.old) };
 
-    /// A function that moves messages and that isn't read, or a call at which another thread ended the reading; its name
-    /// comes first. What the rank does from there on isn't known.
+    /// A function that moves messages and that isn't read, or a call at which another thread ended the reading. The
+    /// function's name comes first. What the rank does after it isn't known.
     fn on_unread(
         &mut self,
         name: &[u8],
@@ -283,8 +287,8 @@ pub trait CallSink {
         ensures ok { OnOk result (self.new ≡ step self.old (seen (OnUnread name.now) call enter exit)) }
         ensures err { OnErr result (self.new ≡ self.old) };
 
-    /// `MPI_Finalize` and every other function, and calls that are local since they lack what they are read by; the
-    /// function's name comes first.
+    /// `MPI_Finalize`, every other function, and calls that are local because they lack the parameters by which they
+    /// would be read. The function's name comes first.
     fn on_other(
         &mut self,
         name: &[u8],
@@ -331,7 +335,7 @@ fn hand_on_iprobe<S: CallSink>(
     }
 }
 
-/// Hands a call to its function's callback.
+/// Hands a call to its function's callback. Where the callback refuses it, the sink is as it was.
 pub fn hand_on<S: CallSink>(
     sink: &mut S,
     function: Function,

@@ -1,5 +1,5 @@
-//! Statuses as dumpi2ascii writes them, `[count] {{word=number, ..}, ..}`, of which is read in one pass and in place what they
-//! tell. What these functions don't answer for is read as any value is.
+//! Statuses as dumpi2ascii writes them, `[count] {{word=number, ..}, ..}`, of which is read in one pass and in place
+//! what they tell. A value in another form is left to the functions that read any value.
 
 ghost use Rattle.std.specs.Prelude.{◌≡◌, ◌<◌, ◌≤◌, ◌∷◌, ◌++◌, [], IfOk, IfSome, None, Some, length, map, true};
 ghost use Rattle.std.specs.List.{list_all};
@@ -105,8 +105,8 @@ const NOUGHT: Num = Num {
     name: NumName::Other,
 };
 
-/// What follows the `}` that closes a group, behind the last of its fields or behind one more, which says that there was no
-/// error.
+/// What follows the `}` that closes a group, behind the last of its fields or behind one more, which says that there
+/// was no error.
 #[inline(always)]
 fn end_front(text: &[u8]) -> Option<&[u8]>
     ensures { IfSome result (λ more. EndsFields text.now more.now) }
@@ -117,8 +117,8 @@ fn end_front(text: &[u8]) -> Option<&[u8]>
     }
 }
 
-/// What the fields of a group tell, where they are the five that dumpi2ascii writes, or all but the last, and nothing was
-/// cancelled, and what follows its `}`.
+/// What the fields of a group tell, where they are the five that dumpi2ascii writes, or all but the last, and nothing
+/// was cancelled, and what follows its `}`.
 fn usual_front(text: &[u8]) -> Option<(Told, &[u8])>
     ensures { IfSome result (λ x. with_told unseen (fields_front text.now) ≡ Some (x.0, x.1.now)) }
 {
@@ -257,8 +257,8 @@ fn told_group(text: &[u8]) -> Option<(Told, &[u8])>
     }
 }
 
-/// What each group of a list tells, and what follows the list's `}`; `BadValue` is no answer. There is room for so many at
-/// first.
+/// What each group of a list tells, and what follows the list's `}`; `BadValue` is no answer. There is room for so many
+/// at first.
 #[tactic(auto, using(crate::proofs::GroupByGroup::one_more, crate::proofs::GroupByGroup::the_last))]
 fn tolds_front(alloc: Global, room: usize, list: &[u8]) -> Result<(Vec<Told>, &[u8]), ValueFault>
     ensures { IfOk result (λ x. tolds_with [] (groups_front list.now) ≡ Some (x.0.items, x.1.now)) }
@@ -310,7 +310,8 @@ fn tolds_in(alloc: Global, room: usize, list: &[u8]) -> Result<Vec<Told>, ValueF
     }
 }
 
-/// What each group of the text of statuses tells, of which there are about so many; `BadValue` is no answer.
+/// What each group of the text of statuses tells, of which there are about so many; `BadValue` is no answer. Fails with
+/// `Memory` when memory is refused.
 #[tactic(auto, using(crate::proofs::GroupByGroup::tolds_value))]
 pub fn quick_statuses(alloc: Global, about: usize, text: &[u8]) -> Result<Vec<Told>, ValueFault>
     ensures { IfOk result (λ tolds. map told_of (groups_from (value_of text.now)) ≡ tolds.items) }

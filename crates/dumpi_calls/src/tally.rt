@@ -7,7 +7,7 @@ use crate::sink::CallSink;
 use mpi_model::{Call, Exit, Stamp};
 use std::convert::Infallible;
 
-/// How often each callback was called. A count stays at the greatest value of its type. It refuses no call.
+/// How often each callback was called. A count saturates at the greatest value of its type. This sink refuses no call.
 #[derive(Clone, Copy, Debug, PartialEq, Eq)]
 pub struct Tally {
     pub on_send: u64,

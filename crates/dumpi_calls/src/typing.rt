@@ -27,7 +27,9 @@ use std::alloc::{AllocError, Global};
 #[derive(Debug, Drop)]
 pub struct TypedCall {
     pub call: Call,
+    /// When it was entered.
     pub enter: Stamp,
+    /// How and when it returned; `None` if it didn't.
     pub exit: Option<Exit>,
 }
 
@@ -603,7 +605,8 @@ fn read(alloc: Global, function: Function, raw: &RawCall) -> Result<TypedCall, C
     })
 }
 
-/// The call that a text tells, by the row of its function.
+/// The call that a text tells, by the row of its function. [`CallFault`] names the first of its parameters that isn't
+/// there, else the first that is wrong; Fails with `Memory` when memory is refused.
 pub fn typed_call(alloc: Global, function: Function, raw: &RawCall) -> Result<TypedCall, CallFault>
     ensures means { Reads result (typed_by (row function raw.now.name) raw.now) }
 {

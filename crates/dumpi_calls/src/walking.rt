@@ -25,24 +25,25 @@ use std::mem;
 /// A text that was walked to its end.
 #[derive(Clone, Copy, Debug, PartialEq, Eq)]
 pub struct Walked {
-    /// How many calls were handed on: all of the text's, up to one at which another thread ended its reading.
+    /// How many calls were handed on: all of the text, or those up to one at which another thread ended the reading.
     pub calls: u64,
     /// How many nonblank lines were skipped.
     pub skipped: u64,
-    /// The first of them.
+    /// The first of these lines.
     pub first_skipped: Option<u64>,
-    /// The line where the last call begins, where the text, or its reading, ends before that has returned.
+    /// The line where the last call begins, if the text, or its reading, ends before that call has returned.
     pub unfinished: Option<u64>,
 }
 
 /// A call that was handed on.
 #[derive(Clone, Copy, Debug, PartialEq, Eq)]
 pub(crate) struct HandedCall {
-    /// The line where it begins, where it has not returned.
+    /// The line where it begins, if it has not returned.
     pub(crate) open_line: Option<u64>,
 }
 
-/// Why a call is refused. One that was cut off before its last entry parameter was written is a truncated text.
+/// Why a call is refused. If the text was cut off before the last entry parameter was written, the fault is that of a
+/// truncated text.
 pub(crate) fn refusal<F: Drop>(raw: &RawCall, fault: CallFault, calls: u64) -> WalkFault<F>
     ensures cause { typed raw.now ≡ Err fault → RefusesCall raw.now result.cause result.line }
     ensures memory { fault ≡ CallFault.Memory → RefusesCall raw.now result.cause result.line }
@@ -116,8 +117,9 @@ pub(crate) fn handed(raw: &RawCall) -> HandedCall
     HandedCall { open_line }
 }
 
-/// The next call of the text, put in the place of the one before: whether there is one. A text is read call by call like
-/// this where no sink is to be told of its calls. Nothing of its parameters is looked at.
+/// Reads the next call of the text into `raw` and returns whether there is one. This reads a text call by call,
+/// without a sink, and doesn't look at the parameters. On [`TextFault`] the text can't be read further, and every later
+/// answer is `Ended`.
 #[tactic(auto, using(crate::proofs::Failing::fails))]
 pub fn next_call<R: Read>(texts: &mut Texts<R>, raw: &mut RawCall) -> Result<bool, TextFault>
     ensures goes_on { GoesOn texts.old result raw.new texts.new }
@@ -180,7 +182,8 @@ pub(crate) fn lack<F: Drop>(fault: TextFault, line: u64, calls: u64) -> WalkFaul
     }
 }
 
-/// The next call, where it stands at hand whole and in its usual form, which is taken then, and the line where it begins.
+/// Takes the next call if it lies whole in the buffer and has the usual form, and returns it with the line where it
+/// begins.
 #[inline(always)]
 #[tactic(auto, using(crate::proofs::Advancing::follows_whole, crate::proofs::Advancing::stands_whole))]
 fn whole_of<R: Read>(alloc: Global, texts: &mut Texts<R>) -> Option<(Whole, u64)>
@@ -259,8 +262,9 @@ fn advance<R: Read, S: CallSink>(
     }
 }
 
-/// Hands the calls of a text to a sink, in order, each by the callback of its function, up to the first that can't be
-/// read or that the sink refuses. The text is read in one pass, and memory doesn't grow with it.
+/// Hands the calls of a text to a sink, in order, each to the callback of its function, up to the first that can't be
+/// read or that the sink refuses; [`WalkFault`] then says why, and how many calls were handed on before. The text is
+/// read in one pass, and memory doesn't grow with it.
 pub fn walk<R: Read, S: CallSink>(
     alloc: Global,
     reader: R,
@@ -276,8 +280,8 @@ pub fn walk<R: Read, S: CallSink>(
     walk_with_buffer(alloc, reader, sink, &mut buffer)
 }
 
-/// A [`walk`] that reads the text into the buffer that the one before has left, or into one of its own where there is
-/// none, and leaves its own for the next. What the buffer holds before and after means nothing.
+/// A [`walk`] that reuses the buffer of the walk before, if there is one, and leaves its own for the next. The bytes in
+/// the buffer have no meaning before or after. It fails as [`walk`] does.
 #[tactic(auto, using(crate::proofs::Advancing::advanced, crate::proofs::Advancing::walked_all, crate::proofs::Advancing::walk_stopped, crate::proofs::Failing::fails_in))]
 pub fn walk_with_buffer<R: Read, S: CallSink>(
     alloc: Global,

@@ -38,8 +38,9 @@ cut_call current last = record (call_of current None last) { threads = true }
 abbrev pub opening : List ℕ → Times → ℕ → Opening
 opening name enter line = record { content = record { name = name; params = [] }; enter = enter; line = line }
 
--- A stamp line of another thread ends the reading, with the call that is open or, outside a call, with the one that the line names. It
--- is refused where it was written after a later entering line: there the calls of the two threads aren't told in their order.
+-- A stamp line of another thread ends the reading, with the call that is open or, outside a call, with the one that the
+-- line names. It is refused where it was written after a later entering line: there the calls of the two threads aren't
+-- told in their order.
 abbrev pub threaded : Position → Opening → Times → Taken × Position
 threaded at current time = if nat_lt time.wall at.entered then (Refuses OtherThread, at) else (Ends (cut_call current at.line), at)
 

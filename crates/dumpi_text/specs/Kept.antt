@@ -97,8 +97,8 @@ keep_step keep at current line =
 
 -- ---- the next call
 
--- What is open at a place is what is kept of a call, and with that call a text still means there what it means from another place,
--- outside a call, on.
+-- What is open at a place is what is kept of a call, and with that call a text still means there what it means from
+-- another place, outside a call, on.
 unfoldable pub SameKept : Choice → Position → Option (List ℕ) → Position → Option Opening → Option (List ℕ) → Type 0
 SameKept keep first known at current rest = (whole : Option Opening) × (current ≡ kept_open keep whole) × SameMeaning first None known at whole rest
 

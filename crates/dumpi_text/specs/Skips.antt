@@ -30,18 +30,21 @@ is_inside_after is_open (Entering name at) = true
 is_inside_after is_open (Returning name at) = false
 is_inside_after is_open _ = is_open
 
--- whether a call is open behind lines: the last stamp line among them enters one; or, where none is, one is open before them
+-- whether a call is open behind lines: the last stamp line among them enters one; or, where none is, one is open before
+-- them
 abbrev pub is_inside : Bool → List Kind → Bool
 is_inside is_open [] = is_open
 is_inside is_open (kind ∷ kinds) = is_inside (is_inside_after is_open kind) kinds
 
--- a line that says nothing: outside a call one that is neither blank nor a stamp line, inside one such a line without a parameter
+-- a line that says nothing: outside a call one that is neither blank nor a stamp line, inside one such a line without a
+-- parameter
 abbrev pub says_nothing : Bool → Kind → Bool
 says_nothing false (Other content) = true
 says_nothing true (Other content) = is_none (parameter_of content)
 says_nothing is_open _ = false
 
--- The line of this number, from 1, is skipped: it is read, since no line of another thread stands before it, and says nothing.
+-- The line of this number, from 1, is skipped: it is read, since no line of another thread stands before it, and says
+-- nothing.
 pub record SkipsLine (text : List ℕ) (number : ℕ) : Type 0 where
   pub before : List Kind
   pub kind : Kind

@@ -26,12 +26,14 @@ impl Model for Word {
 }
 
 impl Word {
+    /// The word of these bytes, which are taken as they are. It takes no memory.
     pub fn from_vec(bytes: Vec<u8>) -> Self
         ensures { result ≡ bytes.items }
     {
         Word { bytes }
     }
 
+    /// The bytes of the word.
     pub fn as_slice(&self) -> &[u8]
         ensures { result.now ≡ self.now }
     {
@@ -62,12 +64,14 @@ impl Model for Group {
 }
 
 impl Group {
+    /// The group of these fields. It takes no memory.
     pub fn from_vec(fields: Vec<Field>) -> Self
         ensures { result ≡ fields.items }
     {
         Group { fields }
     }
 
+    /// The fields, in the order of the text.
     pub fn as_slice(&self) -> &[Field]
         ensures { result.now ≡ self.now }
     {
@@ -91,12 +95,14 @@ impl Model for Groups {
 }
 
 impl Groups {
+    /// The list of these groups. It takes no memory.
     pub fn from_vec(groups: Vec<Group>) -> Self
         ensures { result ≡ groups.items }
     {
         Groups { groups }
     }
 
+    /// The groups, in the order of the text.
     pub fn as_slice(&self) -> &[Group]
         ensures { result.now ≡ self.now }
     {

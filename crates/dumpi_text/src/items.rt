@@ -15,7 +15,8 @@ pub trait Item: Drop {
     /// The item in front, and what follows it.
     ghost front: { List ℕ → Option (Self × List ℕ) };
 
-    /// Reads the item in front, and hands on what follows it.
+    /// Reads the item in front, and returns it with what follows it. Fails with `BadValue` if the text has another
+    /// form, and with `Memory` when memory is refused.
     fn read<'t>(alloc: Global, text: &'t [u8]) -> Result<(Self, &'t [u8]), ValueFault>
         ensures ok { IfOk result (λ item. front text.now ≡ Some (item.0, item.1.now)) }
         ensures bad { IfErr result (λ fault. fault ≡ BadValue → front text.now ≡ None) };
@@ -46,6 +47,7 @@ fn split_next(close: u8, text: &[u8]) -> Option<(bool, &[u8])>
 }
 
 /// One or more items and the closing byte. Each item takes a byte at least, so there are no more of them than bytes.
+/// `BadValue` comes where the text has another form, `Memory` where memory is refused.
 #[tactic(auto, using(crate::proofs::ItemByItem::no_item_before, crate::proofs::ItemByItem::one_more, crate::proofs::ItemByItem::the_last, crate::proofs::ItemByItem::no_item, crate::proofs::ItemByItem::no_next))]
 pub fn read_items<T: Item>(
     alloc: Global,

@@ -5,9 +5,9 @@ ghost use Rattle.dumpi_text.specs.Kept.{Choice};
 
 use crate::raw_call::RawCall;
 
-/// Which of a call's parameters are kept while it is read. The others are read as far as these, and let go.
+/// Which of a call's parameters are kept while it is read. The others are checked like these, but not kept.
 pub trait Keeping {
-    /// Whether a parameter is kept, by its function's name, the parameters that were kept before it, and its own name.
+    /// Whether a parameter is kept. It depends on the function's name, the parameters kept before it, and its own name.
     ghost choice: { Choice };
 
     /// Whether one parameter more of a call is kept.

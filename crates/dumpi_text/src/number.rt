@@ -53,12 +53,14 @@ impl Model for Nums {
 }
 
 impl Nums {
+    /// The list of these numbers. It takes no memory.
     pub fn from_vec(numbers: Vec<Num>) -> Self
         ensures { result ≡ numbers.items }
     {
         Nums { numbers }
     }
 
+    /// The numbers, in the order of the text.
     pub fn as_slice(&self) -> &[Num]
         ensures { result.now ≡ self.now }
     {

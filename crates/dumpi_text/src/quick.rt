@@ -1,4 +1,5 @@
-//! Lines as dumpi2ascii writes them, each read in one pass. What these functions don't answer for is read as any line is.
+//! Lines as dumpi2ascii writes them, each read in one pass. A line in another form is left to the functions that read
+//! any line.
 
 ghost use Rattle.std.specs.Prelude.{◌≡◌, ◌++◌, ◌∷◌, IfSome, Some, false, true};
 ghost use Rattle.std.specs.List.{list_all};

@@ -1,5 +1,5 @@
-//! Lines of calls, read where they stand in front of a text, each in one pass and without a copy. What these functions
-//! don't answer for is read as any line is.
+//! Lines of calls, read where they stand in front of a text, each in one pass and without a copy. A line in another
+//! form is left to the functions that read any line.
 
 ghost use Rattle.std.specs.Prelude.{◌≡◌, IfSome, true};
 ghost use Rattle.dumpi_text.specs.Stamps.{Entering, Returning};

@@ -19,8 +19,11 @@ use thiserror::Error;
 /// What a value says.
 #[derive(Debug, Drop)]
 pub enum Value {
+    /// One number.
     Number(Num),
+    /// A list of numbers.
     Numbers(Nums),
+    /// A list of groups.
     Groups(Groups),
 }
 
@@ -173,7 +176,7 @@ fn read_core<'t>(alloc: Global, text: &'t [u8]) -> Result<(Value, &'t [u8]), Val
     }
 }
 
-/// What a value says.
+/// What a value says. `BadValue` comes where the text has another form, `Memory` where memory is refused.
 #[tactic(auto, unfolding(crate::specs::Value::value_of))]
 pub fn parse_value(alloc: Global, text: &[u8]) -> Result<Value, ValueFault>
     ensures ok { IfOk result (λ value. value_of text.now ≡ Some value) }

@@ -7,8 +7,8 @@ use Rattle.mpi_model.specs.declared.object.Object.{Object}
 use Rattle.mpi_model.specs.declared.object.Object.TheVariants.{Communicator}
 use Rattle.mpi_model.specs.Kinds.{row}
 
--- The object that a call names, where it names one: a communicator, or the window or file of a collective call. Both sides of a Sendrecv name one (MPI 4.0, 3.10). A start names
--- none: that of its init says where it takes part.
+-- The object that a call names, where it names one: a communicator, or the window or file of a collective call. Both
+-- sides of a Sendrecv name one (MPI 4.0, 3.10). A start names none: that of its init says where it takes part.
 abbrev pub comm_of : Call → Option CommRef
 comm_of (calls.Send mode e) = Some e.comm
 comm_of (calls.Isend mode e) = Some e.comm

@@ -1,4 +1,5 @@
--- Communicators and their groups (MPI 4.0, chapter 7), and the windows and files that are made on them (chapters 12 and 14).
+-- Communicators and their groups (MPI 4.0, chapter 7), and the windows and files that are made on them (chapters 12 and
+-- 14).
 use Rattle.std.specs.Prelude.{◌≡◌, ℕ, ◌==◌, ◌||◌, Bool, false, List, [], ◌∷◌, Option, option_map, find, map, filter, Vec}
 use Rattle.std.specs.List.{list_any}
 use Rattle.std.specs.List.Sorted.{IsPermutation, IsNonDecreasingBy}
@@ -7,8 +8,8 @@ use Rattle.mpi_model.specs.declared.layout.comm.Stretch.{Stretch}
 use Rattle.mpi_model.specs.declared.object.Object.{Object}
 use Rattle.mpi_model.specs.declared.object.Object.TheVariants.{Communicator as a_communicator}
 
--- A communicator, a window or a file: its id and its sort, the ranks of its group in their order (MPI 4.0, 7.2.1), and for each of these by which number
--- its own calls name it. Where no numbers are given all of them name it by the id.
+-- A communicator, a window or a file: its id and its sort, the ranks of its group in their order (MPI 4.0, 7.2.1), and
+-- for each of these by which number its own calls name it. Where no numbers are given all of them name it by the id.
 pub record Communicator : Type 0 where
   pub comm : ℕ
   pub object : Object

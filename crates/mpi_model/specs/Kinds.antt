@@ -9,11 +9,11 @@ use Rattle.mpi_model.specs.declared.kind.ObjectParameter.TheVariants.{Comm, OldC
 use Rattle.mpi_model.specs.declared.object.Object.{Object}
 use Rattle.mpi_model.specs.declared.object.Object.TheVariants as objects
 
--- Of a kind: the names of its blocking function and of its nonblocking one, where there is one (6.12); its category (6.2.2);
--- whether the others may owe a member nothing, so that its call need not wait for them where sends are buffered: each rank has
--- a count of its own, which may be 0, or the standard lets each member wait for the others and promises it of none; whether
--- it is a collective communication (6); the sort of its object, and which parameters name that; and whether its functions
--- have a form with counts of 64 bits, with `_c` behind the name.
+-- Of a kind: the names of its blocking function and of its nonblocking one, where there is one (6.12); its category
+-- (6.2.2); whether the others may owe a member nothing, so that its call need not wait for them where sends are
+-- buffered: each rank has a count of its own, which may be 0, or the standard lets each member wait for the others and
+-- promises it of none; whether it is a collective communication (6); the sort of its object, and which parameters name
+-- that; and whether its functions have a form with counts of 64 bits, with `_c` behind the name.
 pub record Row : Type 0 where
   pub function : List ℕ
   pub nonblocking : Option (List ℕ)

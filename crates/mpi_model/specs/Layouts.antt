@@ -117,8 +117,8 @@ fault_of ranks world gs =
     else if nat_lt MOST_COMMS (length gs) then Some CommCount
     else comm_fault ranks world gs
 
--- The object that a call of a rank names: the world for every rank of the run, or the one of this sort that the rank names so
--- in this call.
+-- The object that a call of a rank names: the world for every rank of the run, or the one of this sort that the rank
+-- names so in this call.
 abbrev pub named : Parts → ℕ → ℕ → Object → CommRef → Option ℕ
 named l rank call object comms.World = if nat_lt rank l.ranks then Some l.world else None
 named l rank call object (comms.Id number) = numbered object l.comms rank call number

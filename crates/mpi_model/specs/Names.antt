@@ -1,5 +1,6 @@
--- Which object a call of a rank names. Each rank numbers communicators, windows and files for itself, each sort apart, and a
--- number comes back once its object is freed (MPI 4.0, 7.4.3). So a number names an object for one rank, over a stretch of its calls.
+-- Which object a call of a rank names. Each rank numbers communicators, windows and files for itself, each sort apart,
+-- and a number comes back once its object is freed (MPI 4.0, 7.4.3). So a number names an object for one rank, over a
+-- stretch of its calls.
 use Rattle.std.specs.Prelude.{◌≡◌, ℕ, ◌==◌, ◌&&◌, ◌||◌, Bool, true, false, List, [], ◌∷◌, ◌++◌, Option, Some, None, option_map, find, length, nat_le, nat_lt, slice_index_or, ◌<◌, ◌≤◌, if◌then◌else◌}
 use Rattle.std.specs.List.{flat_map, list_any}
 use Rattle.std.specs.List.Sorted.{IsPartitionPoint}
@@ -23,7 +24,8 @@ holds s call = nat_le s.first call && is_before call s.end
 abbrev pub has_calls : Stretch → Bool
 has_calls s = holds s s.first
 
--- of two stretches that hold calls: they have one number and share a call, so that one holds the first call of the other
+-- of two stretches that hold calls: they have one number and share a call, so that one holds the first call of the
+-- other
 abbrev pub shares : Stretch → Stretch → Bool
 shares s t = (s.number == t.number) && (holds s t.first || holds t s.first)
 

@@ -22,7 +22,7 @@ pub enum Call {
     Isend(Mode, SendEnvelope),
     Recv(ReceiveEnvelope),
     Irecv(ReceiveEnvelope),
-    /// A send of standard mode and a receive at once (MPI 4.0, 3.10).
+    /// A send of standard mode and a receive in one call (MPI 4.0, 3.10).
     Sendrecv(Exchange),
     /// The completion calls (MPI 4.0, 3.7.3 and 3.7.5).
     Wait(i64),
@@ -39,7 +39,7 @@ pub enum Call {
     Free(i64),
     /// A blocking collective call.
     Collective(Collective),
-    /// A collective call whose end its request tells (MPI 4.0, 6.12).
+    /// A nonblocking collective call: it is complete when its request is (MPI 4.0, 6.12).
     Icollective(NonblockingCollective),
     /// It waits for a message and leaves it where it is (MPI 4.0, 3.8.1).
     Probe(ProbeEnvelope),
@@ -60,11 +60,13 @@ pub enum Call {
     Iprobe(ProbeEnvelope),
     /// It receives a message that a matched probe took (MPI 4.0, 3.8.3).
     Imrecv,
-    /// A function that moves messages and isn't read: what follows it isn't known.
+    /// A function that moves messages and isn't read. Nothing after it is known of its rank.
     Unread,
 }
 
 impl Call {
+    /// An equal call. The lists of requests and the two envelopes of an `MPI_Sendrecv` are copied into memory of their
+    /// own. Fails with `AllocError` when memory is refused.
     pub fn try_clone(&self) -> Result<Call, AllocError>
         ensures { IfOk result (λ c. c ≡ self.now) }
     {

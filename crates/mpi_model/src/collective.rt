@@ -36,7 +36,7 @@ impl Model for Collective {
 }
 
 impl Collective {
-    /// The call, or none where the root or the object is none that the kind can have.
+    /// The call; `None` if a call of this kind can't have this root or this object.
     pub fn new(kind: Kind, root: Option<u32>, comm: CommRef) -> Option<Collective>
         ensures { SomeIff result (IsRootOf kind root × IsComm comm × IsNamedAs (row kind).object comm) (record { kind = kind; root = root; comm = comm }) }
     {
@@ -54,6 +54,7 @@ impl Collective {
         let _kind = self.kind;
     }
 
+    /// Its kind, which its blocking and its nonblocking function share.
     pub fn kind(self) -> Kind
         ensures { result ≡ self.kind }
     {
@@ -84,14 +85,14 @@ impl Collective {
         self.comm
     }
 
-    /// Its function where it blocks.
+    /// Its blocking function.
     pub fn function(self) -> CollectiveFunction
         ensures { result ≡ record { kind = self.kind; nonblocking = false } }
     {
         CollectiveFunction::new(self.kind, false).unwrap()
     }
 
-    /// The same call, where its kind has a nonblocking function.
+    /// The same call as a nonblocking one; `None` if its kind has no nonblocking function.
     pub fn nonblocking(self) -> Option<NonblockingCollective>
         ensures { SomeIff result (has_nonblocking self.kind ≡ true) self }
     {

@@ -8,26 +8,26 @@ ghost use Rattle.mpi_model.specs.Side.{Side, LeavesSide, untold};
 
 use std::io;
 
-/// A call of a device failed. What it moved is told by the call that failed.
+/// A call of a device failed. The doc of that call says which bytes it moved.
 #[derive(Clone, Copy, Debug, PartialEq, Eq)]
 pub struct Failed;
 
 /// Where bytes come from.
 ///
-/// A device tells its bytes, or it doesn't (a socket can't); then `left` is `None`, and no clause
-/// says anything of them.
+/// A contract knows the bytes of some devices, and of others (a socket) it doesn't: then `left` is `None`, and no
+/// clause says anything about them.
 pub trait Read: Drop {
-    /// The bytes that are left, where the device tells them.
+    /// The bytes that are left to read; `None` if no contract can know them.
     ghost left: { Self → Option (List ℕ) } = { λ _. None };
 
     /// How often a read has failed.
     ghost failures: { Self → ℕ };
 
-    /// What the same device keeps for writing, where it is a stream.
+    /// The writing half of the same device, if it is a stream.
     ghost write_side: { Self → Side } = { λ _. untold };
 
-    /// Fills a front of the buffer, and answers its length: 0 of a nonempty buffer only at the
-    /// end. At `Failed` no byte was taken.
+    /// Fills a front of the buffer and returns its length, which is 0 for a nonempty buffer only at the end. On
+    /// `Failed` no byte was taken.
     fn read(&mut self, buffer: &mut [u8]) -> Result<usize, Failed>
         ensures within { IfOk result (λ n. n ≤ length buffer.new) }
         ensures bytes { ReadConsumes (left self.old) (left self.new) result buffer.new }
@@ -37,17 +37,17 @@ pub trait Read: Drop {
 
 /// Where bytes go.
 pub trait Write: Drop {
-    /// The bytes that were written, where the device tells them.
+    /// The bytes that were written; `None` if no contract can know them.
     ghost written: { Self → Option (List ℕ) } = { λ _. None };
 
     /// How often a write has failed.
     ghost failures: { Self → ℕ };
 
-    /// What the same device keeps for reading, where it is a stream.
+    /// The reading half of the same device, if it is a stream.
     ghost read_side: { Self → Side } = { λ _. untold };
 
-    /// Takes a front of the piece, and answers its length: at least one byte of a nonempty piece.
-    /// At `Failed` no byte was taken.
+    /// Takes a front of the piece and returns its length, which is at least 1 for a nonempty piece. On `Failed` no byte
+    /// was taken.
     fn write(&mut self, piece: &[u8]) -> Result<usize, Failed>
         ensures within { IfOk result (λ n. n ≤ length piece.now) }
         ensures some { IfOk result (λ n. 0 < length piece.now → 0 < n) }
@@ -68,6 +68,7 @@ pub struct Device<T> {
 }
 
 impl<T> Device<T> {
+    /// A device over the inner value, with no failure counted yet.
     pub fn new(inner: T) -> Self
         ensures inner { inside result ≡ inner }
         ensures no_failure { (failed_reads result ≡ 0) × (failed_writes result ≡ 0) }

@@ -20,6 +20,7 @@ pub enum Peer {
     Any,
     /// `MPI_PROC_NULL`: the call completes at once and moves nothing (MPI 4.0, 3.10).
     Null,
+    /// A rank in the communicator's group.
     Rank(u32),
 }
 
@@ -28,15 +29,20 @@ pub enum Peer {
 pub enum CommRef {
     /// `MPI_COMM_WORLD`, whatever number the layout gives to it.
     World,
+    /// A communicator, a window or a file, by the number that the trace gives to it.
     Id(u32),
 }
 
 /// The mode of a send (MPI 4.0, 3.4).
 #[derive(Clone, Copy, Debug, PartialEq, Eq, PartialOrd, Ord)]
 pub enum Mode {
+    /// `MPI_Send` and its forms: MPI decides whether the send is buffered.
     Standard,
+    /// `MPI_Ssend` and its forms: it completes only once its receive has started.
     Synchronous,
+    /// `MPI_Bsend` and its forms: it completes by itself.
     Buffered,
+    /// `MPI_Rsend` and its forms: its receive has to be posted already.
     Ready,
 }
 
@@ -47,6 +53,7 @@ pub enum Mode {
 #[derive(Clone, Copy, Debug, PartialEq, Eq)]
 pub struct Envelope {
     pub peer: Peer,
+    /// `None` is `MPI_ANY_TAG`.
     pub tag: Option<u32>,
     pub comm: CommRef,
     /// Elements of the datatype.

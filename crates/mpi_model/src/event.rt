@@ -16,13 +16,16 @@ use std::cmp::Ordering;
 /// One entry of a rank's trace. Times are part of it: at another time it is another event.
 #[derive(Debug, Drop)]
 pub enum Event {
+    /// The rank enters the call at this time.
     Enter(Call, Stamp),
+    /// Its call returns with this outcome at this time.
     Return(Outs, Stamp),
 }
 
 const _: () = prove!(size_of::<Event>() <= 56);
 
 impl Event {
+    /// An equal event. The lists of its call or outcome are copied. Fails with `AllocError` when memory is refused.
     pub fn try_clone(&self) -> Result<Event, AllocError>
         ensures { IfOk result (λ e. e ≡ self.now) }
     {
@@ -63,7 +66,9 @@ impl Event {
 /// How a call returned.
 #[derive(Debug, Drop)]
 pub struct Exit {
+    /// What it brought back.
     pub outs: Outs,
+    /// When it returned.
     pub stamp: Stamp,
 }
 

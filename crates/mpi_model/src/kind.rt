@@ -15,9 +15,10 @@ mod table;
 
 pub use laws::each_kind;
 
-/// From which members of its group a collective call brings data to which (MPI 4.0, 6.2.2).
+/// From which members to which members of its group a collective call moves data (MPI 4.0, 6.2.2).
 #[derive(Clone, Copy, Debug, PartialEq, Eq)]
 pub enum Category {
+    /// From all members to all.
     AllToAll,
     /// From the root to all.
     OneToAll,
@@ -115,7 +116,7 @@ pub enum Kind {
     FileSetInfo,
 }
 
-/// Which parameters may name the object of a call: the first of them that the call has does.
+/// Which parameters may name the object of a call. The first of them that the call has names it.
 #[derive(Clone, Copy, Debug, PartialEq, Eq)]
 pub enum ObjectParameter {
     /// `comm`
@@ -132,7 +133,7 @@ pub enum ObjectParameter {
     File,
 }
 
-/// What is to be known of a kind.
+/// The properties of a kind, as MPI defines them.
 #[derive(Clone, Copy, Debug)]
 pub struct KindRow {
     /// The name of its blocking function.
@@ -140,9 +141,8 @@ pub struct KindRow {
     /// The name of its nonblocking function, where there is one.
     pub nonblocking: Option<&'static [u8]>,
     pub category: Category,
-    /// Whether the others may owe a member nothing, so that its call need not wait for them where
-    /// sends are buffered: each rank has a count of its own, which may be 0, or the standard lets
-    /// each member wait for the others and promises it of none.
+    /// Whether a member's call may return without the others if sends are buffered: either each rank has a count of its
+    /// own, which may be 0, or the standard allows each member to wait for the others but doesn't require it.
     pub may_be_owed_nothing: bool,
     /// Whether it is a collective communication (MPI 4.0, chapter 6).
     pub is_communication: bool,
@@ -193,7 +193,7 @@ impl Kind {
         &KINDS
     }
 
-    /// The number of the kind, each its own: its code in a frame.
+    /// The number of the kind, which no other kind has. It is the kind's code in a frame.
     #[tactic(auto, unfolding(crate::specs::Kinds::kind_number))]
     pub fn number(self) -> u8
         ensures { result ≡ kind_number self }
@@ -201,7 +201,7 @@ impl Kind {
         self as u8
     }
 
-    /// The kind of a number, where it is one's.
+    /// The kind with this number; `None` if no kind has it.
     #[tactic(auto, unfolding(crate::specs::Kinds::kind_of))]
     pub fn of_number(number: u8) -> Option<Kind>
         ensures { result ≡ kind_of number }
@@ -209,7 +209,7 @@ impl Kind {
         Some(*Kind::all().get(usize::from(number))?)
     }
 
-    /// Whether the two kinds are one.
+    /// Whether the two kinds are the same.
     pub fn same(self, other: Kind) -> bool
         ensures { IsTrue result ↔ (self ≡ other) }
     {
@@ -252,7 +252,7 @@ impl Model for CollectiveFunction {
 }
 
 impl CollectiveFunction {
-    /// The function, or none where the kind has no nonblocking one.
+    /// The function; `None` if it is to be nonblocking and the kind has no nonblocking one.
     pub fn new(kind: Kind, nonblocking: bool) -> Option<CollectiveFunction>
         ensures { SomeIff result (is_function (record { kind = kind; nonblocking = nonblocking }) ≡ true) (record { kind = kind; nonblocking = nonblocking }) }
     {
@@ -269,12 +269,14 @@ impl CollectiveFunction {
         let _kind = self.kind;
     }
 
+    /// What the function does, whether it blocks or not.
     pub fn kind(self) -> Kind
         ensures { result ≡ self.kind }
     {
         self.kind
     }
 
+    /// Whether it returns a request and doesn't wait for the operation (MPI 4.0, 6.12).
     pub fn is_nonblocking(self) -> bool
         ensures { result ≡ self.nonblocking }
     {
@@ -293,7 +295,7 @@ impl CollectiveFunction {
         }
     }
 
-    /// Its name without `MPI_`: in small letters it is its word in a report.
+    /// Its name without `MPI_`. In lower case it is the function's word in a report.
     pub fn short_name(self) -> &'static [u8]
         ensures { result.now ≡ short_name self }
     {
@@ -303,7 +305,7 @@ impl CollectiveFunction {
         }
     }
 
-    /// Whether the two functions are one.
+    /// Whether the two functions are the same.
     pub fn same(self, other: CollectiveFunction) -> bool
         ensures { IsTrue result ↔ (self ≡ other) }
     {

@@ -32,10 +32,10 @@ pub const MOST_RANKS: u32 = 1024;
 /// The most communicators, windows and files of a layout.
 pub const MOST_COMMS: usize = 65_536;
 
-/// How sends of standard mode complete (MPI 4.0, 3.4: a program can't tell which it gets).
+/// How sends of standard mode complete. MPI allows both, and a program can't know which it gets (MPI 4.0, 3.4).
 #[derive(Clone, Copy, Debug, PartialEq, Eq)]
 pub enum Sends {
-    /// A send waits for its receive.
+    /// A send completes only when its receive has been posted.
     Wait,
     /// A send is buffered and completes by itself.
     Buffer,
@@ -75,10 +75,9 @@ impl Model for Layout {
 }
 
 impl Layout {
-    /// A layout of these parts, or the first of the faults in the order of their numbers, each
-    /// tried over the whole layout. `world` is the id of `MPI_COMM_WORLD`; each communicator is
-    /// its id and its members in the order of their ranks in it, who all name it by its id. It has
-    /// no windows and no files.
+    /// A layout of these parts. If it breaks a rule, the fault is the first in the order of [`LayoutFault`], each rule
+    /// being checked over the whole layout. `world` is the id of `MPI_COMM_WORLD`; each communicator is its id and its
+    /// members in the order of their ranks in it, who all name it by its id. It has no windows and no files.
     pub fn new(
         alloc: Global,
         ranks: u32,
@@ -94,8 +93,8 @@ impl Layout {
         Layout::of_comms(alloc, ranks, world, comms_of(alloc, comms)?, sends)
     }
 
-    /// As [`Layout::new`], of communicators, windows and files that may say by which numbers their
-    /// members name them.
+    /// As [`Layout::new`], for communicators, windows and files that may say by which numbers their members name them.
+    /// It fails as [`Layout::new`] does.
     pub fn of_comms(
         alloc: Global,
         ranks: u32,
@@ -147,7 +146,7 @@ impl Layout {
         })
     }
 
-    /// A copy in which sends of standard mode complete so.
+    /// A copy in which sends of standard mode complete in this way. Fails with `AllocError` when memory is refused.
     pub fn with_sends(&self, alloc: Global, sends: Sends) -> Result<Layout, AllocError>
         ensures { IfOk result (λ l. l ≡ record self.now { sends = sends }) }
     {
@@ -183,6 +182,7 @@ impl Layout {
         self.world
     }
 
+    /// How sends of standard mode complete.
     pub fn sends(&self) -> Sends
         ensures { result ≡ self.now.sends }
     {
@@ -196,8 +196,8 @@ impl Layout {
         Some(self.comms.get(i)?.id())
     }
 
-    /// The members of a communicator, window or file, ranks of the run in the order of their ranks
-    /// in it. It halves the objects: where many questions are asked of one, keep the slice.
+    /// The members of a communicator, window or file, ranks of the run in the order of their ranks in it. It is a
+    /// binary search over the objects: keep the slice if you need it often.
     pub fn members(&self, comm: u32) -> Option<&[u32]>
         ensures value { option_map (λ m. m.now) result ≡ members_of self.now.comms comm }
         ensures group { IfSome result (λ m. IsGroup self.now.ranks m.now) }
@@ -205,16 +205,15 @@ impl Layout {
         members_in(&self.comms, comm)
     }
 
-    /// The sort of the object of this id.
+    /// Whether the object of this id is a communicator, a window or a file; `None` if there is no such object.
     pub fn object(&self, comm: u32) -> Option<Object>
         ensures { result ≡ object_of_comm self.now.comms comm }
     {
         object_in(&self.comms, comm)
     }
 
-    /// The object that a call of a rank names: the world for each rank of the run, or the one of
-    /// this sort that the rank names by this number in this call. It halves the names that the rank
-    /// gives.
+    /// The object that a call of a rank names: the world for each rank of the run, or the one of this sort that the
+    /// rank names by this number in this call. It is a binary search over the names that the rank gives.
     pub fn named(&self, rank: u32, call: u64, object: Object, comm: CommRef) -> Option<u32>
         ensures { result ≡ named self.now rank call object comm }
     {
@@ -242,14 +241,15 @@ impl Layout {
         rank < self.ranks
     }
 
-    /// The rank in a communicator of a rank of the run, where it is a member.
+    /// The rank that a rank of the run has in a communicator; `None` if it isn't a member.
     pub fn rank_in(&self, comm: u32, rank: u32) -> Option<u32>
         ensures { result ≡ option_and_then (position_from (λ r. r == rank) 0) (members_of self.now.comms comm) }
     {
         place_of(members_in(&self.comms, comm)?, rank)
     }
 
-    /// The ids of the communicators, windows and files that hold the rank, in rising order.
+    /// The ids of the communicators, windows and files that hold the rank, in rising order. Fails with `AllocError`
+    /// when memory is refused.
     pub fn comms_with(&self, alloc: Global, rank: u32) -> Result<Vec<u32>, AllocError>
         ensures { IfOk result (λ v. v.items ≡ ids_with rank self.now.comms) }
     {

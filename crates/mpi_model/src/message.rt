@@ -10,27 +10,30 @@ use crate::event::OpName;
 /// What a Cancel leaves of a message or a receive (MPI 4.0, 3.8.4).
 #[derive(Clone, Copy, Debug, PartialEq, Eq, PartialOrd, Ord)]
 pub enum Trust {
-    /// No Cancel that was read names it, or it is told that it was completed all the same.
+    /// No Cancel that was read names it, or the trace says that it completed all the same.
     Sure,
-    /// A Cancel names it, and nothing tells whether it was cancelled.
+    /// A Cancel names it, and the trace doesn't say whether it was cancelled.
     Doubtful,
-    /// It is told that it was cancelled.
+    /// The trace says that it was cancelled.
     Void,
 }
 
 impl Trust {
+    /// Whether no Cancel that was read names it, or it completed all the same.
     pub fn is_sure(self) -> bool
         ensures { result ≡ is_sure self }
     {
         matches!(self, Trust::Sure)
     }
 
+    /// Whether a Cancel names it, and the trace doesn't say if it was cancelled.
     pub fn is_doubtful(self) -> bool
         ensures { result ≡ is_doubtful self }
     {
         matches!(self, Trust::Doubtful)
     }
 
+    /// Whether the trace says that it was cancelled: then it moves no message.
     pub fn is_void(self) -> bool
         ensures { result ≡ is_void self }
     {
@@ -43,11 +46,15 @@ impl Trust {
 pub struct Message {
     /// The call that sent it.
     pub name: OpName,
+    /// The id of its communicator in the layout.
     pub comm: u32,
+    /// The rank that sends.
     pub from: u32,
+    /// The rank to which it is sent.
     pub to: u32,
     pub tag: u32,
     pub mode: Mode,
+    /// Whether it was cancelled.
     pub trust: Trust,
     /// Elements of the datatype.
     pub count: u32,
@@ -61,34 +68,36 @@ pub struct Message {
 pub struct Receive {
     /// The call that posted it.
     pub name: OpName,
+    /// The id of its communicator in the layout.
     pub comm: u32,
     /// The rank that receives.
     pub at: u32,
-    /// The sender, as the call or its outcome tells it; `None` where neither does.
+    /// The sender, if the call or its outcome says it; `None` if neither does.
     pub source: Option<u32>,
     /// `None` is `MPI_ANY_TAG`.
     pub tag: Option<u32>,
     /// The most elements that it takes.
     pub count: u32,
+    /// Whether it was cancelled.
     pub trust: Trust,
     /// The trace's number of the datatype.
     pub datatype: i64,
-    /// The call of its rank whose outcome completes it; `None` where no outcome that was read does.
+    /// The number of the call whose outcome completes it; `None` if no outcome that was read does.
     pub ended: Option<u64>,
 }
 
 const _: () = prove!(size_of::<Message>() <= 48 && size_of::<Receive>() <= 72);
 
 impl Receive {
-    /// Whether it may take more than is known of it: its source is untold, or it is doubtful. A
-    /// void one takes nothing.
+    /// Whether it may take a message that the trace doesn't show: its source isn't told, or it is doubtful. A void
+    /// receive takes nothing.
     pub fn is_open(&self) -> bool
         ensures { result ≡ is_open self.now }
     {
         !self.trust.is_void() && (self.source.is_none() || self.trust.is_doubtful())
     }
 
-    /// Whether it takes what its source tells: it is told, and sure.
+    /// Whether its source is told and it is sure, so that it takes a message of just this source.
     pub fn is_settled(&self) -> bool
         ensures { result ≡ is_settled self.now }
     {
@@ -104,8 +113,8 @@ pub fn fits(message: &Message, receive: &Receive) -> bool
     envelopes_fit(message, receive) && !message.trust.is_void() && !receive.trust.is_void()
 }
 
-/// Whether the communicator, the receiver, the source and the tag agree (MPI 4.0, 3.2.3 and
-/// 3.2.4). An untold source may be any.
+/// Whether the communicator, the receiver, the source and the tag agree (MPI 4.0, 3.2.3 and 3.2.4). A receive whose
+/// source isn't told can take from any source.
 pub fn envelopes_fit(message: &Message, receive: &Receive) -> bool
     ensures { result ≡ envelopes_fit message.now receive.now }
 {

@@ -3,11 +3,11 @@
 ghost use Rattle.std.specs.Prelude.{◌≡◌};
 ghost use Rattle.mpi_model.specs.Kinds.{object_number};
 
-/// The sort of an object over whose group calls are collective. A rank names objects of each sort
-/// by numbers of their own.
+/// A communicator, a window or a file: calls on it are collective over its group. A rank's numbers for objects of one
+/// sort are independent of those for another.
 #[derive(Clone, Copy, Debug, PartialEq, Eq)]
 pub enum Object {
-    /// MPI 4.0, chapter 7.
+    /// A communicator (MPI 4.0, chapter 7).
     Communicator,
     /// A window of one-sided communication (MPI 4.0, chapter 12).
     Window,
@@ -16,7 +16,7 @@ pub enum Object {
 }
 
 impl Object {
-    /// The number of the sort, each its own.
+    /// The number of the sort, which no other sort has.
     pub fn number(self) -> u8
         ensures { result ≡ object_number self }
     {

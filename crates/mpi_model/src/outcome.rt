@@ -7,24 +7,28 @@ use crate::list::{Elements, Sources};
 use crate::told::Told;
 use std::alloc::AllocError;
 
-/// The outcome of a call. Which kind belongs to which call is for the crates above to say: an
-/// outcome of another kind tells nothing and completes nothing.
+/// The outcome of a call. The crates above define which kind belongs to which call. An outcome of another kind says
+/// nothing and completes nothing.
 #[derive(Debug, Drop)]
 pub enum Outs {
+    /// The call brings nothing back that matching needs.
     Nothing,
     /// The request that an Isend, Irecv or nonblocking collective call posted.
     Posted(i64),
     /// What the status of a Recv, Sendrecv, Probe or Wait tells.
     Status(Told),
+    /// What the statuses of a Waitall or Testall tell.
     Statuses(Sources),
     /// The position in the call's list, from 0, of the request that a Waitany or Testany completed.
     Index(Option<u32>, Told),
+    /// The requests that a Waitsome or Testsome completed.
     Several(Elements),
     /// Whether a Test found its request completed, or a Testall all of them.
     Flag(bool, Told),
 }
 
 impl Outs {
+    /// An equal outcome. A list in it is copied. Fails with `AllocError` when memory is refused.
     pub fn try_clone(&self) -> Result<Outs, AllocError>
         ensures { IfOk result (λ o. o ≡ self.now) }
     {

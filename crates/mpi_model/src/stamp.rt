@@ -31,7 +31,7 @@ impl Model for Stamp {
 impl Stamp {
     ghost use Rattle.mpi_model.specs.Times.{latest};
 
-    /// A moment, or none where a time is after [`LATEST`].
+    /// A moment; `None` if one of the times is after [`LATEST`].
     pub fn new(wall: u64, cpu: u64) -> Option<Stamp>
         ensures { SomeIff result ((wall ≤ latest) × (cpu ≤ latest)) (record { wall = wall; cpu = cpu }) }
     {

@@ -26,7 +26,7 @@ impl Model for GroupRank {
 }
 
 impl GroupRank {
-    /// The rank of that number, or none where it is above 2^31 - 1.
+    /// The rank of that number; `None` if it is above 2^31 - 1.
     pub fn new(number: u32) -> Option<GroupRank>
         ensures { SomeIff result (number < 2 ^ 31) number }
     {
@@ -37,6 +37,7 @@ impl GroupRank {
         }
     }
 
+    /// The rank in the group, at most 2^31 - 1.
     pub fn number(self) -> u32
         ensures value { result ≡ self }
         ensures range { result < 2 ^ 31 }
@@ -45,10 +46,12 @@ impl GroupRank {
     }
 }
 
-/// What a status tells of where its message came from (MPI 4.0, 3.2.5: the field `MPI_SOURCE`).
+/// What a status says of where its message came from (MPI 4.0, 3.2.5, field `MPI_SOURCE`).
 #[derive(Clone, Copy, Debug, PartialEq, Eq)]
 pub enum Told {
+    /// The trace doesn't give the source.
     Nothing,
+    /// The rank from which the message came, in the communicator's group.
     Source(GroupRank),
     /// The operation was cancelled (MPI 4.0, 3.8.4), so no message came or went.
     Cancelled,
@@ -57,14 +60,14 @@ pub enum Told {
 const _: () = prove!(size_of::<Told>() <= 8);
 
 impl Told {
-    /// That the message came from the rank of that number, or none where it is above 2^31 - 1.
+    /// The source with this number; `None` if it is above 2^31 - 1.
     pub fn from_rank(rank: u32) -> Option<Told>
         ensures { SomeIff result (rank < 2 ^ 31) (Source rank) }
     {
         Some(Told::Source(GroupRank::new(rank)?))
     }
 
-    /// The source's rank in the group, where one is told.
+    /// The source's rank in the group; `None` if no source is told.
     pub fn rank(self) -> Option<u32>
         ensures value { result ≡ told_rank self }
         ensures range { IsTold self }

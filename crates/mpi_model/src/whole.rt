@@ -27,7 +27,8 @@ pub struct WriteFault {
     pub written: usize,
 }
 
-/// Fills the buffer, and takes no byte more.
+/// Fills the buffer, and takes no byte more. [`ReadFault`] says why it isn't filled, and how many bytes were read
+/// before and stand in its front.
 pub fn read_exactly<R: Read>(reader: &mut R, buffer: &mut [u8]) -> Result<(), ReadFault>
     ensures ok { OnOk result (Consumes (R.left reader.old) (R.left reader.new) buffer.new) }
     ensures no_failure { OnOk result (R.failures reader.new ≡ R.failures reader.old) }
@@ -49,7 +50,8 @@ pub fn read_exactly<R: Read>(reader: &mut R, buffer: &mut [u8]) -> Result<(), Re
     Ok(())
 }
 
-/// Writes the whole piece.
+/// Writes the whole piece. [`WriteFault`] says how many bytes of the piece, less than all, were written before the
+/// device failed.
 pub fn write_all<W: Write>(writer: &mut W, piece: &[u8]) -> Result<(), WriteFault>
     ensures ok { OnOk result (Appends (W.written writer.old) (W.written writer.new) piece.now) }
     ensures part { IfErr result (λ fault. fault.written < length piece.now) }

@@ -1,6 +1,6 @@
-//! Nodes, worlds and crews where memory is refused. What is refused leaves what its contract says, and the test goes on with
-//! it: so it passes whichever request is refused, and where none is. A request of a helper in `fixture` stops it instead.
-//! `tests/run/run_refusals` refuses each request of these tests in turn.
+//! Nodes, worlds and crews where memory is refused. What is refused leaves what its contract says, and the test goes on
+//! with it: so it passes whichever request is refused, and where none is. A request of a helper in `fixture` stops it
+//! instead. `tests/run/run_refusals` refuses each request of these tests in turn.
 
 use crate::crew::{CALL, Row, pieces};
 use crate::fixture::{Does, Piece, layout, layout_of, report_of, segment, shared};
@@ -195,8 +195,8 @@ fn nodes_go_on_after_a_refusal(rt: HostRuntime) {
     }
 }
 
-/// What a world of two nodes shows: of each node the readable prefixes of both ranks and how many segments lie in its inbox,
-/// and how many mails there are.
+/// What a world of two nodes shows: of each node the readable prefixes of both ranks and how many segments lie in its
+/// inbox, and how many mails there are.
 type Shows = ((u64, u64, usize), (u64, u64, usize), usize);
 
 /// What the world shows at first, and after each step of the schedule.
@@ -235,7 +235,8 @@ fn post<R: Abort>(rt: &R, alloc: Global, rank: u32) -> Step {
     }
 }
 
-/// Both ranks' calls reach node 0, whose mail brought the first of them to node 1, and once more after that was restarted.
+/// Both ranks' calls reach node 0, whose mail brought the first of them to node 1, and once more after that was
+/// restarted.
 fn schedule<R: Abort>(rt: &R, alloc: Global) -> Vec<Step> {
     let mut steps = Vec::new(alloc);
     steps.push(post(rt, alloc, 0)).expect(rt, "memory");
@@ -261,8 +262,8 @@ fn add_deliveries<R: Abort>(rt: &R, steps: &mut Vec<Step>) {
     }
 }
 
-/// How many steps were done of a run that was refused at step k: want of memory leaves the world before that step, and want
-/// of an answer after it.
+/// How many steps were done of a run that was refused at step k: want of memory leaves the world before that step, and
+/// want of an answer after it.
 fn done<R: Abort>(rt: &R, k: usize, fault: WorldFault) -> usize {
     let is_one = fault == WorldFault::Memory || fault == WorldFault::Stale;
     assert!(rt; is_one, "{fault}");
@@ -273,8 +274,8 @@ fn done<R: Abort>(rt: &R, k: usize, fault: WorldFault) -> usize {
     }
 }
 
-/// Runs the steps. After a refusal the world shows what the steps before it led to; both nodes are refreshed, and the rest is
-/// run.
+/// Runs the steps. After a refusal the world shows what the steps before it led to; both nodes are refreshed, and the
+/// rest is run.
 fn run<R: Abort>(rt: &R, world: &mut World, steps: &[Step]) {
     if let Err(StepFault { step, fault }) = world.run(steps) {
         let count = done(rt, step, fault);
@@ -360,8 +361,8 @@ fn counted(out: &CrewOut<'_>) -> usize {
     joined.saturating_add(other)
 }
 
-/// How many texts of two workers a crew accounts for: all of them where it was refused as a whole, by want of memory or of a
-/// thread.
+/// How many texts of two workers a crew accounts for: all of them where it was refused as a whole, by want of memory or
+/// of a thread.
 fn accounted<R: Threads + Wait + Sync + Abort>(
     rt: &R,
     alloc: Global,

@@ -20,6 +20,7 @@ fn event(place: u64, late: u64) -> Result<Event, Fail> {
     }
 }
 
+/// The segment of a piece: `Fail` where its numbers make no segment or memory lacks.
 pub fn segment(alloc: Global, piece: Piece) -> Result<Segment, Fail> {
     let (rank, first, count, late) = piece;
     let start = first.saturating_mul(2);
@@ -43,6 +44,7 @@ pub fn known(alloc: Global, pieces: &[Piece]) -> Result<Knowledge, Fail> {
 /// whether something lies beyond.
 pub type Summary = (usize, usize, usize, bool);
 
+/// The summary of what is known.
 pub fn summary(alloc: Global, know: &Knowledge) -> Result<Summary, Fail> {
     let contradictions = know.conflict_places(alloc)?;
     Ok((

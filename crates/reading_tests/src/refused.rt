@@ -7,7 +7,8 @@ use mpi_model::Device;
 use std::alloc::Global;
 use std::test::Fail;
 
-/// Whether a text gives its one call and then no more; or is refused memory, and from then on answers that it has ended.
+/// Whether a text gives its one call and then no more; or is refused memory, and from then on answers that it has
+/// ended.
 fn ends_for_good(alloc: Global) -> Result<bool, Fail> {
     let mut texts = match Texts::new(alloc, Device::new(TEXT)) {
         Ok(texts) => texts,

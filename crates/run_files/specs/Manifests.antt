@@ -93,7 +93,8 @@ numbers_from n (item value values) = if is_packed value then None ∷ numbers_fr
 
 -- ---- its fields
 
--- what a list of pieces holds: its texts, its packed files, and the number of each piece among the texts, none of a packed one
+-- what a list of pieces holds: its texts, its packed files, and the number of each piece among the texts, none of a
+-- packed one
 pub record ListedParts : Type 0 where
   pub pieces : List PieceParts
   pub packed : List PackedParts

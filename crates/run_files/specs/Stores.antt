@@ -104,7 +104,8 @@ fault_of_spares fault = fault
 abbrev pub LeavesNothing : PutFault → Type 0
 LeavesNothing fault = (half : Which) → fault ≢ puts.Half half
 
--- Why two files of these names aren't added to a store: they have one name, a file is there, or the store failed meanwhile.
+-- Why two files of these names aren't added to a store: they have one name, a file is there, or the store failed
+-- meanwhile.
 abbrev pub RefusesAdding : List ℕ → List ℕ → Option Files → Type 0 → PutFault → Type 0
 RefusesAdding one other files failed puts.Memory = ⊥
 RefusesAdding one other files failed puts.OneName = one ≡ other
@@ -118,8 +119,8 @@ RefusesAdding one other files failed (puts.Half which) = failed
 abbrev pub spare_name : List ℕ → List ℕ
 spare_name name = name ++ codes ".new"
 
--- Why two files don't take the place of those of their names: two names are one, spare ones among them, or there is a file of
--- a spare name, or the store failed meanwhile.
+-- Why two files don't take the place of those of their names: two names are one, spare ones among them, or there is a
+-- file of a spare name, or the store failed meanwhile.
 abbrev pub RefusesReplacing : (one other spare other_spare : List ℕ) → Option Files → Type 0 → PutFault → Type 0
 RefusesReplacing one other spare other_spare files failed puts.Memory = Unit {0}
 RefusesReplacing one other spare other_spare files failed puts.OneName = AreDistinct one other spare other_spare → ⊥

@@ -9,22 +9,30 @@ use thiserror::Error;
 /// A field of a layout or of a manifest.
 #[derive(Clone, Copy, Debug, PartialEq, Eq)]
 pub enum Field {
+    /// `ranks` of a layout: how many there are.
     Ranks,
+    /// `world` of a layout: the id of MPI_COMM_WORLD.
     World,
+    /// `sends` of a layout: how sends of standard mode complete.
     Sends,
+    /// `comms` of a layout: its communicators, windows and files.
     Comms,
+    /// `pieces` of a manifest.
     Pieces,
+    /// `nodes` of a manifest: how many nodes the schedule is for.
     Nodes,
+    /// `schedule` of a manifest.
     Schedule,
 }
 
-/// The first cause that stands, in this order; want of memory where it comes.
+/// Why a text is refused: the first cause in this order, except that `Memory` comes whenever memory is refused.
 #[derive(Clone, Copy, Debug, PartialEq, Eq, Error)]
 pub enum InputFault {
+    /// Memory was refused.
     #[error("Memory")]
     Memory,
-    /// The bytes are no JSON, or no UTF-8, as `serde_json` notices at this line and column, both from 1; column 0 is before the
-    /// line's first byte.
+    /// The bytes are no JSON, or no UTF-8. `serde_json` notices it at this line and column, both from 1; column 0 is
+    /// before the line's first byte.
     #[error("M2 Json")]
     Json { line: u64, column: u64 },
     /// This field is missing, of another kind, or out of its range, or a field in it is.
@@ -36,7 +44,7 @@ pub enum InputFault {
     /// The schedule posts a packed piece.
     #[error("M5 Packed")]
     Packed,
-    /// The fields are there, and break a rule of layouts.
+    /// All fields are there, but they break a rule of layouts.
     #[error("{0}")]
     Layout(LayoutFault),
 }

@@ -8,7 +8,7 @@ use mpi_model::{Device, Failed, write_all};
 use std::fs::{Files, OpenOptions};
 use std::io;
 
-/// The files of the system. A file that can't be written whole is taken away again.
+/// The files of the system. A file that can't be written whole is removed again.
 #[derive(Drop)]
 pub struct Folder<'a, F: Files> {
     rt: &'a F,
@@ -16,6 +16,7 @@ pub struct Folder<'a, F: Files> {
 }
 
 impl<'a, F: Files> Folder<'a, F> {
+    /// The files of the system, with no failure counted yet.
     pub fn new(rt: &'a F) -> Self {
         Folder { rt, failures: 0 }
     }

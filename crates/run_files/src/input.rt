@@ -3,7 +3,7 @@
 use crate::manifest::Manifest;
 use mpi_model::Layout;
 
-/// The most bytes of a layout's or a manifest's file.
+/// The largest size of a layout's or a manifest's file, in bytes.
 pub const LONGEST_FILE: usize = 16_777_216;
 
 /// The input of a run: who communicates, and in which pieces its trace stands.

@@ -15,10 +15,17 @@
 //!   `Values.antt`
 //! - [`store`]: where both files are kept, or neither; [`folder`]: as files of the system; `Stores.antt`
 //!
+//! To change something, open:
+//!
+//! - a field of the layout: `specs/Layouts.antt`, `specs/Values.antt`; `src/read/layout.rt`, `src/write/layout.rt`
+//! - a field of the manifest, a step of its schedule: `specs/Manifests.antt`, `specs/Schedules.antt`;
+//!   `src/read/manifest.rt`, `src/read/schedule.rt`
+//! - how two files are written, both or none: `specs/Stores.antt`; [`store`], [`folder`]
+//!
 //! # Choices
 //!
-//! - A packed piece is a field, not a kind of file, lest a damaged pack is taken for a text without calls. One with
-//!   both `packed` and `file` is refused, lest one of them is lost.
+//! - A packed piece is a field, not a kind of file, so that a damaged pack can't be taken for a text without calls. A
+//!   piece with both `packed` and `file` is refused, so that neither is lost.
 //! - That what is written is read back as the same is tested, not proved: `json` defines what is printed by tokens,
 //!   `serde_json` what is read by bytes, and no law of the kit ties the two.
 //!

@@ -35,6 +35,8 @@ impl Piece {
         Piece::new(rank, 0, file, 0, 0)
     }
 
+    /// A text of the calls of `rank` from call `first` on, which this worker of this node posts; both numbers count
+    /// from 0.
     pub(crate) fn new(rank: u32, first: u64, file: String, node: u8, worker: u8) -> Piece
         ensures { result ≡ record { rank = rank; first = first; file = string_bytes file; node = node; worker = worker } }
     {
@@ -75,7 +77,7 @@ impl Piece {
         self.node
     }
 
-    /// The worker of that node who reads it: 0 or 1.
+    /// The worker of that node that reads it: 0 or 1.
     pub fn worker(&self) -> u8
         ensures { result ≡ self.now.worker }
     {
@@ -100,6 +102,7 @@ impl Model for PackedPiece {
 }
 
 impl PackedPiece {
+    /// A packed piece in the file of this name, which this node takes.
     pub(crate) fn new(file: String, node: u8) -> PackedPiece
         ensures { result ≡ record { file = string_bytes file; node = node } }
     {
@@ -122,7 +125,7 @@ impl PackedPiece {
     }
 }
 
-/// A step as the manifest writes it. All numbers are from 0.
+/// A step as the manifest writes it. All numbers count from 0.
 #[derive(Clone, Copy, Debug, PartialEq, Eq)]
 pub enum PlannedStep {
     /// A worker posts a piece to a node: each of its segments, in their order.
@@ -132,7 +135,7 @@ pub enum PlannedStep {
         /// The number of the piece in the list of pieces.
         piece: usize,
     },
-    /// A node takes the front of its inbox.
+    /// A node takes the first segment of its inbox.
     Take {
         node: usize,
     },
@@ -140,12 +143,12 @@ pub enum PlannedStep {
     Ship {
         node: usize,
     },
-    /// A mail is joined into what a node knows.
+    /// A node joins a mail into what it knows.
     Deliver {
         mail: usize,
         node: usize,
     },
-    /// A node forgets all.
+    /// A node forgets all that it knows, and all segments of its inbox.
     Restart {
         node: usize,
     },
@@ -172,6 +175,7 @@ impl Manifest {
     ghost use Rattle.std.specs.Prelude.{[]};
     ghost use Rattle.run_files.specs.Manifests.{manifest_of_texts};
 
+    /// A manifest of these texts, packed pieces and steps for so many nodes.
     pub(crate) fn new(
         pieces: Vec<Piece>,
         packed: Vec<PackedPiece>,
@@ -209,7 +213,7 @@ impl Manifest {
         &self.packed
     }
 
-    /// How many nodes the schedule is for. Any number stands here: a world has 1 to 64.
+    /// The number of nodes of the schedule. It can be any number here, while a world has 1 to 64.
     pub fn nodes(&self) -> usize
         ensures { result ≡ self.now.nodes }
     {

@@ -29,46 +29,47 @@ ghost use Rattle.run_files.specs.declared.store.StoreFault.TheVariants.{There};
 use mpi_model::Failed;
 use std::alloc::{AllocError, Global};
 
-/// Why a store doesn't add a file.
+/// Why a store didn't add a file.
 #[derive(Clone, Copy, Debug, PartialEq, Eq)]
 pub enum StoreFault {
-    /// A file of that name is there.
+    /// There is a file of that name already.
     There,
-    /// It can't.
+    /// The system failed.
     Failed,
 }
 
 /// What keeps files by their names.
 ///
-/// It tells its files, or it doesn't (a disk can't: other programs write to it).
+/// A contract knows the files of some stores; of others (a disk, which other programs write to) it doesn't.
 pub trait Store: Drop {
-    /// The bytes of the file of each name, where the store tells its files.
+    /// The bytes of the file of each name; `None` if no contract can know the files.
     ghost files: { Self → Option Files } = { λ _. None };
 
     /// How often it has failed, up to 2^64 - 1.
     ghost failures: { Self → ℕ };
 
-    /// Keeps a file of a name that none has, whole or not at all.
+    /// Adds a file of a name that no file has, whole or not at all. On an error no file changes; `There` says that
+    /// there is such a file.
     fn add(&mut self, path: &str, bytes: &[u8]) -> Result<(), StoreFault>
         ensures ok { OnOk result (Goes (Adds path.now bytes.now) (files self.old) (files self.new)) }
         ensures err { OnErr result (Goes Same (files self.old) (files self.new)) }
         ensures there { IfErr result (λ fault. fault ≡ There → Told (IsThere path.now) (files self.old)) }
         ensures failures { CountsAdding (failures self.old) (failures self.new) result };
 
-    /// Takes a file away.
+    /// Removes a file. On `Failed` no file changes.
     fn remove(&mut self, path: &str) -> Result<(), Failed>
         ensures ok { OnOk result (Goes (Removes path.now) (files self.old) (files self.new)) }
         ensures err { OnErr result (Goes Same (files self.old) (files self.new)) }
         ensures failures { CountsFailure (failures self.old) (failures self.new) result };
 
-    /// Gives a file another name, in place of the file that has it.
+    /// Renames a file, and replaces the file that has the new name. On `Failed` no file changes.
     fn rename(&mut self, from: &str, to: &str) -> Result<(), Failed>
         ensures ok { OnOk result (Goes (Moves from.now to.now) (files self.old) (files self.new)) }
         ensures err { OnErr result (Goes Same (files self.old) (files self.new)) }
         ensures failures { CountsFailure (failures self.old) (failures self.new) result };
 }
 
-/// A file that is to be kept.
+/// A file to be written: its name and its bytes.
 #[derive(Clone, Copy, Debug)]
 pub struct NewFile<'a> {
     pub name: &'a str,
@@ -78,23 +79,26 @@ pub struct NewFile<'a> {
 /// Which of two files.
 #[derive(Clone, Copy, Debug, PartialEq, Eq)]
 pub enum Which {
+    /// The one that was named first.
     First,
+    /// The other one.
     Second,
 }
 
-/// Why two files aren't kept.
+/// Why two files weren't written.
 #[derive(Clone, Copy, Debug, PartialEq, Eq)]
 pub enum PutFault {
+    /// Memory was refused.
     Memory,
     /// Both have one name.
     OneName,
-    /// A file of its name is there.
+    /// There is a file of its name already.
     There(Which),
-    /// It is to replace one, and a file of its name with `.new` behind it is there.
+    /// It is to replace a file, and there is a file of its name with `.new` appended.
     SpareThere(Which),
     /// It couldn't be written.
     Failed(Which),
-    /// It couldn't be written, and something is left of what was to be kept.
+    /// It couldn't be written, and part of what was to be written is left.
     Half(Which),
 }
 
@@ -119,7 +123,7 @@ fn fault_of(fault: StoreFault, which: Which) -> PutFault
     }
 }
 
-/// Keeps two files of names that no file has.
+/// Writes two new files, both or none. At a fault the files are as they were, unless the fault is `Half`.
 pub fn add_both<S: Store>(
     store: &mut S,
     one: NewFile<'_>,
@@ -210,7 +214,8 @@ fn replace_by<S: Store>(
     }
 }
 
-/// Keeps two files, in place of those of their names.
+/// Writes two files in place of those of their names, both or none. At a fault the files are as they were, unless the
+/// fault is `Half`.
 pub fn replace_both<S: Store>(
     alloc: Global,
     store: &mut S,

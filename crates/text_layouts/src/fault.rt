@@ -9,12 +9,13 @@ use thiserror::Error;
 /// Why no layout is made of texts.
 #[derive(Clone, Copy, Debug, PartialEq, Eq, Error)]
 pub enum MadeFault {
+    /// Memory was refused.
     #[error("Memory")]
     Memory,
-    /// Two ranks tell different numbers of MPI_COMM_WORLD.
+    /// Two ranks say different numbers of MPI_COMM_WORLD.
     #[error("ranks {first} and {second} name MPI_COMM_WORLD by different numbers: they are not of one run")]
     World { first: u32, second: u32 },
-    /// A rank tells another size of MPI_COMM_WORLD than there are texts.
+    /// A rank says another size of MPI_COMM_WORLD than there are texts.
     #[error("rank {rank} tells {size} ranks of MPI_COMM_WORLD, and there is not one text for each")]
     Size { rank: u32, size: u32 },
     /// The layout would break a rule of layouts.

@@ -9,7 +9,8 @@ use crate::made::Made;
 use run_files::{LONGEST_FILE, layout_bytes, manifest_bytes};
 use std::alloc::Global;
 
-/// The bytes of the layout's file, where it isn't too long: its communicators in the order in which they were derived.
+/// The bytes of the layout's file, with its communicators in the order in which they were derived. Fails with
+/// [`MadeFault::LayoutFile`] if the file is too long, and with `Memory` when memory is refused.
 pub fn layout_file_of(alloc: Global, made: &Made) -> Result<Vec<u8>, MadeFault>
     ensures ok { IfOk result (λ file. IsFile (made_layout made.now) file.items) }
     ensures fault { IfErr result (λ e. RefusesLayoutFile (made_layout made.now) e) }
@@ -28,7 +29,8 @@ pub fn layout_file_of(alloc: Global, made: &Made) -> Result<Vec<u8>, MadeFault>
     Ok(file)
 }
 
-/// The bytes of the manifest's file, where it isn't too long: the whole texts of the ranks 0, 1 and so on.
+/// The bytes of the manifest's file, with the whole texts of the ranks 0, 1 and so on. Fails with
+/// [`MadeFault::ManifestFile`] if the file is too long, and with `Memory` when memory is refused.
 pub fn manifest_file_of(alloc: Global, files: &[String]) -> Result<Vec<u8>, MadeFault>
     ensures ok { IfOk result (λ file. IsFile (manifest_value (map string_bytes files.now)) file.items) }
     ensures fault { IfErr result (λ e. RefusesManifestFile (manifest_value (map string_bytes files.now)) e) }

@@ -7,6 +7,12 @@
 //! - [`made`]: from what all texts say to the input of a run; [`fault`]: why there is none
 //! - [`files`]: the bytes of its two files
 //! - [`words`]: what is said of them to a person
+//!
+//! To change something, open:
+//!
+//! - which text is of which rank: `specs/Names.antt`; [`order`]
+//! - when texts make no layout: `specs/Making.antt`, `specs/Sizes.antt`; [`made`], [`fault`]
+//! - what is said of a layout: `specs/Words.antt`; [`words`]
 #![tactic(auto)]
 
 mod fault;

@@ -117,9 +117,9 @@ fn texts_of(alloc: Global, files: &[String]) -> Result<Vec<Piece>, AllocError>
     Ok(texts)
 }
 
-/// The layout of the ranks whose calls these are, with the communicators that they make, and the manifest of their texts'
-/// files, by rank. Nothing is made of no rank, of more than a layout can have, or where a rank tells another size of
-/// MPI_COMM_WORLD (MPI 4.0, 7.4.1).
+/// The layout of the ranks whose calls these are, with the communicators that they make, and the manifest of their
+/// texts' files, by rank. Nothing is made of no rank, of more than a layout can have, or where a rank tells another
+/// size of MPI_COMM_WORLD (MPI 4.0, 7.4.1). [`MadeFault`] says why.
 #[tactic(auto, using(crate::proofs::Refused::by_count, crate::proofs::Refused::by_world, crate::proofs::Refused::by_layout))]
 pub fn made_of(
     alloc: Global,

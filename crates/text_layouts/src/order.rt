@@ -9,11 +9,11 @@ use std::alloc::{AllocError, Global};
 /// Which text is of which rank.
 #[derive(Drop)]
 pub enum Order {
-    /// The names don't tell: the order of the words.
+    /// The names don't say it: the ranks are in the order of the words.
     Words,
-    /// The place among the words of each rank's text: the digits at the names' ends are 0 to n - 1, each once.
+    /// The digits at the names' ends are 0 to n - 1, each once. For each rank, the place of its text among the words.
     Digits(Vec<usize>),
-    /// Each name has digits at its end, and these two, by their places among the words, the same ones.
+    /// Each name has digits at its end, and two names have the same: their places among the words.
     Twice { first: usize, second: usize },
 }
 
@@ -169,8 +169,8 @@ fn twice_in(numbers: &[Option<u64>]) -> Option<(usize, usize)>
     None
 }
 
-/// Which text is of which rank, by the names of its files, no more than a layout can have ranks. A number above 2^64 - 1
-/// counts as that.
+/// Which text is of which rank, by the names of its files, no more than a layout can have ranks. A number above 2^64 -
+/// 1 counts as that. Fails with `AllocError` when memory is refused.
 #[tactic(auto, using(crate::proofs::Orders::lacks_and_apart, crate::proofs::Orders::lacks_unnumbered, crate::proofs::Orders::twice))]
 pub fn order_of(alloc: Global, names: &[String]) -> Result<Order, AllocError>
     requires { length names.now ≤ MOST_RANKS }

@@ -5,7 +5,7 @@ ghost use Rattle.text_layouts.specs.Sizes.{other_size};
 
 use comm_makings::RankCalls;
 
-/// The first rank that tells another size than this one, and the size that it tells.
+/// The first rank that says another size than this one, and the size that it says.
 pub(crate) fn other_size(ranks: &[RankCalls], count: u32) -> Option<(u32, u32)>
     requires { length ranks.now < 2 ^ 32 }
     ensures { result ≡ other_size count 0 ranks.now }

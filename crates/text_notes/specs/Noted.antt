@@ -38,7 +38,8 @@ abbrev pub with_call : ℕ → Callback → List UnreadParts → List UnreadPart
 with_call number (OnUnread name) functions = counted number 1 name functions
 with_call number _ functions = functions
 
--- the functions of the calls that aren't read, in the order of their first such calls; calls have numbers from this one on
+-- the functions of the calls that aren't read, in the order of their first such calls; calls have numbers from this one
+-- on
 abbrev pub unread_from : ℕ → List UnreadParts → List Seen → List UnreadParts
 unread_from number functions [] = functions
 unread_from number functions (call ∷ calls) = unread_from (one_more number) (with_call number call.callback functions) calls
@@ -61,8 +62,8 @@ nothing_noted = record { events = []; calls = 0; unread = [] }
 abbrev pub noted : Noted → Seen → Noted
 noted n call = record { events = collected n.events call; calls = one_more n.calls; unread = with_call n.calls call.callback n.unread }
 
--- These are the functions of the text's calls that aren't read, so many calls has it, so many nonblank lines were skipped, this one
--- first, and its last call begins at this line, where it has not returned.
+-- These are the functions of the text's calls that aren't read, so many calls has it, so many nonblank lines were
+-- skipped, this one first, and its last call begins at this line, where it has not returned.
 pub record AreNotes (text : List ℕ) (unread : List UnreadParts) (walked : Walked) : Type 0 where
   pub calls : List TextCall
   pub seen : List Seen

@@ -2,8 +2,8 @@
 use Rattle.std.specs.Prelude.{ℕ, List, Option, Some, None, codes}
 use Rattle.dumpi_text.specs.Call.{TextCall, first_value}
 
--- A call of a text as it stands there: its number among the calls of the text, from 0, the line where it begins, the name of
--- its function, and its call site, where the text has one.
+-- A call of a text as it stands there: its number among the calls of the text, from 0, the line where it begins, the
+-- name of its function, and its call site, where the text has one.
 pub record SiteParts : Type 0 where
   pub number : ℕ
   pub line : ℕ

@@ -16,7 +16,8 @@ abbrev pub value_in : List ℕ → Option TextCall → Option (List ℕ)
 value_in name None = None
 value_in name (Some call) = first_value name call.params
 
--- This is the value of the parameter in the call of the text that begins at the line, where the text's bytes are told; or there is none.
+-- This is the value of the parameter in the call of the text that begins at the line, where the text's bytes are told;
+-- or there is none.
 abbrev pub IsValueAt : Option (List ℕ) → ℕ → List ℕ → Option (List ℕ) → Type 0
 IsValueAt None line name value = Unit {0}
 IsValueAt (Some text) line name value = value ≡ value_in name (call_at line (text_meaning text).calls)

@@ -12,9 +12,10 @@ use Rattle.text_notes.specs.declared.start.Start.TheVariants.{Empty, Gzip, Utf16
 use Rattle.text_notes.specs.declared.words.Kind.{Kind}
 use Rattle.text_notes.specs.declared.words.Kind.TheVariants.{Unread, Callless, Skipped}
 
--- What was noted of the text of a piece: the piece's rank and first call, the name of its file and how a line shows it, how
--- many calls it has and how many lines were skipped, the first of these, the line of its last call, where that has not returned,
--- the functions of its calls that aren't read, and, where it was looked at again, what a text without calls is taken for.
+-- What was noted of the text of a piece: the piece's rank and first call, the name of its file and how a line shows it,
+-- how many calls it has and how many lines were skipped, the first of these, the line of its last call, where that has
+-- not returned, the functions of its calls that aren't read, and, where it was looked at again, what a text without
+-- calls is taken for.
 pub record NoteParts : Type 0 where
   pub rank : ℕ
   pub first : ℕ
@@ -27,7 +28,8 @@ pub record NoteParts : Type 0 where
   pub unread : List UnreadParts
   pub start : Option Start
 
--- the same, by the piece's rank and first call, the name of its file and how a line shows it, and what was told of its text
+-- the same, by the piece's rank and first call, the name of its file and how a line shows it, and what was told of its
+-- text
 abbrev pub noted_of : ℕ × ℕ → List ℕ → List ℕ → Walked → List UnreadParts → Option Start → NoteParts
 noted_of piece path file walked unread start = record {
   rank = piece.0;

@@ -24,6 +24,8 @@ impl Model for UnreadFunction {
 }
 
 impl UnreadFunction {
+    /// A function of this name, which is copied, with the number of its first call and how many calls of it there are.
+    /// Fails with `AllocError` when memory is refused.
     pub(crate) fn new(
         alloc: Global,
         name: &[u8],
@@ -50,20 +52,21 @@ impl UnreadFunction {
         self.first
     }
 
-    /// How many calls of it there are. The count stays at the greatest of its type.
+    /// How many calls of it there are. The count saturates at the greatest value of its type.
     pub fn count(&self) -> u64
         ensures { result ≡ self.now.count }
     {
         self.count
     }
 
+    /// The same in memory of its own. Fails with `AllocError` when memory is refused.
     pub(crate) fn try_clone(&self, alloc: Global) -> Result<UnreadFunction, AllocError>
         ensures { IfOk result (λ f. f ≡ self.now) }
     {
         UnreadFunction::new(alloc, self.name(), self.first, self.count)
     }
 
-    /// Counts so many calls more. The count stays at the greatest of its type.
+    /// Counts so many calls more. The count saturates at the greatest value of its type.
     pub(crate) fn add(&mut self, count: u64)
         ensures { self.new ≡ with_count count self.old }
     {
@@ -78,7 +81,7 @@ impl UnreadFunction {
     }
 }
 
-/// Where the function of a name stands in a list.
+/// The place of the function of this name in a list; `None` if it isn't there.
 pub(crate) fn place_of(functions: &[UnreadFunction], name: &[u8]) -> Option<usize>
     ensures { result ≡ place_of name.now functions.now }
 {

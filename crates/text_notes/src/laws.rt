@@ -2,8 +2,9 @@
 
 ghost use Rattle.text_notes.specs.Whole.{CollectsNoted, StopsNoted, TellsLine, TellsNoted};
 
-/// A walk that notes calls keeps the events that one into a [`Collect`](dumpi_calls::Collect) keeps, and stops where that
-/// does; and over a whole text it notes what the text tells, and the line of a call that the note tells is where it begins.
+/// A walk into a sink that notes calls keeps the same events as one into a [`Collect`](dumpi_calls::Collect), and stops
+/// where that does. Over a whole text it notes what the text says, and the line that the note has for a call is where
+/// the call begins.
 pub fn noted_texts()
     ensures collects { CollectsNoted }
     ensures stops { StopsNoted }

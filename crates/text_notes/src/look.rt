@@ -17,7 +17,7 @@ use std::alloc::Global;
 use std::collections::BTreeSet;
 use std::marker::Model;
 
-/// What a second look tells of a text.
+/// What a second look at a text finds.
 #[derive(Debug, Drop)]
 pub struct Look {
     pub(crate) sites: Vec<CallSite>,
@@ -35,14 +35,14 @@ impl Model for Look {
 }
 
 impl Look {
-    /// The calls that were wanted, in their order.
+    /// The calls that were asked for, in their order.
     pub fn sites(&self) -> &[CallSite]
         ensures { result.now ≡ self.now.sites }
     {
         self.sites.as_slice()
     }
 
-    /// The same, taken out.
+    /// The calls that were asked for, moved out.
     pub fn into_sites(self) -> Vec<CallSite>
         ensures { result.items ≡ self.sites }
     {
@@ -64,7 +64,7 @@ impl Look {
         self.local.as_slice()
     }
 
-    /// The greatest size that MPI_Comm_size tells of MPI_COMM_WORLD.
+    /// The greatest size of MPI_COMM_WORLD that a call of MPI_Comm_size returned; `None` if none did.
     pub fn size(&self) -> Option<u64>
         ensures { result ≡ self.now.size }
     {
@@ -72,7 +72,7 @@ impl Look {
     }
 }
 
-/// Why a text can't be looked at.
+/// Why a second look at a text failed.
 fn fault_of(fault: WalkFault<Memory>) -> LookFault
     ensures { result ≡ LookFault.Read → IsReadStop fault.cause }
 {

@@ -40,7 +40,7 @@ impl<'a> Model for Looking<'a> {
 }
 
 impl<'a> Looking<'a> {
-    /// No call was looked at.
+    /// A sink that has looked at no call.
     pub fn new(alloc: Global, wanted: &'a BTreeSet<u64>, limit: u64) -> Looking<'a>
         ensures { result ≡ nothing_looked wanted.now limit }
     {

@@ -30,9 +30,9 @@ impl Model for TextNote {
 }
 
 impl TextNote {
-    /// The note of a text: the rank and the first call of its piece, the name of its file and how a line for a person shows
-    /// it, what a walk over it told, the functions of its calls that are not read, and, where it was looked at again, what it
-    /// is taken for.
+    /// The note of a text: the rank and the first call of its piece, the name of its file and how a line for a person
+    /// shows it, what a walk over it told, the functions of its calls that are not read, and, where it was looked at
+    /// again, what it is taken for.
     pub fn new(
         piece: (u32, u64),
         path: String,
@@ -111,14 +111,15 @@ impl TextNote {
         self.unread.as_slice()
     }
 
-    /// What it is taken for, where that was looked at.
+    /// What the text is taken for by its first bytes; `None` if it wasn't looked at.
     pub fn start(&self) -> Option<Start>
         ensures { result ≡ self.now.start }
     {
         self.start
     }
 
-    /// The line where the call of a number begins, where the walk told it: that of the last call, unless it has returned.
+    /// The line where the call of this number begins. It is known only for the last call, and only if that hasn't
+    /// returned.
     pub fn line_of(&self, number: u64) -> Option<u64>
         ensures { result ≡ line_in_note number self.now }
     {
@@ -137,7 +138,7 @@ impl TextNote {
     }
 }
 
-/// Where the first text stands that has the call of a number of a rank.
+/// The place of the first text that has the call of this number of the rank; `None` if none has.
 pub fn note_of(notes: &[TextNote], rank: u32, call: u64) -> Option<usize>
     ensures first { result ≡ note_of rank call notes.now }
     ensures within { IfSome result (λ at. at < length notes.now) }

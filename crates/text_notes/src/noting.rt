@@ -29,7 +29,7 @@ impl Model for Noting {
 }
 
 impl Noting {
-    /// No call.
+    /// A sink that has got no call.
     pub fn new(alloc: Global) -> Noting
         ensures { result ≡ nothing_noted }
     {

@@ -61,7 +61,7 @@ fn put_some(out: &mut Text, ranks: &[u32])
     }
 }
 
-/// Says of which of the ranks of which nothing is known there is no text. Nothing is said where each has one.
+/// Says which of these ranks, of which nothing is known, have no text; nothing if each has one.
 pub fn put_pieceless(alloc: Global, out: &mut Text, notes: &[TextNote], unknown: &[u32])
     ensures { Adds out.old out.new (pieceless_text (pieceless notes.now unknown.now)) }
 {

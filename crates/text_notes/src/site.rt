@@ -9,8 +9,8 @@ use dumpi_text::RawCall;
 use std::alloc::{AllocError, Global};
 use std::marker::Model;
 
-/// A call of a text as it stands there: its number among the calls of the text, from 0, the line where it begins, the name
-/// of its function, and, where the text tells it, from where in the program it was made.
+/// A call of a text as it stands there: its number among the calls of the text, from 0, the line where it begins, the
+/// name of its function, and the place in the program from which it was made, if the text has that.
 #[derive(Debug, Drop)]
 pub struct CallSite {
     number: u64,
@@ -50,7 +50,7 @@ impl CallSite {
         self.name.as_slice()
     }
 
-    /// From where in the program it was made, as `main.c:42 (exchange)`.
+    /// The place in the program from which it was made, as `main.c:42 (exchange)`; `None` if the text doesn't say it.
     pub fn caller(&self) -> Option<&[u8]>
         ensures { option_copied result ≡ self.now.caller }
     {

@@ -93,7 +93,7 @@ fn start_in(front: &[u8]) -> Start
     }
 }
 
-/// What a text is taken for, by its first bytes.
+/// What a text is taken for, by its first bytes. `Failed` comes where the reader fails.
 pub fn start_of<R: Read>(reader: R) -> Result<Start, Failed>
     ensures ok { IfOk result (IsStartOf (R.left reader)) }
     ensures err { OnErr result (Fails R.failures) }

@@ -40,12 +40,15 @@ impl Totals {
         }
     }
 
+    /// The first ten functions that aren't read, each with the number of its calls in all texts.
     pub(crate) fn functions(&self) -> &[UnreadFunction]
         ensures { result.now ≡ self.now.functions }
     {
         self.functions.as_slice()
     }
 
+    /// How many calls of other functions that aren't read there are. The count saturates at the greatest value of its
+    /// type.
     pub(crate) fn others(&self) -> u64
         ensures { result ≡ self.now.others }
     {
@@ -81,7 +84,7 @@ impl Totals {
     }
 }
 
-/// Those of all texts.
+/// The functions that aren't read, over all texts.
 pub(crate) fn totals_of(alloc: Global, notes: &[TextNote]) -> Result<Totals, AllocError>
     ensures { IfOk result (λ totals. totals ≡ totals_of notes.now) }
 {

@@ -11,14 +11,14 @@ use dumpi_text::{RawCall, TextCause, TextFault, Texts};
 use mpi_model::Read;
 use std::alloc::{AllocError, Global};
 
-/// Why a text can't be looked at.
+/// Why a second look at a text failed.
 #[derive(Clone, Copy, Debug, PartialEq, Eq)]
 pub enum LookFault {
     /// There was no memory for one of its calls.
     Memory,
     /// Its reader failed.
     Read,
-    /// One of its lines or calls is refused: it isn't as it was when it was read.
+    /// One of its lines or calls is refused, so it has changed since it was first read.
     Refused,
 }
 
@@ -33,8 +33,8 @@ impl From<AllocError> for LookFault {
     }
 }
 
-/// The next call of the text, put in the place of the one before: whether there is one. Behind a line that is refused there is
-/// none.
+/// The next call of the text, put in the place of the one before: whether there is one. Behind a line that is refused
+/// there is none.
 fn next_call<R: Read>(texts: &mut Texts<R>, raw: &mut RawCall) -> Result<bool, LookFault>
     ensures goes_on { OfRead texts.old (λ text calls. IfOk result (λ found. GoesOn text calls (put_in found raw.new) texts.new)) }
     ensures failed { OfRead texts.old (λ text calls. result ≡ Err LookFault.Read → Fails R.failures) }
@@ -63,8 +63,8 @@ pub(crate) fn copied(alloc: Global, value: Option<&[u8]>) -> Result<Option<Vec<u
     }
 }
 
-/// The value that the text has for a parameter of this name in its call that begins at this line, where it has one: the first
-/// line of the name counts. The text is read up to that call, and memory is in proportion to one call.
+/// The value that the text has for a parameter of this name in its call that begins at this line, where it has one: the
+/// first line of the name counts. The text is read up to that call, and memory is in proportion to one call.
 pub fn value_at<R: Read>(
     alloc: Global,
     reader: R,

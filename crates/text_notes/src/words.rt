@@ -231,9 +231,9 @@ fn put_kind(out: &mut Text, kind: Kind, notes: &[TextNote])
     put_more(out, found.saturating_sub(MOST_SHOWN));
 }
 
-/// Says what should make one doubt the texts that were read: the functions of calls that are not read, with how many
-/// there are, the first such call of each text, the texts without a call, and those of which lines were skipped. Nothing
-/// is said of texts of which there is nothing to say.
+/// Says what makes the texts that were read doubtful: the functions whose calls are not read, with how many such calls
+/// there are, the first such call of each text, the texts without a call, and those of which lines were skipped. It
+/// says nothing of other texts.
 pub fn put_notes(alloc: Global, out: &mut Text, notes: &[TextNote])
     ensures { Adds out.old out.new (notes_text notes.now) }
 {

@@ -16,8 +16,8 @@ is_listed states stuck release r = not (is_waiting states r) || (among stuck r |
 abbrev pub AreAllListed : List State → List ℕ → List ℕ → Type 0
 AreAllListed states stuck release = (r : ℕ) → is_listed states stuck release r ≡ true
 
--- The verdict is right: it lists the stuck ranks, each once, and a release order of the waiting ranks that it doesn't list
--- as stuck.
+-- The verdict is right: it lists the stuck ranks, each once, and a release order of the waiting ranks that it doesn't
+-- list as stuck.
 pub record IsRight (states : List State) (conditions : List (Option Condition)) (stuck release : List ℕ) : Type 0 where
   pub lists : (r : ℕ) → (among stuck r ≡ true) ↔ IsStuck states conditions r
   pub once : AllPairs (λ r s. r ≢ s) stuck

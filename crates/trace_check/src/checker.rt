@@ -44,7 +44,7 @@ impl<'a> Model for Checker<'a> {
 }
 
 impl<'a> Checker<'a> {
-    /// A checker that has read nothing.
+    /// A checker that has read nothing. Fails with `AllocError` when memory is refused.
     pub fn new(alloc: Global, layout: &'a Layout) -> Result<Checker<'a>, AllocError>
         ensures { IfOk result (λ c. c ≡ held layout.now empty) }
     {
@@ -59,8 +59,8 @@ impl<'a> Checker<'a> {
         })
     }
 
-    /// The checker once it has read a piece: its facts are joined, and the index follows its rank, where
-    /// the layout has that.
+    /// Reads a piece: its facts are joined, and the index follows its rank, if the layout has that rank. Fails with
+    /// `AllocError` when memory is refused, and then the checker is lost.
     pub fn reading(self, piece: ReadyPiece) -> Result<Checker<'a>, AllocError>
         ensures { IfOk result (λ c. c ≡ held self.entry.layout (join self.entry.know (view_of (facts_of piece)))) }
     {
@@ -83,7 +83,8 @@ impl<'a> Checker<'a> {
         })
     }
 
-    /// The checker with what was read elsewhere too. The index is made once more.
+    /// Joins what was read elsewhere, and makes the index once more. Fails with `AllocError` when memory is refused,
+    /// and then the checker is lost.
     pub fn joining(self, other: &Knowledge) -> Result<Checker<'a>, AllocError>
         ensures { IfOk result (λ c. c ≡ held self.entry.layout (join self.entry.know other.now)) }
     {
@@ -101,7 +102,7 @@ impl<'a> Checker<'a> {
         })
     }
 
-    /// How many messages and receives were read.
+    /// How many messages and receives were read so far.
     pub fn size(&self) -> usize {
         let mut size = 0usize;
         for own in self.index.ops() {
@@ -111,8 +112,8 @@ impl<'a> Checker<'a> {
         size
     }
 
-    /// The two lines, and whether both say so. They do: the index gives the pairs of the rules, and the
-    /// verdict is right.
+    /// The two lines of the check, and whether both say that it held. The contract says that they do: the index gives
+    /// the pairs of the rules, and the verdict is right. Fails with `AllocError` when memory is refused.
     pub fn lines(&self) -> Result<(String, bool), AllocError>
         ensures text { IfOk result (λ told. IsCheckOf self.now.layout self.now.know (string_bytes told.0)) }
         ensures held { IfOk result (λ told. told.1 ≡ true) }

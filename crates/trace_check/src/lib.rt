@@ -1,11 +1,10 @@
-//! Whether two ways to a report agree on the run at hand.
+//! Whether two ways to a report agree on a run.
 //!
-//! A report's pairs are made by one pass over all calls, or by an index that follows the ranks; who is
-//! stuck, by a queue of released ranks. All are proved to keep to the rules. A [`Checker`] doesn't lean on
-//! that: it reads the same pieces, holds the index against the pass
-//! ([`pair_all`](trace_pair::pair_all)), and looks at each stuck and each released rank by itself
-//! ([`Checker::lines`]). So who trusts no proof can see on a trace of their own that both ways to the pairs
-//! give the same, and that the two checks of `trace_stuck` accept the verdict.
+//! A report's pairs are made by one pass over all calls, or by an index that follows the ranks; who is stuck, by a
+//! queue of released ranks. All are proved to keep to the rules. A [`Checker`] doesn't lean on that: it reads the same
+//! pieces, holds the index against the pass ([`pair_all`](trace_pair::pair_all)), and looks at each stuck and each
+//! released rank by itself ([`Checker::lines`]). So a user who doesn't trust the proofs can see on a trace of their own
+//! that both ways to the pairs give the same, and that the two checks of `trace_stuck` accept the verdict.
 //!
 //! Cost: a piece costs one pass over all calls of its rank; n ranks whose conditions have c parts
 //! n (n + c) steps.

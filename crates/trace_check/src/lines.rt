@@ -12,9 +12,9 @@ use trace_ops::State;
 use trace_pair::PairTable;
 use trace_stuck::{Condition, Verdict};
 
-/// The two lines of a check: whether both tables are the same, and whether the verdict is right for these
-/// states and conditions; the counts are those of the first table and of the verdict. With them comes
-/// whether both say so.
+/// The two lines of a check: whether both tables are the same, and whether the verdict is right for these states and
+/// conditions; the counts are those of the first table and of the verdict. With them comes whether both say so. Fails
+/// with `AllocError` when memory is refused.
 pub fn check_lines(
     alloc: Global,
     first: &PairTable,

@@ -74,7 +74,8 @@ module _
       All-weaker (Found (IsKnown know)) (KnowsPiece know) (λ p f. (f.0, f.1, all_known f.0 know f.2)) pieces
       (All-from_recursion (Found (IsKnown know)) pieces (all_found (IsKnown know) worker pieces segments faults gave none h))
 
-  -- A node knows its own pieces and what it was told besides, where its crew left no fault and no refused segment, and it has kept what it knew.
+  -- A node knows its own pieces and what it was told besides, where its crew left no fault and no refused segment, and
+  -- it has kept what it knew.
   pub knows_own : (layout : Parts) (load : Workload) (out : CrewOut) (told node : Held) → IsCrewOut layout load.first.items load.second.items out → out.faults.items ≡ [] → out.refused.items ≡ []
       → IsMore out.node told → told.know ≡ join out.node.know load.known → IsMore told node → KnowsOwn layout load node
   knows_own layout load out told node is whole joined learned tells more =

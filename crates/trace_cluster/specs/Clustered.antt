@@ -14,7 +14,8 @@ use Rattle.trace_cluster.specs.declared.workload.Workload.{Workload}
 abbrev pub KnowsPiece : View → TextPiece → Type 0
 KnowsPiece know piece = (segments : List PlacedEvents) × GivesSegments piece segments × IsBelow (view_of (flat_map facts_of segments)) know
 
--- A node of this layout knows each of its own pieces and what it is told besides, and has an answer to all that it knows.
+-- A node of this layout knows each of its own pieces and what it is told besides, and has an answer to all that it
+-- knows.
 pub record KnowsOwn (layout : Parts) (load : Workload) (node : Held) : Type 0 where
   pub layout_is : node.layout ≡ layout
   pub fresh : node.is_stale ≡ false

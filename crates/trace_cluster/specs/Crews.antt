@@ -67,14 +67,14 @@ sureness_of (Read wire.Read) = 1
 sureness_of (Write wire.Write) = 1
 sureness_of fault = 2
 
--- Of a leader that was refused for this and of its follower it is why the one was that stopped the other: the more surely
--- one's own cause, and where neither is the leader's.
+-- Of a leader that was refused for this and of its follower it is why the one was that stopped the other: the more
+-- surely one's own cause, and where neither is the leader's.
 abbrev pub IsOwnCause : ExchangeFault → Result (Unit {0}) ExchangeFault → ClusterFault → Type 0
 IsOwnCause led (Ok done) fault = fault ≡ Lead led
 IsOwnCause led (Err cause) fault = ((sureness_of led < sureness_of cause) × (fault ≡ Follow cause)) ⊎ ((sureness_of cause ≤ sureness_of led) × (fault ≡ Lead led))
 
--- It is why a side of an exchange was refused where the leader's was; or, where that was not, why the first node did not
--- join what that heard, or why the follower's side was refused.
+-- It is why a side of an exchange was refused where the leader's was; or, where that was not, why the first node did
+-- not join what that heard, or why the follower's side was refused.
 abbrev pub IsFirstEnd : Result View ExchangeFault → Result (Unit {0}) ExchangeFault → ClusterFault → Type 0
 IsFirstEnd (Err led) followed fault = IsOwnCause led followed fault
 IsFirstEnd (Ok known) followed fault = IsLeadersMerge fault ⊎ IsFollowers followed fault

@@ -84,16 +84,16 @@ Merges before heard after (Err fault) = ⊥
 
 -- ---- an exchange
 
--- A frame was read, and the node joined what it tells; or the node refused that; or no frame was read and no byte past it,
--- and the node is as it was.
+-- A frame was read, and the node joined what it tells; or the node refused that; or no frame was read and no byte past
+-- it, and the node is as it was.
 abbrev pub Hears : Side → Side → Held → Held → Result (Unit {0}) ExchangeFault → Type 0
 Hears old new before after (Ok ok) = (heard : View) × Got old new heard × Learns before heard after
 Hears old new before after (Err (Merge fault)) = (heard : View) × Got old new heard × IsUnmerged before heard after fault
 Hears old new before after (Err (Read fault)) = FailsToRead old new fault × (after ≡ before)
 Hears old new before after (Err (Write fault)) = ⊥
 
--- The leader's frame was written, and then it heard. Where the write was refused, nothing was read, and the node is as it
--- was.
+-- The leader's frame was written, and then it heard. Where the write was refused, nothing was read, and the node is as
+-- it was.
 abbrev pub Leads : Stream → Stream → Held → Held → Result (Unit {0}) ExchangeFault → Type 0
 Leads old new before after (Err (Write fault)) = FailsToWrite old.writes new.writes before.know fault × LeavesSide old.reads new.reads × (after ≡ before)
 Leads old new before after result = Wrote old.writes new.writes before.know × Hears old.reads new.reads before after result

@@ -21,14 +21,15 @@ pub record IsFirstFault (all : List Placed) (node : Side) (at : PieceAt) (fault 
   pub whole : All (λ p. IsWhole p.piece) before
   pub why : IsRefusedFor piece fault
 
--- Why a segment was refused, or what a node is told besides: one is of a rank that the layout lacks, or there was no memory.
+-- Why a segment was refused, or what a node is told besides: one is of a rank that the layout lacks, or there was no
+-- memory.
 abbrev pub IsRefusal : Parts → List Placed → NodeFault → Type 0
 IsRefusal layout all nodes.Rank = (one : Placed) × Contains all one × IsForeign layout one.piece
 IsRefusal layout all nodes.Memory = ⊤
 IsRefusal layout all nodes.Stale = ⊥
 
--- Why a cluster leaves nothing: a crew left nothing; a piece is the first that is not whole; all are whole, and a segment
--- or what a node is told besides was refused; or all were joined, and there was no exchange.
+-- Why a cluster leaves nothing: a crew left nothing; a piece is the first that is not whole; all are whole, and a
+-- segment or what a node is told besides was refused; or all were joined, and there was no exchange.
 abbrev pub IsStopped : Parts → List Placed → ClusterFault → Type 0
 IsStopped layout all Worker = ⊤
 IsStopped layout all Memory = ⊤

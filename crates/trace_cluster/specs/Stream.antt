@@ -19,8 +19,8 @@ pub record Stream : Type 0 where
 abbrev pub halves : Side → Side → Stream
 halves reads writes = record { reads = reads; writes = writes }
 
--- Of a type that is read and written: what a write leaves of the reading half is said of that half itself, and so is what
--- a read leaves of the writing half.
+-- Of a type that is read and written: what a write leaves of the reading half is said of that half itself, and so is
+-- what a read leaves of the writing half.
 abbrev pub IsStream : {S : Type 0} → (S → Side) → (S → Side) → (S → Side) → (S → Side) → Type 0
 IsStream {S} reads read_side writes write_side = (s : S) → (read_side s ≡ reads s) × (write_side s ≡ writes s)
 

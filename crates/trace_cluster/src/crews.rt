@@ -89,7 +89,7 @@ fn both_unless<N: Drop>(
     }
 }
 
-/// Both nodes, where no piece of either has a fault and neither refused a segment.
+/// Both nodes, if no piece of either has a fault and neither refused a segment; else the first cause.
 pub(crate) fn nodes_of<'a>(
     one: CrewOut<'a>,
     other: CrewOut<'a>,

@@ -1,4 +1,4 @@
-//! Two nodes that meet: the socket, and the exchange over it.
+//! The socket between two nodes, and the exchange over it.
 
 ghost use Rattle.std.specs.Prelude.{◌≡◌, Ok, IfSome, IfOk, IfErr, OnOk};
 ghost use Rattle.trace_cluster.specs.Exchange.{HaveFrames, IsOfFrame};
@@ -21,9 +21,9 @@ use trace_wire::WireFault;
 /// How many others may have connected before the first node did: each of them is sent away.
 const MOST_STRANGERS: u32 = 1_024;
 
-/// Listens on 127.0.0.1 at a port that the system gives, connects to it and accepts, in this order:
-/// both ends of one connection. The one that is accepted has the address of the other end; whoever
-/// else of this machine came in between is not heard.
+/// Listens on 127.0.0.1 at a port that the system gives, connects to it and accepts, in this order: both ends of one
+/// connection. Only a connection with the address of the other end is accepted; any other connection from this machine
+/// is closed unheard.
 fn connected<R: Net<Listener = TcpListener, Stream = TcpStream>>(
     rt: &R,
 ) -> io::Result<(TcpStream, TcpStream)> {
@@ -39,8 +39,8 @@ fn connected<R: Net<Listener = TcpListener, Stream = TcpStream>>(
     Err(io::ErrorKind::ConnectionRefused.into())
 }
 
-/// Exchanges frames over a stream for one who knows this, and closes it: what was heard. Only knowledge
-/// crosses to the thread and back: that a node may cross is not found by itself.
+/// Exchanges frames over a stream for a side that knows this, closes the stream, and returns what was heard. Only
+/// knowledge crosses to the thread and back: the prover doesn't find by itself that a node may cross.
 #[tactic(auto, using(crate::proofs::Ending::exchanged))]
 fn led<S: Read + Write>(
     alloc: Global,
@@ -75,8 +75,8 @@ fn followed<N: Participant>(alloc: Global, stream: TcpStream, node: N) -> Met<N>
     Met { node, end }
 }
 
-/// The leader's side on a thread of its own, for one who knows this, beside the second node, which
-/// follows: what the first side heard, and the second node. Nothing where no thread could be started.
+/// Runs the leader's side, which knows this, on a thread of its own, while the second node follows. Returns what the
+/// first side heard, and the second node; nothing if no thread could be started.
 fn meet<R: Threads + Wait + Sync, N: Participant>(
     rt: &R,
     alloc: Global,

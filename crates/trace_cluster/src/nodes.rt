@@ -25,8 +25,8 @@ use trace_node::{Node, NodeFault};
 /// exchange what they know over a socket of this machine. It waits for the crews' threads, and on the
 /// socket.
 ///
-/// Both nodes have an answer then. Over a socket that passes on what is written they know the same:
-/// the join of all pieces, and of what both are told besides.
+/// Both nodes have an answer then. Over a socket that passes on what is written they know the same: the join of all
+/// pieces, and of what both are told besides. [`ClusterFault`] is the first cause in its order: then no node is left.
 pub fn cluster<'a, R: Net<Listener = TcpListener, Stream = TcpStream> + Threads + Wait + Sync>(
     rt: &R,
     alloc: Global,

@@ -1,4 +1,4 @@
-//! A node as those know it who let two of them meet.
+//! A node, as the functions see it that connect two of them.
 
 ghost use Rattle.std.specs.Prelude.{◌≡◌, ◌≢◌, ◌↔◌, IfErr, IsErrOf, OnOk};
 ghost use Rattle.trace_know.specs.View.{join};
@@ -12,9 +12,9 @@ use std::net::TcpStream;
 use trace_know::{Knowledge, join_laws};
 use trace_node::{Node, NodeFault};
 
-/// One who takes part in an exchange. Whoever lets two meet knows a node by this trait alone: what a
-/// closure of a scope captures can't name the lifetime inside a node, and a function that owns nodes
-/// is proved over all that a node holds.
+/// One side of an exchange. The functions that connect two nodes know them by this trait alone: a closure of a scope
+/// can't name the lifetime inside a node that it captures, and a function that owns nodes is proved over all that a
+/// node holds.
 pub trait Participant: Drop {
     /// What its node holds.
     ghost held: { Self → Held };
@@ -23,8 +23,8 @@ pub trait Participant: Drop {
     fn knowledge(&self) -> &Knowledge
         ensures { result.now ≡ (held self.now).know };
 
-    /// Joins what its side of an exchange heard. `Rank` comes exactly for facts of a rank that the layout
-    /// lacks. After a refusal the node is as it was, but where it is stale: then it has joined them.
+    /// Joins what its side of an exchange heard. Fails with `Rank` exactly for facts of a rank that the layout lacks.
+    /// After an error the node is as it was, unless it is stale: then it has joined them.
     fn learn(&mut self, know: &Knowledge) -> Result<(), NodeFault>
         ensures more { OnOk result (IsMore (held self.old) (held self.new)) }
         ensures learned { OnOk result ((held self.new).know ≡ join (held self.old).know know.now) }
@@ -32,7 +32,7 @@ pub trait Participant: Drop {
         ensures unchanged { IfErr result (λ fault. fault ≢ NodeFault.Stale → held self.new ≡ held self.old) }
         ensures stale { IsErrOf result NodeFault.Stale → (held self.new).know ≡ join (held self.old).know know.now };
 
-    /// Follows in an exchange over a connection, and closes it.
+    /// Follows in an exchange over a connection, and closes it. [`ExchangeFault`] says which step failed.
     fn follow_over(&mut self, alloc: Global, stream: TcpStream) -> Result<(), ExchangeFault>
         ensures { OnOk result (IsMore (held self.old) (held self.new)) };
 }

@@ -9,5 +9,6 @@ use trace_know::Knowledge;
 pub struct Workload {
     pub first: Vec<TextPiece>,
     pub second: Vec<TextPiece>,
+    /// What the node is told besides.
     pub known: Knowledge,
 }

@@ -163,8 +163,8 @@ posted_behind front rest moves s one others at h = record {
   is = h.is;
 }
 
--- The front of the inbox after some moves stood there before, or one of them posted it. Without it the moves lead to the
--- same state without the front.
+-- The front of the inbox after some moves stood there before, or one of them posted it. Without it the moves lead to
+-- the same state without the front.
 front_came : (front : PlacedEvents) (rest : List PlacedEvents) (moves : List Move) (s : NodeState) → CanMove moves s → (after_all moves s).inbox ≡ front ∷ rest → StoodBefore front rest moves s ⊎ WasPosted front rest moves s
 front_came front rest [] s can at = inl (record { ahead = []; behind = rest; inbox_is = at; can = tt; is = refl })
 front_came front rest (Posts last ∷ moves) s can at =

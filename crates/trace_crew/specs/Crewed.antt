@@ -28,12 +28,11 @@ use Rattle.trace_crew.specs.Work.{Leaves}
 abbrev pub segments_by : Worker → List Taken → List PlacedEvents
 segments_by w taken = map (λ t. t.segment) (filter (λ t. is_from w t.from) taken)
 
--- What a crew leaves of the pieces of its two workers. There is an order of taking, a list of segments, of which:
--- those of each worker are just those of its texts, whole, each as often as given, and in its order, but for the texts
--- with a fault, which are listed with it, and each text with a fault is;
--- the segments that were refused are listed, in their order: as of a rank that isn't the layout's just where that is so,
--- else for want of memory;
--- and the node, which is the layout's, knows the facts of the others and nothing else.
+-- What a crew leaves of the pieces of its two workers. There is an order of taking, a list of segments, of which: those
+-- of each worker are just those of its texts, whole, each as often as given, and in its order, but for the texts with a
+-- fault, which are listed with it, and each text with a fault is; the segments that were refused are listed, in their
+-- order: as of a rank that isn't the layout's just where that is so, else for want of memory; and the node, which is
+-- the layout's, knows the facts of the others and nothing else.
 pub record IsCrewOut (layout : Parts) (first second : List TextPiece) (out : CrewOut) : Type 0 where
   pub taken : List Taken
   pub first_faults : List FaultyPiece

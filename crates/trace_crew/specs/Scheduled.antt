@@ -63,8 +63,8 @@ abbrev pub reached_for : PlacedEvents → Option NodeFault → List PlacedEvents
 reached_for segment None = segment ∷ []
 reached_for segment (Some fault) = []
 
--- The state for which a crew stands: what waits is the segments in the queue whose rank is the layout's, and what reached
--- the node is the segments that were taken and joined.
+-- The state for which a crew stands: what waits is the segments in the queue whose rank is the layout's, and what
+-- reached the node is the segments that were taken and joined.
 abbrev pub state_of : Parts → List WorkerPost → List Taken → NodeState
 state_of layout queue taken = node_state (flat_map (λ item. waiting_in layout item.post) queue) (flat_map (λ t. reached_for t.segment t.fault) taken)
 

@@ -1,10 +1,9 @@
 //! A board: the newest published answer, with the knowledge that it is of, for any number of
 //! threads.
 //!
-//! A [`Board`] is one lock around one [`Shown`]. Who owns a node publishes it: what it knows and its
-//! answer, shared with the node, take the place of what was shown. Who asks shares them too. So no thread
-//! ever sees an answer that isn't that of the knowledge beside it: the type of what lies under the
-//! lock keeps that, and it holds each time the lock is free.
+//! A [`Board`] is one lock around one [`Shown`]. The owner of a node publishes it: what it knows and its answer, shared
+//! with the node, replace what was shown. A reader shares them too. So no thread ever sees an answer that isn't that of
+//! the knowledge beside it: the type under the lock guarantees that each time the lock is free.
 //!
 //! Cost: both calls hold the lock for two pointers, and for nothing else; the comparison with what a
 //! reader saw last is made outside of it. A node that knows more while others share what it knew copies
@@ -13,8 +12,8 @@
 //! - [`shown`]: what is shown, which is put and copied
 //! - [`fault`]: why nothing was put, or nothing newer is shown
 //!
-//! What a call did under the lock no contract can name: that `publish` changes the board, and that
-//! `show` reads it, is left to tests.
+//! No contract can say what a call did under the lock: that `publish` changes the board, and that `show` reads it, is
+//! only tested.
 
 ghost use Rattle.std.specs.Prelude.{◌≡◌, ◌↔◌, IsTrue, IfOk, IfErr, IfSome, IsErrOf};
 ghost use Rattle.trace_know.specs.View.{IsBelow};
@@ -41,23 +40,23 @@ pub struct Board<'a> {
 impl<'a> Board<'a> {
     ghost use Rattle.trace_crew.specs.Older.{IsOlder};
 
-    /// A board that shows empty knowledge of the run of a layout.
+    /// A board that shows empty knowledge of the run of a layout. Fails with `AllocError` when memory is refused.
     pub fn new(alloc: Global, layout: &'a Layout) -> Result<Board<'a>, AllocError> {
         Ok(Board {
             shown: Mutex::new(Shown::nothing(alloc, layout)?),
         })
     }
 
-    /// Shows a node of the board's layout from now on. After a refusal the board shows what it
-    /// showed. Waits for the lock, under which nothing is copied.
+    /// Shows a node of the board's layout from now on. If it is refused, the board shows what it showed before. The
+    /// call waits for the lock, under which nothing is copied.
     pub fn publish<R: Wait>(&self, rt: &R, node: &Node<'a>) -> Result<(), PutFault>
         ensures { IsErrOf result PutFault.Stale ↔ IsTrue node.now.is_stale }
     {
         self.shown.lock(rt).put(node)
     }
 
-    /// What is shown. Where it doesn't contain what the reader saw last (`seen`), it is
-    /// answered as [`ShowFault::Older`]. Waits for the lock, under which nothing is copied.
+    /// What is shown. If it doesn't contain what the reader saw last (`seen`), it comes as [`ShowFault::Older`]. The
+    /// call waits for the lock, under which nothing is copied.
     pub fn show<R: Wait>(
         &self,
         rt: &R,

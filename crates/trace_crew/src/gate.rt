@@ -15,7 +15,7 @@ pub trait Gate: Sync {
     fn after_take(&self, worker: Worker, nth: u64);
 }
 
-/// A gate that lets all pass at once.
+/// A gate at which nothing waits.
 #[derive(Clone, Copy, Debug)]
 pub struct OpenGate;
 

@@ -19,21 +19,21 @@ pub trait Keeper: Drop {
     /// What its node holds, and the segments that it refused.
     ghost kept: { Self → Keeping };
 
-    /// Takes one item in, and answers which segment of which worker it was: None where it ends its
-    /// worker's posts. Only a segment can be refused: no memory was left to list it.
+    /// Takes one item in, and returns which segment of which worker it was; `None` if it ends its worker's posts. Fails
+    /// with `AllocError` when memory to list a refused segment is refused.
     fn take_in(&mut self, item: WorkerPost) -> Result<Option<(Worker, u64)>, AllocError>
         ensures err { OnErr result (is_end item ≡ false) }
         ensures end { IfOk result (λ taken. ends_told taken ≡ counted (is_end item)) }
         ensures sorted { OnOk result (TakesIn item (kept self.old) (kept self.new)) };
 
-    /// Makes the answer to all that was joined, where it isn't made yet, and shows it. Without memory for
-    /// it the node stays stale.
+    /// Makes the answer to all that was joined, where it isn't made yet, and shows it. If memory for it runs out, the
+    /// node stays stale.
     fn settle<R: Wait>(&mut self, rt: &R) -> Result<(), AllocError>
         ensures kept { IsKept (kept self.old).node (kept self.new).node }
         ensures listed { (kept self.new).refused ≡ (kept self.old).refused }
         ensures fresh { OnOk result ((kept self.new).node.is_stale ≡ false) };
 
-    /// Nothing waits to be taken: makes an answer, where it is worth its time.
+    /// Called while the queue is empty: makes an answer, if one is due.
     fn rest<R: Wait>(&mut self, rt: &R)
         ensures kept { IsKept (kept self.old).node (kept self.new).node }
         ensures listed { (kept self.new).refused ≡ (kept self.old).refused };
@@ -77,8 +77,8 @@ fn next_item<R: Wait, H: Keeper>(
     take(rt, queue, seat)
 }
 
-/// Takes until both workers have ended. The crew holds an end of the queue at which items are posted, so no
-/// take of the owner finds it closed.
+/// Takes until both workers have ended. The crew holds an end of the queue at which items are posted, so no take of the
+/// owner finds it closed. `AllocError` comes where memory for the list of refused segments is refused.
 pub fn own<R: Wait, G: Gate, H: Keeper>(
     rt: &R,
     queue: &PostReceiver,
@@ -106,7 +106,8 @@ pub fn own<R: Wait, G: Gate, H: Keeper>(
     unreachable!()
 }
 
-/// Takes what is left after both workers were joined, until the queue is found empty.
+/// Takes what is left after both workers were joined, until the queue is found empty. `AllocError` comes where memory
+/// for the list of refused segments is refused.
 pub fn drain<R: Wait, G: Gate, H: Keeper>(
     rt: &R,
     queue: &PostReceiver,

@@ -1,4 +1,5 @@
-//! What a crew is to the schedule of one node, as the contract of a call that does nothing, so that the check proves it.
+//! What a crew is to the schedule of one node, as the contract of a call that does nothing, so that the check proves
+//! it.
 
 ghost use Rattle.std.specs.Prelude.{List};
 ghost use Rattle.mpi_model.specs.Layouts.{Parts};

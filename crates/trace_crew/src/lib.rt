@@ -25,8 +25,7 @@
 //! - [`threads`]: the three threads, and what they leave
 //! - [`laws`]: that a crew follows a schedule of one node, as the contract of a call that does nothing
 //!
-//! No contract promises that a call which waits returns, that anything arrives or that two threads ran
-//! at once.
+//! No contract promises that a waiting call returns, that anything arrives, or that two threads ran at once.
 //!
 //! To change something, open:
 //!

@@ -13,8 +13,8 @@ use std::sync::Wait;
 use trace_know::{ReadySegment, Segment, view_laws};
 use trace_node::{Node, NodeFault};
 
-/// How many events are joined before the node is shown on the way for the first time: the workers read
-/// them in less than a second, so who asks the board earlier would hardly see it.
+/// How many events are joined before the node is shown on the way for the first time: the workers read this many in
+/// less than a second, so a reader of the board would hardly see an earlier answer.
 const FIRST_SHOWN: u64 = 1_000_000;
 
 /// A segment that was not joined, and why.
@@ -33,7 +33,7 @@ pub struct Hall<'s, 'a> {
     board: &'s Board<'a>,
     /// The join of the segments that were not refused.
     pub node: Node<'a>,
-    /// Those that were refused, in the order of taking.
+    /// The segments that were refused, in the order in which they were taken.
     pub refused: Vec<Refusal>,
     /// How many segments of the first worker were taken.
     first: u64,
@@ -46,7 +46,7 @@ pub struct Hall<'s, 'a> {
 }
 
 impl<'s, 'a> Hall<'s, 'a> {
-    /// Nothing was taken.
+    /// An owner that has taken nothing. Fails with `AllocError` when memory is refused.
     #[tactic(auto, using(crate::proofs::Sorting::nothing_taken))]
     pub fn new(
         alloc: Global,

@@ -22,7 +22,7 @@ pub struct TextPiece {
     pub text: Vec<u8>,
 }
 
-/// Why a piece gives no segments, tried in this order. Want of memory can come at any point.
+/// Why a piece gives no segments: the first cause in this order, except that `Memory` can come at any point.
 #[derive(Debug, Drop, Error)]
 pub enum PieceFault {
     /// The text stops before its end.
@@ -31,7 +31,7 @@ pub enum PieceFault {
     /// An event of the text would have a place at 2^40 or past it.
     #[error(transparent)]
     Segment(SegmentFault),
-    /// No memory was left for the text's calls, its segments or a fault.
+    /// Memory was refused for the text's calls, its segments or a fault.
     #[error("Memory")]
     Memory,
 }

@@ -19,8 +19,8 @@
 //! - [`rule`]: what seats know, and the rule
 //! - [`steps`]: the calls
 //!
-//! Nothing promises that a post arrives or that anyone gets on: the contracts say what was done where
-//! a call returns.
+//! No contract promises that a post arrives or that a thread makes progress: the contracts say what was done when a
+//! call returns.
 
 mod item;
 mod rule;

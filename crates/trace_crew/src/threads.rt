@@ -47,8 +47,7 @@ pub enum CrewFault {
     /// A worker's thread couldn't be started.
     #[error("Y1 Worker")]
     Worker,
-    /// No memory was left for the queue, the node, or the list of the faults or of the refused
-    /// segments.
+    /// Memory was refused for the queue, the node, or the list of the faults or of the refused segments.
     #[error("Memory")]
     Memory,
 }
@@ -78,9 +77,10 @@ struct Left<H> {
     faults: Vec<FaultyPiece>,
 }
 
-/// Two workers read their texts side by side and post the segments into a queue of eight places; the
-/// owner joins what it takes into a new node, and shows answers on the board: of much that it takes some
-/// on the way, and the last. It waits for the workers, and they wait for it where the queue is full.
+/// Two workers read their texts side by side and post the segments into a queue of eight places; the owner joins what
+/// it takes into a new node, and shows answers on the board: of much that it takes some on the way, and the last. It
+/// waits for the workers, and they wait for it where the queue is full. [`CrewFault`] comes where a worker's thread
+/// can't be started or memory is refused: then nothing is left.
 pub fn crew<'a, R: Threads + Wait + Sync, G: Gate>(
     rt: &R,
     alloc: Global,

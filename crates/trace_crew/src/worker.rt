@@ -175,7 +175,7 @@ pub struct Worked {
     pub seat: Seat,
     /// The texts that gave no segments.
     pub faults: Vec<FaultyPiece>,
-    /// None where it has read all its texts and posted that it ends.
+    /// Why it stopped early; `None` if it has read all its texts and posted that it ends.
     pub stop: Option<Stop>,
 }
 
@@ -208,7 +208,7 @@ pub fn work<R: Wait, G: Gate>(
     }
 }
 
-/// That a worker keeps what [`work`] ensures, for the thread that joins it.
+/// States for the joining thread what [`work`] ensures.
 #[derive(Drop)]
 pub struct Working<'a> {
     pub queue: Snapshot<PostSender>,

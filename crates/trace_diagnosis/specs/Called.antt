@@ -33,7 +33,8 @@ abbrev pub with_outs : Option Call → Option Outs → Option (Call × Option Ou
 with_outs None outs = None
 with_outs (Some call) outs = Some (call, outs)
 
--- The call of a number, with its outcome, where it has returned: its Enter stands at twice the number, its Return behind that.
+-- The call of a number, with its outcome, where it has returned: its Enter stands at twice the number, its Return
+-- behind that.
 abbrev pub called_in : List Event → ℕ → Option (Call × Option Outs)
 called_in events n = with_outs (entered_at events (n * 2)) (returned_at events (n * 2 + 1))
 

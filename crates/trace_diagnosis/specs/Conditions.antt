@@ -58,7 +58,8 @@ does_wait (Some w) = true
 abbrev pub unless : Bool → Option waits.Wait → Option waits.Wait
 unless gone own = if gone then None else own
 
--- What a rank waits or polls for: its call's condition, or its poll condition where it polls; a rank that has gone on has none.
+-- What a rank waits or polls for: its call's condition, or its poll condition where it polls; a rank that has gone on
+-- has none.
 abbrev pub condition_at : Run → List Asker → (ℕ → Bool) → ℕ → Option waits.Wait
 condition_at run askers gone r = unless (gone r) (polled_or run askers r (wait_at (conditions_from run 0 run.ops) r))
 

@@ -1,7 +1,7 @@
 -- Whether what a rank waits for comes to pass, where just these ranks can go on.
 --
--- A round whose calls don't match never ends. (The verdict on stuck ranks takes a call of it as one that may go on, since MPI
--- says nothing of such programs.)
+-- A round whose calls don't match never ends. (The verdict on stuck ranks takes a call of it as one that may go on,
+-- since MPI says nothing of such programs.)
 use Rattle.std.specs.Prelude.{ℕ, Bool, true, false, ◌&&◌, ◌||◌, ◌==◌, not, Option, Some, None, List, slice_get, unwrap_or}
 use Rattle.trace_stuck.specs.Shape as waits
 use Rattle.trace_stuck.specs.Shape.{Waits, OnNothing, OnRank, OnAll, OnOne, OnMismatched, none, and}

@@ -25,7 +25,8 @@ is_loose pairs m = not (is_void m.trust) && is_unpaired_message pairs m
 abbrev pub loose : List Ops → List Pair → List Message
 loose ops pairs = flat_map (λ o. filter (is_loose pairs) o.sends) ops
 
--- It is left over beside these receives where it is sure, and each of them whose envelope fits it was completed before it was sent.
+-- It is left over beside these receives where it is sure, and each of them whose envelope fits it was completed before
+-- it was sent.
 abbrev pub is_left_beside : List Ops → List Receive → Message → Bool
 is_left_beside ops free m = is_sure m.trust && not (may_take (comes_after ops) free m)
 
@@ -66,9 +67,9 @@ unfinished_of o = of o.state
 abbrev pub IsOfWaiting : List Bool → Starving → Type 0
 IsOfWaiting waits told = is_up waits told.receive.at ≡ true
 
--- What is told of messages, receives and requests, where these ranks are held and these wait or poll: all that is left over and
--- to be told, by name; receives of ranks that wait or poll; each with near misses of the sort that is told; and all requests that
--- were never completed.
+-- What is told of messages, receives and requests, where these ranks are held and these wait or poll: all that is left
+-- over and to be told, by name; receives of ranks that wait or poll; each with near misses of the sort that is told;
+-- and all requests that were never completed.
 pub record IsUnmatched (ops : List Ops) (pairs : List Pair) (held waits : List Bool) (told : Unmatched) : Type 0 where
   pub left_over : map (λ l. l.message) told.left_over.items ≡ filter (is_told held waits) (left_over ops pairs)
   pub starving : All (IsOfWaiting waits) told.starving.items

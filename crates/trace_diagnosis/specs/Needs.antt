@@ -6,9 +6,9 @@ use Rattle.trace_diagnosis.specs.Holding.{holds, nobody, one_holds}
 use Rattle.trace_diagnosis.specs.declared.diagnosis.Need.{Need}
 use Rattle.trace_diagnosis.specs.declared.diagnosis.Need.TheVariants as needs
 
--- What a condition needs that doesn't hold where no rank can go on. `others` are all other ranks that haven't ended. Of an
--- all-of it is what those of its parts need that don't hold so; of a one-of what those need that would hold if the others went
--- on, and what all of its parts need where none would.
+-- What a condition needs that doesn't hold where no rank can go on. `others` are all other ranks that haven't ended. Of
+-- an all-of it is what those of its parts need that don't hold so; of a one-of what those need that would hold if the
+-- others went on, and what all of its parts need where none would.
 abbrev mutual
   pub needs_of : (ℕ → Bool) → waits.Wait → List Need
   needs_of others OnNothing = []

@@ -29,8 +29,8 @@ members labels ranks least = filter (is_labelled labels least) (range_with_len 0
 abbrev pub LeadFrom : List (Vec ℕ Global) → List (Option ℕ) → ℕ → ℕ → Type 0
 LeadFrom edges labels least r = (s : ℕ) × (is_labelled labels least s ≡ true) × Reaches edges r s
 
--- A root of ranks: each of them is in a heart, so that what they reach reaches them and nothing leads out; and each rank that it
--- holds up is held, and reaches one in a heart of it.
+-- A root of ranks: each of them is in a heart, so that what they reach reaches them and nothing leads out; and each
+-- rank that it holds up is held, and reaches one in a heart of it.
 pub record IsRoot (edges : List (Vec ℕ Global)) (held : List Bool) (ranks : ℕ) (root : Root) : Type 0 where
   pub own : All (IsInHeart edges) root.ranks.items
   pub holds_up : All (λ r. (is_up held r ≡ true) × ((s : ℕ) × IsInHeart edges s × Reaches edges r s)) root.holds_up.items
@@ -62,8 +62,8 @@ abbrev pub KeepRoots : (old new : List Root) → Type 0
 KeepRoots old new = (edges : List (Vec ℕ Global)) (held : List Bool) (ranks : ℕ) →
     All (IsSound edges held ranks) old → All (IsSound edges held ranks) new
 
--- The roots are those of what so many ranks need that wait or poll for this, and where just these haven't ended: the list of
--- needs and the edges are those that the conditions give.
+-- The roots are those of what so many ranks need that wait or poll for this, and where just these haven't ended: the
+-- list of needs and the edges are those that the conditions give.
 pub record AreRoots (able : List Bool) (ranks : ℕ) (ws : List (Option waits.Wait)) (roots : List Root) : Type 0 where
   pub all : List (Vec Need Global)
   pub edges : List (Vec ℕ Global)

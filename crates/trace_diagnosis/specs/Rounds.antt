@@ -74,8 +74,8 @@ open_in round = by round.standing
 abbrev pub opened_told : OpenRound → Opened
 opened_told o = opened o.round o.function o.root
 
--- All of these rounds whose calls don't match are told, and all that are open, in their order; each open one with who has entered
--- it and who hasn't.
+-- All of these rounds whose calls don't match are told, and all that are open, in their order; each open one with who
+-- has entered it and who hasn't.
 pub record AreTold (layout : Parts) (ops : List Ops) (rounds : List Round) (told : Rounds) : Type 0 where
   pub mismatched : map (λ m. m.round) told.mismatched.items ≡ flat_map mismatched_in rounds
   pub calls : map opened_told told.open.items ≡ flat_map open_in rounds

@@ -38,7 +38,8 @@ held_at ws r = held_by r (wait_at ws r)
 abbrev pub held_in : List (Option waits.Wait) → ℕ → List (ℕ × waits.Wait)
 held_in ws ranks = flat_map (held_at ws) (range_with_len 0 ranks)
 
--- All held ranks are told, in rising order, each with its condition; and the roots are those of what the ranks wait or poll for.
+-- All held ranks are told, in rising order, each with its condition; and the roots are those of what the ranks wait or
+-- poll for.
 pub record IsWaiting (able : List Bool) (ranks : ℕ) (ws : List (Option waits.Wait)) (told : Waiting) : Type 0 where
   pub held : map held_told told.held.items ≡ held_in ws ranks
   pub roots : HaveRoots able ranks ws told.roots.items

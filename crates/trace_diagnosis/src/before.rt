@@ -6,14 +6,14 @@ use std::collections::BTreeMap;
 use trace_ops::RankOps;
 use trace_pair::PairTable;
 
-/// Of the patterns that are asked for, how many messages of pairs suit them.
+/// For each pattern that is asked for, how many messages of pairs fit it.
 #[derive(Drop)]
 pub(crate) struct Through {
     counts: BTreeMap<Pattern, u64>,
 }
 
 impl Through {
-    /// Of these patterns.
+    /// Counters for these patterns. Fails with `AllocError` when memory is refused.
     pub fn of(
         alloc: Global,
         asked: &[Pattern],
@@ -52,7 +52,7 @@ impl Through {
         }
     }
 
-    /// How many messages of pairs suit the pattern.
+    /// How many messages of pairs fit the pattern.
     pub fn at(&self, pattern: Pattern) -> u64 {
         self.counts.get(&pattern).copied().unwrap_or(0)
     }

@@ -29,19 +29,19 @@ use trace_pair::PairTable;
 use trace_stuck::Condition;
 use trace_wait::{Poll, conditions_with_polls};
 
-/// What is asked of a run.
+/// What the conditions of a run are made from.
 #[derive(Clone, Copy)]
 pub(crate) struct Case<'a> {
     pub layout: &'a Layout,
     pub answer: &'a Answer,
     pub know: &'a Knowledge,
-    /// Of each rank, whether its readable prefix ends where its text was cut.
+    /// For each rank, whether its readable prefix ends where its text was cut.
     pub cut: &'a [bool],
     pub ranks: u32,
     pub ops: &'a [RankOps],
     pub pollers: &'a [Poller<'a>],
     pub inits: &'a Inits,
-    /// In rising order.
+    /// The stuck ranks, in rising order.
     pub stuck: &'a [u32],
 }
 
@@ -172,7 +172,8 @@ fn put_at(of_ranks: &mut [Option<Condition>], rank: u32, condition: Option<Condi
     of_ranks[place] = condition;
 }
 
-/// Puts the condition of the last of these pollers in its place. It is one of the last of the polls' conditions, which are taken away.
+/// Puts the condition of the last of these pollers in its place. It is one of the last of the polls' conditions, which
+/// are taken away.
 fn put_last(
     poller: &Poller<'_>,
     rest: &mut Vec<Condition>,
@@ -280,7 +281,7 @@ fn is_held(condition: &Option<Condition>) -> bool
     }
 }
 
-/// Of each rank, whether it is held.
+/// For each rank, whether it is held.
 pub(crate) fn held_of(
     alloc: Global,
     conditions: &[Option<Condition>],
@@ -304,7 +305,7 @@ fn does_wait(condition: &Option<Condition>) -> bool
     }
 }
 
-/// Of each rank, whether it waits or polls.
+/// For each rank, whether it waits or polls.
 pub(crate) fn waits_of(
     alloc: Global,
     conditions: &[Option<Condition>],

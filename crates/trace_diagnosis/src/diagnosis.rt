@@ -1,12 +1,13 @@
 //! The value of a diagnosis: lists of facts, each small.
 //!
-//! Ranks are those of the trace, and stand in rising order in each list. Objects (communicators, windows, files) are named
-//! by their ids in the layout, and a round by its object and its number `k`, from 0. Times are wall times in nanoseconds.
+//! Ranks are those of the trace, and stand in rising order in each list. Objects (communicators, windows, files) are
+//! named by their ids in the layout, and a round by its object and its number `k`, from 0. Times are wall times in
+//! nanoseconds.
 
 use mpi_model::{Call, CollectiveFunction, Message, Object, OpName, Receive, Sends};
 use trace_stuck::{Condition, RoundName};
 
-/// What holds up a run, whether it is proved or not, and what is known beside it.
+/// What holds up a run, proved or not, and what else is known of it.
 #[derive(Debug, Drop)]
 pub struct Diagnosis {
     /// The number of ranks.
@@ -14,9 +15,9 @@ pub struct Diagnosis {
     /// How sends of standard mode complete.
     pub sends: Sends,
     pub times: Times,
-    /// The ranks that wait for ever, which is proved.
+    /// The stuck ranks, as the answer proves them.
     pub stuck: Vec<u32>,
-    /// The ranks that would be under the other kind of sends, where they aren't the same.
+    /// The ranks that would be stuck if sends completed in the other way; `None` if they are the same.
     pub other_sends: Option<Vec<u32>>,
     pub waiting: Waiting,
     pub rounds: Rounds,
@@ -29,13 +30,13 @@ pub struct Diagnosis {
 /// The times of a run.
 #[derive(Clone, Copy, Debug)]
 pub struct Times {
-    /// The first wall time of a readable Enter.
+    /// The earliest wall time of a readable Enter.
     pub begin: Option<u64>,
-    /// The last wall time of anything that is known.
+    /// The latest wall time of anything that is known.
     pub end: Option<u64>,
 }
 
-/// Who waits for whom.
+/// Which ranks wait for which ranks.
 #[derive(Debug, Drop)]
 pub struct Waiting {
     /// How each rank stands, that of rank r at place r.
@@ -48,29 +49,29 @@ pub struct Waiting {
     pub roots: Vec<Root>,
 }
 
-/// Whether a rank has ended, or where its last call stands.
+/// Whether a rank has ended, or else how far its last call has come.
 #[derive(Clone, Copy, Debug, PartialEq, Eq)]
 pub enum Stand {
-    /// It has ended: its last call is `MPI_Finalize`, and nothing lies beyond it.
+    /// It has ended: its last call is `MPI_Finalize`, and nothing is known after it.
     Ended,
     /// In its last call, which hasn't returned.
     In,
-    /// Behind its last call, which has returned.
+    /// After its last call, which has returned.
     Behind,
     /// None of its calls can be read.
     Nowhere,
 }
 
-/// What ends the readable prefix of a rank, where more is known of it or was written.
+/// What ends the readable prefix of a rank, if more is known of it or was written.
 #[derive(Clone, Copy, Debug, PartialEq, Eq)]
 pub enum Beyond {
     /// Nothing is known of the next place.
     Gap,
-    /// Two events are told of the next place.
+    /// Two different events are known of the next place.
     Contradiction,
     /// The next call moves messages and isn't read, or is of a second thread.
     Unread,
-    /// The text was cut there.
+    /// The text was cut off there.
     Cut,
 }
 
@@ -79,7 +80,7 @@ pub enum Beyond {
 pub struct Standing {
     pub rank: u32,
     pub stand: Stand,
-    /// Its last call whose Enter is readable, where there is one.
+    /// Its last call whose Enter is readable; `None` if it has none.
     pub call: Option<LastCall>,
     pub beyond: Option<Beyond>,
 }
@@ -88,15 +89,15 @@ pub struct Standing {
 #[derive(Debug, Drop)]
 pub struct LastCall {
     pub number: u64,
-    /// As it was entered.
+    /// The call, as it was entered.
     pub call: Call,
     /// The round that it entered, where it is collective and the layout knows its object.
     pub round: Option<RoundName>,
-    /// Which operations its requests stand for, as far as they are active.
+    /// The operations for which its active requests stand.
     pub open: Vec<OpName>,
     /// When it was entered.
     pub entered: u64,
-    /// When it returned, and else when it was entered: the wall time of the rank's last readable event.
+    /// When it returned, or else was entered: the wall time of the rank's last readable event.
     pub wall: u64,
 }
 
@@ -114,20 +115,22 @@ pub struct Polling {
 #[derive(Debug, Drop)]
 pub struct Polled {
     pub number: u64,
-    /// As it was entered.
+    /// The call, as it was entered.
     pub call: Call,
-    /// Which operations its requests stand for, as far as they are active.
+    /// The operations for which its active requests stand.
     pub open: Vec<OpName>,
 }
 
-/// What a rank needs that can't go on by itself: another rank that goes on, or a round that can't end.
+/// What a held rank needs: that another rank goes on, or that a round ends which can't.
 #[derive(Clone, Copy, Debug, PartialEq, Eq)]
 pub enum Need {
+    /// That this rank goes on.
     Rank(u32),
+    /// That this round ends, whose calls don't match.
     Round(RoundName),
 }
 
-/// A rank that can't go on by itself: its condition doesn't hold where no rank can go on.
+/// A held rank, which can't go on by itself: its condition doesn't hold if no rank can go on.
 #[derive(Debug, Drop)]
 pub struct Held {
     pub rank: u32,
@@ -137,12 +140,12 @@ pub struct Held {
     pub needs: Vec<Need>,
 }
 
-/// What a root is, in the order in which roots of equal weight are told.
+/// What a root is. Roots of equal weight are printed in this order.
 #[derive(Clone, Copy, Debug, PartialEq, Eq)]
 pub enum RootKind {
     /// A round whose calls don't match.
     Mismatch(RoundName),
-    /// Ranks that need one another, or one that needs itself.
+    /// Ranks that need one another, or one rank that needs itself.
     Cycle,
     /// Ranks that have ended.
     Ended,
@@ -152,26 +155,26 @@ pub enum RootKind {
     Open,
 }
 
-/// What holds up ranks and is itself held up by nobody else.
+/// A root: what holds up ranks and is itself held up by nobody else.
 #[derive(Debug, Drop)]
 pub struct Root {
     pub kind: RootKind,
     /// Its own ranks; of a round those that have entered it.
     pub ranks: Vec<u32>,
-    /// The held ranks outside it that need it, over others or themselves.
+    /// The held ranks outside it that need it, directly or through others.
     pub holds_up: Vec<u32>,
-    /// Those of all held ranks that need it themselves, its own among them.
+    /// All held ranks that need it directly, including its own.
     pub needed_by: Vec<u32>,
-    /// Whether MPI leaves no way out.
+    /// Whether the root is proved: MPI leaves these ranks no way out.
     pub proved: bool,
 }
 
-/// The rounds that are to be told.
+/// The rounds that are printed.
 #[derive(Debug, Drop)]
 pub struct Rounds {
-    /// Those whose calls don't match, by object and number.
+    /// The mismatched rounds, by object and number.
     pub mismatched: Vec<MismatchedRound>,
-    /// Those that some members haven't entered, by object and number.
+    /// The open rounds, which some members haven't entered, by object and number.
     pub open: Vec<OpenRound>,
 }
 
@@ -179,7 +182,7 @@ pub struct Rounds {
 #[derive(Debug, Drop)]
 pub struct MismatchedRound {
     pub round: RoundName,
-    /// By their first ranks.
+    /// The groups of members whose calls match, in the order of their first ranks.
     pub groups: Vec<CallGroup>,
 }
 
@@ -205,12 +208,12 @@ pub struct OpenRound {
     pub missing: Vec<u32>,
 }
 
-/// Messages, receives and requests that found no end.
+/// Messages that nobody received, receives that nothing matched, and requests that were never completed.
 #[derive(Debug, Drop)]
 pub struct Unmatched {
-    /// By name.
+    /// In the order of their names.
     pub left_over: Vec<LeftOver>,
-    /// By name.
+    /// In the order of their names.
     pub starving: Vec<Starving>,
     /// The messages in no pair that a receive in no pair may have taken, by name.
     pub undecided: Vec<Message>,
@@ -218,53 +221,55 @@ pub struct Unmatched {
     pub unfinished: Vec<OpName>,
 }
 
-/// A message that no receive can have taken, sent to a rank that is held or isn't seen to wait.
+/// A left-over message: no receive can have taken it, and its receiver is held or isn't seen to wait.
 #[derive(Debug, Drop)]
 pub struct LeftOver {
     pub message: Message,
-    /// How many messages of its communicator, sender, receiver and tag came through.
+    /// How many messages with the same communicator, sender, receiver and tag were received.
     pub before: u64,
-    /// The receives that it misses by little: by sort, then by name, three of a sort at most.
+    /// The receives that nearly fit it: by kind of difference, then by name, at most three of a kind.
     pub near: Vec<NearReceive>,
 }
 
-/// A receive or a probe that waits for a message which nobody is known to have sent.
+/// A starving receive or probe: it waits for a message which nobody is known to have sent.
 #[derive(Debug, Drop)]
 pub struct Starving {
     pub receive: Receive,
-    /// How many messages that fit it came through.
+    /// How many messages that fit it were received.
     pub before: u64,
-    /// The messages that it misses by little: by sort, then by name, three of a sort at most.
+    /// The messages that nearly fit it: by kind of difference, then by name, at most three of a kind.
     pub near: Vec<NearMessage>,
 }
 
-/// In what a message and a receive differ that would be a pair else. In the order in which they are told.
+/// The one thing in which a message and a receive differ that would otherwise be a pair, in the order in which it is
+/// printed.
 #[derive(Clone, Copy, Debug, PartialEq, Eq)]
 pub enum Why {
-    /// In the tag alone.
+    /// Only the tag differs.
     Tag,
-    /// In the communicator alone.
+    /// Only the communicator differs.
     Comm,
-    /// In the source that the receive names.
+    /// Only the source differs, which the receive names.
     Source,
-    /// In the rank: the message would fit a receive that names its sender, were it sent there.
+    /// Only the receiving rank differs: the message would fit the receive, which names its sender, if it were sent
+    /// there.
     Dest,
-    /// The message fits, and was taken by an earlier receive that names less.
+    /// The message fits, but an earlier receive that names less has taken it.
     Taken,
-    /// The message fits, and an open receive may have taken it.
+    /// The message fits, but an open receive may have taken it.
     Postponed,
-    /// The persistent request that would fit isn't active.
+    /// A persistent request would fit, but it isn't active.
     Idle,
 }
 
-/// A receive that a message misses by little.
+/// A receive that a message nearly fits.
 #[derive(Clone, Copy, Debug)]
 pub struct NearReceive {
     pub why: Why,
     pub receive: Receive,
 }
 
-/// A message that a receive misses by little.
+/// A message that a receive nearly fits.
 #[derive(Clone, Copy, Debug)]
 pub struct NearMessage {
     pub why: Why,
@@ -273,7 +278,7 @@ pub struct NearMessage {
     pub by: Option<OpName>,
 }
 
-/// What may make all of this wrong, as far as the ranks' calls tell it.
+/// What may make the diagnosis wrong, as far as the ranks' calls show it.
 #[derive(Debug, Drop)]
 pub struct Doubts {
     /// Calls of objects that the layout doesn't know, by sort and number.
@@ -291,21 +296,21 @@ pub struct Doubts {
 /// An object that calls name and the layout doesn't know for them.
 #[derive(Clone, Copy, Debug)]
 pub struct Foreign {
-    /// Of which sort it is.
+    /// Whether it is a communicator, a window or a file.
     pub object: Object,
-    /// The number by which the text names it; of the world its id.
+    /// The number by which the text names it; for the world, its id.
     pub number: u32,
     /// How many calls name it.
     pub calls: u64,
 }
 
-/// An operation with the call that started it.
+/// An operation, with the call that started it.
 #[derive(Debug, Drop)]
 pub struct Operation {
     pub name: OpName,
-    /// As it was entered.
+    /// The call, as it was entered.
     pub call: Call,
-    /// The init whose request a Start or Startall has started, where the call is one.
+    /// If the call is a Start or Startall, the init whose request it has started.
     pub init: Option<Init>,
 }
 
@@ -313,6 +318,6 @@ pub struct Operation {
 #[derive(Debug, Drop)]
 pub struct Init {
     pub number: u64,
-    /// As it was entered.
+    /// The call, as it was entered.
     pub call: Call,
 }

@@ -16,7 +16,7 @@ struct Named {
     number: u32,
 }
 
-/// Of each sort and number the object, and how many calls name it.
+/// For each sort and number the object, and how many calls name it.
 type Counts = BTreeMap<(u8, u32), (Named, u64)>;
 
 /// A call more of the object.

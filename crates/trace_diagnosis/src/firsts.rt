@@ -13,7 +13,7 @@ pub(crate) struct Firsts {
 }
 
 impl Firsts {
-    /// Nothing stands under these patterns.
+    /// A table with nothing under these patterns.
     fn of_none(alloc: Global, asked: &[Pattern]) -> Result<Firsts, AllocError> {
         let mut places = BTreeMap::new(alloc);
         for pattern in asked {
@@ -32,7 +32,7 @@ impl Firsts {
         Ok(())
     }
 
-    /// The first three messages that suit each of the patterns.
+    /// The first three messages that suit each of the patterns. Fails with `AllocError` when memory is refused.
     pub fn of_messages(
         alloc: Global,
         asked: &[Pattern],
@@ -50,7 +50,7 @@ impl Firsts {
         Ok(firsts)
     }
 
-    /// The first three receives that name each of the patterns.
+    /// The first three receives that name each of the patterns. Fails with `AllocError` when memory is refused.
     pub fn of_receives(
         alloc: Global,
         asked: &[Pattern],
@@ -63,7 +63,7 @@ impl Firsts {
         Ok(firsts)
     }
 
-    /// Those under a pattern.
+    /// The things under a pattern.
     pub fn at(&self, pattern: Pattern) -> &[usize] {
         match self.places.get(&pattern) {
             Some(places) => places,

@@ -1,7 +1,8 @@
 //! Who needs whom: the held ranks, and the ranks and the rounds that they need.
 //!
-//! A graph has a node for each rank, and behind them one for all rounds: an edge leads from a held rank to each of its needs.
-//! No edge leads out of a round, so that one node for all of them is enough to find who is held up by ranks alone.
+//! A graph has a node for each rank, and behind them one for all rounds: an edge leads from a held rank to each of its
+//! needs. No edge leads out of a round, so that one node for all of them is enough to find who is held up by ranks
+//! alone.
 
 ghost use Rattle.std.specs.Prelude.{◌≡◌, ◌++◌, ◌≤◌, ◌+◌, ◌^◌, ℕ, IfOk, OnOk, length, map, vec_len};
 ghost use Rattle.std.specs.List.{range_with_len};
@@ -19,11 +20,11 @@ use trace_stuck::{Condition, turned};
 /// The graph, with its edges also the other way round.
 #[derive(Drop)]
 pub(crate) struct Graph {
-    /// Of each rank what it needs.
+    /// For each rank what it needs.
     pub needs: Vec<Vec<Need>>,
-    /// Of each node those to which its edges go.
+    /// For each node those to which its edges go.
     pub edges: Vec<Vec<u32>>,
-    /// Of each node those from which edges come.
+    /// For each node those from which edges come.
     pub askers: Vec<Vec<u32>>,
 }
 
@@ -38,7 +39,7 @@ fn has_not_ended(state: &State) -> bool
     }
 }
 
-/// Of each rank, whether it hasn't ended.
+/// For each rank, whether it hasn't ended.
 pub(crate) fn able_of(alloc: Global, states: &[State]) -> Result<Vec<bool>, AllocError>
     ensures { IfOk result (λ able. able.items ≡ map has_not_ended states.now) }
 {

@@ -1,7 +1,7 @@
 //! Whether conditions hold, and what holds up ranks whose conditions don't.
 //!
-//! A round whose calls don't match never ends: the verdict on stuck ranks takes a call of it as one that may go on, since MPI
-//! says nothing of such programs. Here it holds up whoever stands in it.
+//! A round whose calls don't match never ends: the verdict on stuck ranks takes a call of it as one that may go on,
+//! since MPI says nothing of such programs. Here it holds up every rank that is in it.
 
 ghost use Rattle.std.specs.Prelude.{◌≡◌, ◌++◌, ◌∷◌, [], ℕ, false, OnOk, not, filter, map};
 ghost use Rattle.std.specs.List.{flat_map, list_all, list_any};
@@ -15,15 +15,15 @@ use crate::diagnosis::Need;
 use std::alloc::AllocError;
 use trace_stuck::Condition;
 
-/// Those that can go on, but for one rank.
+/// The ranks that can go on, without one of them.
 #[derive(Clone, Copy)]
 pub(crate) struct Going<'a> {
-    /// Of each rank, whether it can go on.
+    /// For each rank, whether it can go on.
     pub able: &'a [bool],
     pub but: Option<u32>,
 }
 
-/// No rank can go on.
+/// The case that no rank can go on.
 pub(crate) fn nobody() -> Going<'static>
     ensures { (r : ℕ) → going result r ≡ false }
 {
@@ -173,8 +173,8 @@ fn push_need(needs: &mut Vec<Need>, need: Need) -> Result<(), AllocError>
     Ok(())
 }
 
-/// Adds what a condition needs that doesn't hold where no rank can go on. `others` are all ranks but the one that waits, as
-/// far as they haven't ended.
+/// Adds what a condition needs that doesn't hold where no rank can go on. `others` are all ranks but the one that
+/// waits, as far as they haven't ended.
 #[cycle(needs)]
 pub(crate) fn push_needs(
     needs: &mut Vec<Need>,

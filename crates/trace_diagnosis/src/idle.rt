@@ -1,5 +1,5 @@
-//! Persistent requests that aren't active: never started, or not again, or freed. Each is looked up as the message or the
-//! receive that a start of it would make.
+//! Persistent requests that aren't active: never started, or not again, or freed. Each is looked up as the message or
+//! the receive that a start of it would make.
 
 ghost use Rattle.std.specs.Prelude.{◌≡◌, not};
 ghost use Rattle.std.specs.BTreeSet.{contains};
@@ -106,7 +106,7 @@ fn receive_of(layout: &Layout, name: OpName, e: Envelope) -> Option<Receive> {
 }
 
 impl Idle {
-    /// Of all ranks.
+    /// The table for all ranks. Fails with `AllocError` when memory is refused.
     pub fn of(alloc: Global, run: &Run<'_>, inits: &Inits) -> Result<Idle, AllocError> {
         let mut idle = Idle {
             messages: Vec::new(alloc),

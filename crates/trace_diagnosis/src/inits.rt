@@ -59,7 +59,7 @@ fn made_of(alloc: Global, events: &Readable<'_>) -> Result<Vec<Made>, AllocError
 }
 
 impl Inits {
-    /// Of all ranks.
+    /// The table for all ranks. Fails with `AllocError` when memory is refused.
     pub fn of(alloc: Global, know: &Knowledge, ranks: u32) -> Result<Inits, AllocError> {
         let mut all = Vec::new(alloc);
         for rank in 0..ranks {
@@ -68,7 +68,7 @@ impl Inits {
         Ok(Inits { ranks: all })
     }
 
-    /// Those of a rank, by request and call.
+    /// The calls of a rank that made persistent requests, by request and call.
     pub fn of_rank(&self, rank: u32) -> &[Made] {
         match self.ranks.get(rank as usize) {
             Some(made) => made,

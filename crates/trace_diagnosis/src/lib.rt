@@ -1,8 +1,8 @@
 //! The diagnosis of a run: what holds it up, proved or not, and what is known beside it.
 //!
 //! The stuck ranks of an answer are exact and may be few: MPI leaves ways out of a mismatched collective call, and of a
-//! rank that computes, has died or polls. The diagnosis names what holds up ranks all the same. It is a value, which
-//! others print.
+//! rank that computes, has died or polls. The diagnosis names what holds up ranks even then. It is a value, which other
+//! crates print.
 //!
 //! - [`diagnosis`]: the value; [`whole`]: the way there
 //! - [`times`]: when it was; [`standing`]: where each rank stands; [`calls`]: the calls of a rank, as its events tell

@@ -119,15 +119,15 @@ pub(crate) fn is_unpaired(pairs: &PairsByReceive<'_>, place: &mut usize, q: &Rec
     pairs.message_near(q.name, place).is_none()
 }
 
-/// Whether a message in no pair is left over: it is sure, and no receive in no pair may have taken it. `ends` are those of
-/// these receives.
+/// Whether a message in no pair is left over: it is sure, and no receive in no pair may have taken it. `ends` are those
+/// of these receives.
 fn is_left(ends: &Ends, reaches: &Reaches<'_>, m: &Message) -> bool
     ensures { (free : List Wanted) → AreLast free ends.now → result ≡ is_left_beside reaches.now free m.now }
 {
     m.trust.is_sure() && !ends.may_take(reaches, m)
 }
 
-/// Those of the messages in no pair that are left over.
+/// The messages that are left over, among those in no pair.
 pub(crate) fn left_over_of(
     alloc: Global,
     ends: &Ends,
@@ -146,15 +146,15 @@ pub(crate) fn left_over_of(
     Ok(left)
 }
 
-/// Whether a message in no pair is undecided: it is sure, and a receive in no pair may have taken it. `ends` are those of these
-/// receives.
+/// Whether a message in no pair is undecided: it is sure, and a receive in no pair may have taken it. `ends` are those
+/// of these receives.
 fn is_undecided(ends: &Ends, reaches: &Reaches<'_>, m: &Message) -> bool
     ensures { (free : List Wanted) → AreLast free ends.now → result ≡ is_undecided_beside reaches.now free m.now }
 {
     m.trust.is_sure() && ends.may_take(reaches, m)
 }
 
-/// Those of the messages in no pair that are undecided.
+/// The messages that are undecided, among those in no pair.
 pub(crate) fn undecided_of(
     alloc: Global,
     ends: &Ends,

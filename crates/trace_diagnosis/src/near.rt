@@ -1,7 +1,7 @@
 //! The nearest misses: what would be a pair, but for one thing.
 //!
-//! A message and a receive differ in the tag, in the communicator, in the source that the receive names, or in the rank at
-//! which it looks, and agree in all else. What they agree in is a key under which one looks for the other.
+//! A message and a receive differ in the tag, in the communicator, in the source that the receive names, or in the rank
+//! at which it looks, and agree in all else. What they agree in is a key under which one looks for the other.
 
 ghost use Rattle.std.specs.Prelude.{◌≡◌};
 ghost use Rattle.mpi_model.specs.Fit.{admits};
@@ -71,7 +71,7 @@ pub(crate) fn is_near(why: Why, m: &Message, q: &Receive) -> bool
     }
 }
 
-/// A key under which a thing looks for others, and the value in which they have to differ.
+/// A key under which a message or a receive looks for others, and the value in which they have to differ.
 #[derive(Clone, Copy)]
 struct Place {
     key: Key,
@@ -150,7 +150,8 @@ pub(crate) struct NearReceives {
 }
 
 impl NearReceives {
-    /// Of these receives, in the order of their names.
+    /// A table of these receives, which are in the order of their names. Fails with `AllocError` when memory is
+    /// refused.
     pub fn of(alloc: Global, why: Why, receives: &[Receive]) -> Result<NearReceives, AllocError> {
         let mut shelf = Shelf::new(alloc);
         for (at, q) in receives.iter().enumerate() {
@@ -162,7 +163,8 @@ impl NearReceives {
         Ok(NearReceives { why, shelf })
     }
 
-    /// The places of the first three that differ in one thing from the message.
+    /// The places of the first three that differ in one thing from the message. Fails with `AllocError` when memory is
+    /// refused.
     pub fn near(&self, alloc: Global, m: &Message) -> Result<Vec<usize>, AllocError> {
         let mut found = Vec::new(alloc);
         for place in &places_for(alloc, self.why, m)? {
@@ -180,7 +182,8 @@ pub(crate) struct NearMessages {
 }
 
 impl NearMessages {
-    /// Of these messages, in the order of their names, as far as one of the receives may ask for them.
+    /// A table of these messages, which are in the order of their names, without those that no receive can ask for.
+    /// Fails with `AllocError` when memory is refused.
     pub fn of(
         alloc: Global,
         why: Why,
@@ -201,7 +204,8 @@ impl NearMessages {
         Ok(NearMessages { why, shelf })
     }
 
-    /// The places of the first three that differ in one thing from the receive.
+    /// The places of the first three that differ in one thing from the receive. Fails with `AllocError` when memory is
+    /// refused.
     pub fn near(&self, alloc: Global, q: &Receive) -> Result<Vec<usize>, AllocError> {
         let mut found = Vec::new(alloc);
         if let Some(place) = place_of(self.why, q) {

@@ -1,5 +1,5 @@
-//! The ways in which a receive can name a message: communicator, receiver, source and tag, where source and tag may be left
-//! open.
+//! The ways in which a receive can name a message: communicator, receiver, source and tag, where source and tag may be
+//! left open.
 
 use mpi_model::{Message, Receive};
 

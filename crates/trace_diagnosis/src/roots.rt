@@ -1,8 +1,8 @@
 //! The roots: what holds up ranks and is itself held up by nobody else.
 //!
-//! In the graph of the held ranks and of what they need these are the strongly connected components that nothing leads out
-//! of, and the rounds that don't match. Where one root of a kind holds up the same ranks as another, the two are one thing to
-//! say.
+//! In the graph of the held ranks and of what they need these are the strongly connected components that nothing leads
+//! out of, and the rounds that don't match. Where one root of a kind holds up the same ranks as another, the two are
+//! one thing to say.
 
 ghost use Rattle.std.specs.Prelude.{◌≡◌, ◌≤◌, ◌<◌, ◌+◌, ◌^◌, ◌++◌, ◌∷◌, [], if◌then◌else◌, ℕ, All, IfOk, OnOk, true, false, filter, is_some, vec_len};
 ghost use Rattle.std.specs.List.Sorted.{IsPermutation};
@@ -25,10 +25,10 @@ use trace_stuck::{RoundName, firsts, hearts};
 pub(crate) struct Ranks<'a> {
     pub count: u32,
     pub states: &'a [State],
-    /// Of each rank, whether it waits or polls.
+    /// For each rank, whether it waits or polls.
     pub waits: &'a [bool],
     pub held: &'a [bool],
-    /// In rising order.
+    /// The stuck ranks, in rising order.
     pub stuck: &'a [u32],
 }
 
@@ -475,7 +475,8 @@ fn count_of(own: &[u32], others: &[u32]) -> u32 {
     own.len().saturating_add(others.len()).min(0xffff_ffff) as u32
 }
 
-/// By which roots are told: how many ranks they hold up or are, the most first; then their kinds, least ranks and rounds.
+/// By which roots are told: how many ranks they hold up or are, the most first; then their kinds, least ranks and
+/// rounds.
 fn order_of(root: &Root) -> (u32, u8, u32, u32, u64) {
     let least = root.ranks.first().copied().unwrap_or(0);
     let place = place_of(root.kind);

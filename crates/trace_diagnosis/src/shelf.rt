@@ -1,4 +1,4 @@
-//! Things by a key, of which the first few are asked for that differ in one value.
+//! Things by a key, to find the first few that differ in one value.
 
 use std::alloc::{AllocError, Global};
 use std::collections::BTreeMap;
@@ -6,7 +6,7 @@ use std::collections::BTreeMap;
 /// What two things have in common that differ in one value alone.
 pub(crate) type Key = (u32, u32, Option<u32>, Option<u32>);
 
-/// How many near misses of a sort are told.
+/// How many near misses of one kind are printed.
 pub(crate) const MOST_NEAR: usize = 3;
 
 /// A thing with its value: its place in a list.
@@ -16,8 +16,8 @@ struct Placed {
     place: usize,
 }
 
-/// Under each key things in the order in which they were put there, of each value the first three: of those that differ from
-/// a value the first three are among them.
+/// Under each key the things put there, in order, at most three of each value. So the first three that differ from any
+/// given value are among them.
 #[derive(Drop)]
 pub(crate) struct Shelf {
     things: BTreeMap<Key, Vec<Placed>>,
@@ -25,6 +25,7 @@ pub(crate) struct Shelf {
 }
 
 impl Shelf {
+    /// A shelf without keys. It takes no memory.
     pub fn new(alloc: Global) -> Shelf {
         Shelf {
             things: BTreeMap::new(alloc),
@@ -32,7 +33,7 @@ impl Shelf {
         }
     }
 
-    /// Makes a place for a key.
+    /// Makes a place for a key. On `AllocError`, when memory is refused, its contents are unspecified.
     pub fn make(&mut self, alloc: Global, key: Key) -> Result<(), AllocError> {
         if self.things.get(&key).is_none() {
             self.things.insert(key, Vec::new(alloc))?;
@@ -40,7 +41,8 @@ impl Shelf {
         Ok(())
     }
 
-    /// Puts a thing under a key that has a place, unless three of its value stand there.
+    /// Puts a thing under a key that has a place, unless three of its value stand there. On `AllocError`, when memory
+    /// is refused, its contents are unspecified.
     pub fn put(&mut self, key: Key, value: u32, place: usize) -> Result<(), AllocError> {
         let Some(things) = self.things.get_mut(&key) else {
             return Ok(());
@@ -53,7 +55,8 @@ impl Shelf {
         Ok(())
     }
 
-    /// Adds the first three things under a key that have another value.
+    /// Adds the first three things under a key that have another value. On `AllocError`, when memory is refused, its
+    /// contents are unspecified.
     pub fn push_others(
         &self,
         key: Key,

@@ -48,8 +48,8 @@ fn name_of(active: &[(i64, OpName)], request: i64) -> Option<OpName> {
     }
 }
 
-/// Which operations the call's requests stand for, as far as they are among these active ones, which go by number: by name,
-/// each once.
+/// Which operations the call's requests stand for, as far as they are among these active ones, which go by number: by
+/// name, each once.
 pub(crate) fn open_among(
     alloc: Global,
     active: &[(i64, OpName)],
@@ -86,7 +86,7 @@ fn ends_with(cell: Cell<'_>) -> Beyond
     }
 }
 
-/// What ends the readable prefix of a rank, where more is known of it or was written.
+/// What ends the readable prefix of a rank, if more is known of it or was written.
 fn beyond_of(know: &Knowledge, rank: u32, cut: bool) -> Option<Beyond>
     ensures { result ≡ beyond_of know.now rank cut }
 {

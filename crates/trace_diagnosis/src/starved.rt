@@ -1,11 +1,12 @@
 //! Receives and probes that starve.
 //!
-//! A receive is pending where its rank waits in it, or its request is active. It starves where it is sure, in no pair, and
-//! each message in no pair that fits it may have been taken by an open receive of its rank with a lower call number.
+//! A receive is pending where its rank waits in it, or its request is active. It starves where it is sure, in no pair,
+//! and each message in no pair that fits it may have been taken by an open receive of its rank with a lower call
+//! number.
 //!
-//! The receives of a rank are gone through in the order of their calls, with the open ones that were met. A message that one
-//! of these may have taken stays so for all later receives: so of the messages under one pattern those in front are passed
-//! over once.
+//! The receives of a rank are gone through in the order of their calls, with the open ones that were met. A message
+//! that one of these may have taken stays so for all later receives: so of the messages under one pattern those in
+//! front are passed over once.
 
 ghost use Rattle.std.specs.Prelude.{◌≡◌};
 

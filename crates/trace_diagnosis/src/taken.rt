@@ -18,7 +18,8 @@ pub(crate) struct TakenBy {
     pub by: OpName,
 }
 
-/// The receives of a pattern by their places, in the order of their calls. From `full` on all have found three messages.
+/// The receives of a pattern by their places, in the order of their calls. From `full` on all have found three
+/// messages.
 #[derive(Drop)]
 struct Askers {
     places: Vec<usize>,
@@ -149,7 +150,8 @@ fn nothing(alloc: Global, count: usize) -> Result<Vec<Vec<TakenBy>>, AllocError>
     Ok(found)
 }
 
-/// Of each of the receives the first three messages that fit it and that an earlier receive has taken which names less.
+/// For each of the receives the first three messages that fit it and that an earlier receive has taken which names
+/// less.
 pub(crate) fn taken_of(
     alloc: Global,
     know: &Knowledge,
@@ -290,6 +292,7 @@ pub(crate) struct Takers<'a> {
 }
 
 impl<'a> Takers<'a> {
+    /// The open receives of these operations. Fails with `AllocError` when memory is refused.
     pub fn of(
         alloc: Global,
         ops: &'a [RankOps],
@@ -299,7 +302,7 @@ impl<'a> Takers<'a> {
         Ok(Takers { opened, reaches })
     }
 
-    /// The message with the first open receive that may have taken it.
+    /// The message with the first open receive that may have taken it. Fails with `AllocError` when memory is refused.
     pub fn taken(&self, alloc: Global, m: &Message) -> Result<Option<TakenBy>, AllocError> {
         match first_taker(alloc, self.reaches, &self.opened, m)? {
             Some(by) => Ok(Some(TakenBy { message: *m, by })),

@@ -30,7 +30,7 @@ fn begin_with(first: Option<u64>, events: &Readable<'_>) -> Option<u64> {
     first
 }
 
-/// The first wall time of a readable Enter.
+/// The earliest wall time of a readable Enter.
 fn begin_of(know: &Knowledge, ranks: u32) -> Option<u64> {
     let mut first = None;
     for rank in 0..ranks {
@@ -39,7 +39,7 @@ fn begin_of(know: &Knowledge, ranks: u32) -> Option<u64> {
     first
 }
 
-/// The last wall time of anything that is known.
+/// The latest wall time of anything that is known.
 fn end_of(know: &Knowledge) -> Option<u64> {
     let mut last = None;
     for (_, _, known) in know.cells() {

@@ -67,7 +67,7 @@ pub(crate) struct Run<'a> {
     pub ops: &'a [RankOps],
     pub pairs: &'a PairTable,
     pub pollers: &'a [Poller<'a>],
-    /// Of each rank, whether it waits or polls.
+    /// For each rank, whether it waits or polls.
     pub waits: &'a [bool],
     pub held: &'a [bool],
 }

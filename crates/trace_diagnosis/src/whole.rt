@@ -425,8 +425,8 @@ fn ops_in(alloc: Global, layout: &Layout, know: &Knowledge) -> Result<Vec<RankOp
     Ok(ops)
 }
 
-/// What holds up a run: a function of what is known of it. `answer` is that of the layout and of what is known; `cut[r]` says
-/// that the readable prefix of rank r ends where its text was cut.
+/// What holds up a run: a function of what is known of it. `answer` is the answer to what is known; `cut[r]` says that
+/// the readable prefix of rank r ends where its text was cut off. Fails with `AllocError` when memory is refused.
 pub fn diagnose(
     alloc: Global,
     layout: &Layout,

@@ -34,8 +34,8 @@ pub record IsReached (from to : ℕ) (piece run : Run) : Type 0 where
   pub low : from ≤ run.first
   pub high : end_place run ≤ to
 
--- So many runs from an index on can go into the base, where a piece goes too. The runs before them end before the lowest
--- place that the base has room for, and the next one after them begins past the piece.
+-- So many runs from an index on can go into the base, where a piece goes too. The runs before them end before the
+-- lowest place that the base has room for, and the next one after them begins past the piece.
 pub record AllGoInto (low at count : ℕ) (runs : List Run) (base piece : Run) : Type 0 where
   pub bound : at + count ≤ length runs
   pub before : last_end 0 (take at runs) < spot piece.rank low

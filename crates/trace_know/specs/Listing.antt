@@ -30,7 +30,8 @@ conflicts_of view = conflicts_in (entries view)
 abbrev pub is_behind : ℕ × ℕ → ℕ × ℕ → Bool
 is_behind before here = (before.0 == here.0) && (before.1 + 1 == here.1)
 
--- how many cells stand behind a place without a gap: the first right behind it, and each other right behind the one before
+-- how many cells stand behind a place without a gap: the first right behind it, and each other right behind the one
+-- before
 abbrev pub run_behind : ℕ × ℕ → List ((ℕ × ℕ) × Known) → ℕ
 run_behind before [] = 0
 run_behind before (e ∷ es) = if is_behind before e.0 then suc (run_behind e.0 es) else 0

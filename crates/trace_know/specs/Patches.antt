@@ -37,8 +37,8 @@ Covers patch runs = (i j : ℕ) (d e : Run) → i < length runs → j < length p
     → start_of (slice_index_or runs i d) ≤ end_of (slice_index_or patch j e) → start_of (slice_index_or patch j e) ≤ end_of (slice_index_or runs i d)
     → join (of_run (slice_index_or patch j e)) (of_run (slice_index_or runs i d)) ≡ of_run (slice_index_or patch j e)
 
--- What holds while the last runs of two lists go over, one after another, to a third, which falls: what is left of either
--- list and then what went over rise, and a run of the patch has all that those of the runs have that it touches.
+-- What holds while the last runs of two lists go over, one after another, to a third, which falls: what is left of
+-- either list and then what went over rise, and a run of the patch has all that those of the runs have that it touches.
 pub record IsMerging (runs patch falling : List Run) : Type 0 where
   pub before_runs : Above 0 (runs ++ reverse falling)
   pub before_patch : Above 0 (patch ++ reverse falling)

@@ -29,7 +29,8 @@ pub record GoesInto (low : ℕ) (base piece run : Run) : Type 0 where
   pub room : HasRoomFrom low base run
   pub shorter : IsNoLonger run base
 
--- the run can take in a piece: one of its rank that touches it, at places of a trace, and the run counts its cells rightly
+-- the run can take in a piece: one of its rank that touches it, at places of a trace, and the run counts its cells
+-- rightly
 pub record CanTakeIn (piece run : Run) : Type 0 where
   pub rank : piece.rank ≡ run.rank
   pub touches : Touches piece run

@@ -1,4 +1,4 @@
-//! A run as it stands in a list: in memory of its own, so that what moves is a pointer.
+//! A run as it stands in a list: in memory of its own, so that moving it moves only a pointer.
 //!
 //! In a contract a boxed run is the run. So `absorb`, `extend`, `fill` and `give_back` have the clauses of those of the
 //! same name in `run`: they open the box, which a list of pointers asks for, and hand on.
@@ -36,6 +36,7 @@ impl Model for BoxedRun {
 }
 
 impl BoxedRun {
+    /// The run, moved into memory of its own. Fails with `AllocError` when memory is refused, and the run is dropped.
     pub(crate) fn new(alloc: Global, run: Run) -> Result<BoxedRun, AllocError>
         ensures { IfOk result (λ boxed. boxed ≡ run) }
     {
@@ -43,6 +44,7 @@ impl BoxedRun {
         Ok(BoxedRun { run })
     }
 
+    /// A reference to the run.
     pub(crate) fn get(&self) -> &Run
         ensures { result.now ≡ self.now }
     {
@@ -56,17 +58,19 @@ impl BoxedRun {
         Box::into_inner(self.run)
     }
 
-    /// Whose memory it stands in.
+    /// The allocator of its memory.
     pub(crate) fn allocator(&self) -> Global {
         *Box::allocator(&self.run)
     }
 
+    /// The rank of all its cells.
     pub(crate) fn rank(&self) -> u32
         ensures { result ≡ self.now.rank }
     {
         self.run.rank
     }
 
+    /// The place of its first cell.
     pub(crate) fn first(&self) -> u64
         ensures { result ≡ self.now.first }
     {

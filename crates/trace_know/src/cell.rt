@@ -14,7 +14,7 @@ use std::alloc::AllocError;
 pub enum Known {
     /// All that reached this place agreed on this event.
     One(Event),
-    /// Two events reached it that differ. Nothing that comes later clears it.
+    /// Two different events reached it. No later event clears this.
     Contradiction,
 }
 
@@ -43,6 +43,7 @@ impl Known {
         }
     }
 
+    /// Whether events that differ reached the place.
     pub(crate) fn is_contradiction(&self) -> bool
         ensures { result ≡ is_contradiction self.now }
     {
@@ -63,11 +64,11 @@ impl Known {
 /// What is known of a place of a rank.
 #[derive(Clone, Copy, Debug)]
 pub enum Cell<'a> {
-    /// Nothing came for this place.
+    /// Nothing is known of this place.
     Nothing,
     /// All that came agreed on this event.
     One(&'a Event),
-    /// Two events came that differ.
+    /// Two different events came.
     Contradiction,
 }
 

@@ -1,5 +1,5 @@
-//! Runs in chunks, each full but for the last that has any: one that is put among them moves those behind it in its chunk,
-//! and the last of each full one behind.
+//! Runs in chunks, each full but for the last that has any: one that is put among them moves those behind it in its
+//! chunk, and the last of each full one behind.
 
 ghost use Rattle.std.specs.Prelude.{◌≡◌, ◌+◌, ◌-◌, ◌<◌, ◌≤◌, ◌++◌, ◌∷◌, [], length, OnOk};
 ghost use Rattle.std.specs.List.{insert};

@@ -17,10 +17,9 @@ const FEW_EVENTS: usize = 131_072;
 /// How many events a piece has on average where joining them in any order is cheap.
 const LONG_PIECE: usize = 1_024;
 
-/// What pieces tell together, whatever order they come in. They are held back and joined in the order
-/// of their places, so that each goes to the end of what is known: a million short pieces cost the
-/// sorting, where [`Knowledge::take`] moves pointers for each new run among others. Long ones are
-/// joined once a hundred thousand events are held.
+/// What pieces say together, in whatever order they come. Short pieces are held back, sorted and joined in the order of
+/// their places, so that each is appended to what is known: a million of them cost one sort, where [`Knowledge::take`]
+/// would move pointers for each new run. Long pieces are joined once a hundred thousand events are held.
 ///
 /// In a contract it is the view of all that was read.
 #[derive(Debug, Drop)]
@@ -47,7 +46,7 @@ impl Model for Gathering {
 }
 
 impl Gathering {
-    /// Nothing was read. Takes no memory.
+    /// A gathering that has read nothing. Takes no memory.
     pub fn new(alloc: Global) -> Gathering
         ensures { result ≡ empty }
     {
@@ -59,7 +58,8 @@ impl Gathering {
         }
     }
 
-    /// The gathering once it has read one piece more.
+    /// The gathering with one more piece. On an error the gathering is lost. Fails with `AllocError` when memory is
+    /// refused.
     pub fn reading(self, piece: ReadyPiece) -> Result<Gathering, AllocError>
         ensures { IfOk result (λ g. g ≡ join self (view_of (facts_of piece))) }
     {
@@ -70,7 +70,7 @@ impl Gathering {
         Ok(more)
     }
 
-    /// All that was read, joined.
+    /// The join of all that was read. Fails with `AllocError` when memory is refused.
     pub fn into_knowledge(self) -> Result<Knowledge, AllocError>
         ensures { IfOk result (λ know. know ≡ self) }
     {

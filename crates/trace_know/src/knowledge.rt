@@ -49,7 +49,7 @@ fn only_run(runs: &RunList) -> Option<&BoxedRun>
 pub struct Knowledge {
     alloc: Global,
     runs: RunList,
-    /// No fewer than there are cells.
+    /// An upper bound on the number of cells.
     most: usize,
 }
 
@@ -72,7 +72,7 @@ impl Model for Knowledge {
 }
 
 impl Knowledge {
-    /// Nothing is known. Takes no memory.
+    /// Knowledge of nothing. Takes no memory.
     pub fn new(alloc: Global) -> Knowledge
         ensures { result ≡ empty }
     {
@@ -83,7 +83,7 @@ impl Knowledge {
         }
     }
 
-    /// Joins the facts of the segment. Without memory nothing changes.
+    /// Joins the facts of the segment. If memory runs out, nothing changes.
     pub fn take(&mut self, segment: &Segment) -> Result<(), AllocError>
         ensures ok { OnOk result (self.new ≡ join self.old (view_of (facts_of segment.now))) }
         ensures err { OnErr result (self.new ≡ self.old) }
@@ -102,8 +102,8 @@ impl Knowledge {
         Ok(())
     }
 
-    /// Joins the facts of a segment that is not needed any more: its events are moved, where
-    /// [`take`](Self::take) copies them. Without memory nothing changes, and the segment comes back.
+    /// Joins the facts of a segment that is not needed any more: its events are moved, where [`take`](Self::take)
+    /// copies them. If memory runs out, nothing changes and the segment comes back.
     pub fn take_owned(&mut self, segment: Segment) -> Result<(), AllocFailed<Segment>>
         ensures ok { OnOk result (self.new ≡ join self.old (view_of (facts_of segment))) }
         ensures err { OnErr result (self.new ≡ self.old) }
@@ -119,8 +119,8 @@ impl Knowledge {
         }
     }
 
-    /// Joins the facts of a segment that stands ready, by [`ReadySegment::new`]: it takes no memory for
-    /// the events themselves. Without memory nothing changes, and the segment comes back.
+    /// Joins the facts of a segment that stands ready, by [`ReadySegment::new`]: it takes no memory for the events
+    /// themselves. If memory runs out, nothing changes and the segment comes back.
     pub fn take_ready(&mut self, segment: ReadySegment) -> Result<(), AllocFailed<ReadySegment>>
         ensures ok { OnOk result (self.new ≡ join self.old (view_of (facts_of segment))) }
         ensures err { OnErr result (self.new ≡ self.old) }
@@ -134,8 +134,8 @@ impl Knowledge {
         }
     }
 
-    /// Joins the facts of a piece that stands ready, as [`take_ready`](Self::take_ready) does those of a segment. Without
-    /// memory nothing changes, and the piece comes back.
+    /// Joins the facts of a piece that stands ready, as [`take_ready`](Self::take_ready) does those of a segment. If
+    /// memory runs out, nothing changes and the piece comes back.
     pub fn take_piece(&mut self, piece: ReadyPiece) -> Result<(), AllocFailed<ReadyPiece>>
         ensures ok { OnOk result (self.new ≡ join self.old (view_of (facts_of piece))) }
         ensures err { OnErr result (self.new ≡ self.old) }
@@ -172,9 +172,9 @@ impl Knowledge {
         }
     }
 
-    /// Joins all that the other knows. Without memory nothing changes. A run alone goes on at the end of
-    /// ours at the cost of its own cells. Of more than one it costs what they have and those of ours that
-    /// touch one which tells more; of all others a pointer moves.
+    /// Joins all that the other knows. If memory runs out, nothing changes. A single run that continues ours costs its
+    /// own cells. Several runs cost their cells and those of our runs that touch one with something new; for every
+    /// other run of ours a pointer is moved.
     pub fn join(&mut self, other: &Knowledge) -> Result<(), AllocError>
         ensures ok { OnOk result (self.new ≡ join self.old other.now) }
         ensures err { OnErr result (self.new ≡ self.old) }
@@ -199,7 +199,7 @@ impl Knowledge {
         Ok(())
     }
 
-    /// Joins all that the other knows, by a patch of what it tells anew.
+    /// Joins all that the other knows, by a patch of its runs with something new.
     fn join_patch(&mut self, other: &Knowledge) -> Result<(), AllocError>
         ensures ok { OnOk result (self.new ≡ join self.old other.now) }
         ensures err { OnErr result (self.new ≡ self.old) }
@@ -210,8 +210,8 @@ impl Knowledge {
         Ok(())
     }
 
-    /// Sets the cell of a place past all that are known: to an event, or to a contradiction (`None`).
-    /// Without memory nothing changes.
+    /// Sets the cell of a place past all known places: to an event, or to a contradiction (`None`). If memory runs out,
+    /// nothing changes.
     pub fn put_last(
         &mut self,
         rank: u32,
@@ -229,9 +229,8 @@ impl Knowledge {
         Ok(())
     }
 
-    /// Sets the cells of a rank from a place on, one place after another, all past what is known. The
-    /// list becomes the cells: none is moved where no place that is known touches them. Without
-    /// memory nothing changes.
+    /// Sets the cells of a rank from a place on, one place after another, all past what is known. The list becomes the
+    /// cells, without a move unless a known place touches them. If memory runs out, nothing changes.
     pub fn put_run(&mut self, rank: u32, first: u64, cells: Vec<Known>) -> Result<(), AllocError>
         requires some { 0 < length cells.items }
         requires places { first + length cells.items ≤ PLACES }
@@ -248,16 +247,16 @@ impl Knowledge {
         Ok(())
     }
 
-    /// All places that something is known of, in rising order of rank and place: the rank, the
-    /// place, and what is known of it. One walk where [`cell_at`](Self::cell_at) would look each up.
+    /// All places of which something is known, in rising order of rank and place: the rank, the place, and what is
+    /// known of it. A walk is cheaper than looking each place up with [`cell_at`](Self::cell_at).
     pub fn cells(&self) -> Walk<'_>
         ensures { result ≡ entries self.now }
     {
         Walk::new(&self.runs)
     }
 
-    /// Whether each place is known here at least as far as the other knows it: nothing is below one
-    /// event, and each event is below a contradiction.
+    /// Whether each place is known here at least as well as in the other: nothing is below one event, and each event is
+    /// below a contradiction.
     pub fn contains(&self, other: &Knowledge) -> bool
         ensures { IsTrue result ↔ IsBelow other.now self.now }
     {
@@ -271,15 +270,14 @@ impl Knowledge {
         cell_of(self.known_at(rank, place))
     }
 
-    /// How many places something is known of.
+    /// How many places are known.
     pub fn count(&self) -> usize
         ensures { result ≡ len self.now }
     {
         count_cells(&self.runs)
     }
 
-    /// The `i`-th place that something is known of, in rising order of rank and place: the rank,
-    /// the place, and what is known of it.
+    /// The `i`-th known place, from 0, in rising order of rank and place: the rank, the place, and what is known of it.
     pub fn cell_at(&self, i: usize) -> Option<(u32, u64, Cell<'_>)>
         ensures { option_map (λ at. ((at.0, at.1), shown at.2)) result ≡ slice_get (cells_of self.now) i }
     {
@@ -301,8 +299,8 @@ impl Knowledge {
         conflict_in(&self.runs, i)
     }
 
-    /// The ranks and the places of all contradictions, in rising order of rank and place: one walk
-    /// where asking for each by its number would be one for each.
+    /// The ranks and the places of all contradictions, in rising order of rank and place, found in one walk. Fails with
+    /// `AllocError` when memory is refused.
     pub fn conflict_places(&self, alloc: Global) -> Result<Vec<(u32, u64)>, AllocError>
         ensures { IfOk result (λ places. places.items ≡ conflicts_of self.now) }
     {
@@ -332,7 +330,7 @@ impl Knowledge {
         is_unread_in(&self.runs, rank)
     }
 
-    /// The events below the readable prefix of a rank, in order. It takes no memory: they are read where they stand.
+    /// The events below the readable prefix of a rank, in order. It takes no memory: the events are borrowed.
     pub fn readable(&self, rank: u32) -> Readable<'_>
         ensures { result ≡ events_of self.now rank }
     {
@@ -346,6 +344,8 @@ impl Knowledge {
         same_cells(self.cells(), other.cells())
     }
 
+    /// A copy of all that is known. Fails with `AllocError` when memory is refused. Time and memory are linear in the
+    /// number of cells.
     pub fn try_clone(&self) -> Result<Knowledge, AllocError>
         ensures { IfOk result (λ copy. copy ≡ self.now) }
     {
@@ -370,7 +370,7 @@ impl Knowledge {
         known_in(&self.runs, rank, place)
     }
 
-    /// Joins the cells of a run. Without memory nothing changes, and the run comes back.
+    /// Joins the cells of a run. If memory runs out, nothing changes and the run comes back.
     fn join_piece(&mut self, piece: BoxedRun) -> Result<(), BoxedRun>
         requires filled { IsFilled piece }
         requires placed { IsKnowledge (of_run piece) }

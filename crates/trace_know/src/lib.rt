@@ -1,17 +1,16 @@
 //! Facts, the segments that bring them, and knowledge: the join of what came.
 //!
-//! A fact is an event at a place of a rank. Facts come in segments, in any order, cut and repeated
-//! in any way; [`Knowledge`] holds for each place what they say of it together: nothing, one
-//! event, or a contradiction. So two of them that took the same facts are the same. In a contract
-//! it is seen as that view, never as what it keeps it in.
+//! A fact is an event at a place of a rank. Facts come in segments, in any order, cut and repeated in any way;
+//! [`Knowledge`] holds for each place what they say of it together: nothing, one event, or a contradiction. So two that
+//! took the same facts are equal. A contract sees that view, never how it is stored.
 //!
-//! The cells are kept as runs, stretches of places of a rank without a gap. Taking a segment finds
-//! by halving the runs that it touches, and moves its cells into the longest of them, or that one's
-//! into it: at a run's end it costs its own cells, and in any order of the segments a cell moves as
-//! often as the logarithm of their number. The list of runs is cut into chunks of 1,024: a new run among
-//! others moves some pointers of its chunk, and one of each chunk behind. Joining other knowledge costs its
-//! cells, and of ours those of the runs that it touches with something new; of all others a pointer is moved.
-//! The readable prefix of a rank is one halving, and so is a cell. A walk over all cells takes no memory.
+//! The cells are kept as runs, stretches of places of a rank without a gap. Taking a segment finds by binary search the
+//! runs that it touches, and moves its cells into the longest of them, or that one's into it: at a run's end it costs
+//! its own cells, and in any order of the segments a cell moves as often as the logarithm of their number. The list of
+//! runs is cut into chunks of 1,024: a new run among others moves some pointers of its chunk, and one of each chunk
+//! behind. Joining other knowledge costs its cells, and of ours those of the runs that it touches with something new;
+//! of all others a pointer is moved. The readable prefix of a rank is one halving, and so is a cell. A walk over all
+//! cells takes no memory.
 //!
 //! - [`cell`]: what is known of one place
 //! - [`segment`]: events of one rank at consecutive places; [`ready`]: such whose events stand as cells;

@@ -86,8 +86,8 @@ fn is_behind(runs: &RunList, others: &RunList) -> bool
     true
 }
 
-/// Takes the last run out of two lists: it goes over to those that fall. One of the runs that a run of the patch
-/// touches is let go, since that one has all of it.
+/// Takes the last run out of two lists: it goes over to those that fall. A run that a run of the patch touches is
+/// dropped, since the patch has all of its cells.
 fn merge_last(runs: &mut RunList, patch: &mut RunList, falling: &mut Vec<BoxedRun>)
     requires some { 0 < length runs.old.items + length patch.old.items }
     requires room { vec_len falling.old < vec_capacity falling.old }

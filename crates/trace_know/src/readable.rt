@@ -65,7 +65,7 @@ impl<'a> Clone for Readable<'a> {
 }
 
 impl<'a> Readable<'a> {
-    /// Nothing is readable.
+    /// An empty list: nothing is readable.
     pub(crate) fn nothing() -> Readable<'a>
         ensures { result ≡ [] }
     {

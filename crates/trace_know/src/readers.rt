@@ -47,7 +47,7 @@ pub(crate) fn cell_in(runs: &RunList, i: usize) -> Option<(u32, u64, &Known)>
     None
 }
 
-/// What is known of a place, its run found by halving.
+/// What is known of a place, its run found by binary search.
 pub(crate) fn known_in(runs: &RunList, rank: u32, place: u64) -> Option<&Known>
     requires { Above 0 runs.now.items }
     ensures { option_copied result ≡ get (of_runs runs.now.items) (rank, place) }

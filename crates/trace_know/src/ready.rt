@@ -17,9 +17,9 @@ use mpi_model::Event;
 use std::alloc::{AllocError, AllocFailed, Global};
 use std::marker::Model;
 
-/// A segment whose events stand as they do in what is known:
-/// [`Knowledge::take_ready`](crate::Knowledge::take_ready) moves a pointer for it where no place that
-/// is known touches it. So who reads can make it ready, and who joins has less to do.
+/// A segment whose events already have the form in which knowledge keeps them:
+/// [`Knowledge::take_ready`](crate::Knowledge::take_ready) only moves a pointer if no known place touches it. So the
+/// reading thread does the work, and the joining thread has less to do.
 ///
 /// In a contract it is the segment.
 #[derive(Debug, Drop)]
@@ -39,7 +39,7 @@ impl Model for ReadySegment {
 }
 
 impl ReadySegment {
-    /// Makes a segment ready: its events are moved. Without memory it comes back.
+    /// Makes a segment ready: its events are moved. If memory runs out, the segment comes back.
     pub fn new(alloc: Global, segment: Segment) -> Result<ReadySegment, AllocFailed<Segment>>
         ensures ok { IfOk result (λ ready. ready ≡ segment) }
         ensures back { IfErr result (λ refused. refused.value ≡ segment) }
@@ -54,7 +54,7 @@ impl ReadySegment {
         }
     }
 
-    /// The segment as it was before, its events in a list. Without memory it stays ready, and comes back.
+    /// The segment as it was before, with its events in a list. If memory runs out, the ready segment comes back.
     pub fn into_segment(self, alloc: Global) -> Result<Segment, AllocFailed<ReadySegment>>
         ensures ok { IfOk result (λ segment. segment ≡ self) }
         ensures back { IfErr result (λ refused. refused.value ≡ self) }
@@ -96,6 +96,7 @@ impl ReadySegment {
         let _ = &self.piece;
     }
 
+    /// An equal segment, which stands ready too, in memory of its own. Fails with `AllocError` when memory is refused.
     pub fn try_clone(&self) -> Result<ReadySegment, AllocError>
         ensures { IfOk result (λ copy. copy ≡ self.now) }
     {
@@ -121,8 +122,8 @@ impl ReadySegment {
     }
 }
 
-/// Events that are to be a segment or a piece, each put where it stands in what is known: they become a [`ReadySegment`]
-/// or a [`ReadyPiece`], and none is moved.
+/// Events of a segment or a piece to come, each in the form in which knowledge keeps it: they become a [`ReadySegment`]
+/// or a [`ReadyPiece`] without a move.
 ///
 /// In a contract they are their list.
 #[derive(Debug, Drop)]
@@ -145,7 +146,7 @@ impl Model for ReadyEvents {
 }
 
 impl ReadyEvents {
-    /// No events. Takes no memory.
+    /// An empty list of events. Takes no memory.
     pub fn new(alloc: Global) -> ReadyEvents
         ensures { result ≡ [] }
     {
@@ -155,7 +156,7 @@ impl ReadyEvents {
         }
     }
 
-    /// No events, and room for so many.
+    /// An empty list of events, with room for this many. Fails with `AllocError` when memory is refused.
     pub fn with_capacity(alloc: Global, capacity: usize) -> Result<ReadyEvents, AllocError>
         ensures { IfOk result (λ events. events ≡ []) }
     {
@@ -165,7 +166,7 @@ impl ReadyEvents {
         })
     }
 
-    /// Whose memory they stand in.
+    /// The allocator of their memory.
     pub fn allocator(&self) -> Global {
         *self.cells.allocator()
     }
@@ -177,7 +178,7 @@ impl ReadyEvents {
         self.cells.len()
     }
 
-    /// Puts an event behind the others.
+    /// Appends an event. On `AllocError`, when memory is refused, nothing changes.
     pub fn push(&mut self, event: Event) -> Result<(), AllocError>
         ensures ok { OnOk result (self.new ≡ self.old ++ event ∷ []) }
         ensures err { OnErr result (self.new ≡ self.old) }
@@ -187,7 +188,7 @@ impl ReadyEvents {
         Ok(())
     }
 
-    /// Puts the two events of a call behind the others, or neither.
+    /// Appends the two events of a call, or neither. On `AllocError`, when memory is refused, nothing changes.
     pub fn push_both(&mut self, enter: Event, exit: Event) -> Result<(), AllocError>
         ensures ok { OnOk result (self.new ≡ self.old ++ enter ∷ exit ∷ []) }
         ensures err { OnErr result (self.new ≡ self.old) }
@@ -198,7 +199,8 @@ impl ReadyEvents {
         Ok(())
     }
 
-    /// The segment of these events, ready, from the Enter of its call `first_call` on. No event is moved.
+    /// The segment of these events, ready, from the Enter of its call `first_call` on. No event is moved. Fails with
+    /// `AllocError` when memory is refused.
     pub fn into_ready(self, rank: u32, first_call: u64) -> Result<ReadySegment, AllocError>
         requires some { 0 < length self }
         requires most { length self ≤ MOST_EVENTS }
@@ -213,8 +215,8 @@ impl ReadyEvents {
         })
     }
 
-    /// The piece of these events, ready, from the Enter of its call `first_call` on, however many there are. No event is
-    /// moved.
+    /// The piece of these events, ready, from the Enter of its call `first_call` on, however many there are. No event
+    /// is moved. Fails with `AllocError` when memory is refused.
     pub fn into_piece(self, rank: u32, first_call: u64) -> Result<ReadyPiece, AllocError>
         requires some { 0 < length self }
         requires places { enter_place first_call + length self ≤ PLACES }
@@ -227,7 +229,7 @@ impl ReadyEvents {
         Ok(ReadyPiece::of_run(run))
     }
 
-    /// The events in a list, each of which is moved.
+    /// The events in a list, each of which is moved. Fails with `AllocError` when memory is refused.
     pub fn into_events(self) -> Result<Vec<Event>, AllocError>
         ensures { IfOk result (λ events. events.items ≡ self) }
     {

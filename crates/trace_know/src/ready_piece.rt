@@ -8,9 +8,9 @@ use crate::boxed::BoxedRun;
 use crate::ready::ReadySegment;
 use std::marker::Model;
 
-/// The events of a rank's piece whole, from the Enter of a call on, as they stand in what is known:
-/// [`Knowledge::take_piece`](crate::Knowledge::take_piece) moves a pointer for it where no place that is known touches it.
-/// A segment has at most [`MOST_EVENTS`](crate::MOST_EVENTS) of them, a piece any number.
+/// All events of a rank's piece, from the Enter of a call on, in the form in which knowledge keeps them:
+/// [`Knowledge::take_piece`](crate::Knowledge::take_piece) only moves a pointer if no known place touches it. A segment
+/// has at most [`MOST_EVENTS`](crate::MOST_EVENTS) of them, a piece any number.
 ///
 /// In a contract it is its events, with their rank and their first place.
 #[derive(Debug, Drop)]

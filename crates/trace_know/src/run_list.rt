@@ -1,4 +1,5 @@
-//! A list of runs in chunks: to put one among a million others moves about a thousand pointers, and so does taking one out.
+//! A list of runs in chunks: to put one among a million others moves about a thousand pointers, and so does taking one
+//! out.
 
 ghost use Rattle.std.specs.Prelude.{◌≡◌, ◌+◌, ◌-◌, ◌<◌, ◌≤◌, ◌++◌, ◌∷◌, [], length, slice_index_or, slice_set, OnOk, IfOk};
 ghost use Rattle.std.specs.Borrow.{sem};
@@ -35,7 +36,7 @@ impl Model for RunList {
 }
 
 impl RunList {
-    /// No runs. Takes no memory.
+    /// An empty list of runs. Takes no memory.
     pub(crate) fn new(alloc: Global) -> RunList
         ensures { result.items ≡ [] }
     {
@@ -46,7 +47,7 @@ impl RunList {
         }
     }
 
-    /// No runs, and room for so many.
+    /// An empty list of runs, with room for this many.
     pub(crate) fn with_room(alloc: Global, room: usize) -> Result<RunList, AllocError>
         ensures items { IfOk result (λ runs. runs.items ≡ []) }
         ensures room { IfOk result (λ runs. room ≤ runs.room) }

@@ -9,8 +9,8 @@ use crate::cell::Known;
 use crate::run_list::RunList;
 use std::marker::Model;
 
-/// The cells that a walk has left, in rising order of rank and place: the rank, the place, and
-/// what is known there. Each step costs the same, and none takes memory.
+/// The cells that a walk has left, in rising order of rank and place: the rank, the place, and what is known there.
+/// Each step takes constant time and no memory.
 #[derive(Debug, Drop)]
 pub struct Walk<'a> {
     runs: &'a RunList,

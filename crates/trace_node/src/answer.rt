@@ -20,7 +20,7 @@ mod same;
 pub(crate) use gather::{answer_of, reading_of, waiting_call, wall_of, walls_of};
 pub(crate) use parts::Reading;
 
-/// What is told of a layout and of what is known: what the report prints.
+/// The answer to what is known of the run of a layout: all that the report prints.
 #[derive(Debug, Drop)]
 pub struct Answer {
     ranks: u32,
@@ -73,23 +73,23 @@ impl Answer {
         self.sends
     }
 
-    /// The readable prefix of each rank: how far its places are known without a gap, a contradiction
-    /// or an unread call.
+    /// The readable prefix of each rank: how many of its events, from the first on, are known without a gap, a
+    /// contradiction or an unread call.
     pub fn prefixes(&self) -> &[u64]
         ensures { result.now ≡ self.now.prefixes }
     {
         &self.reading.prefixes
     }
 
-    /// Of each rank, whether something is known past its readable prefix.
+    /// For each rank, whether something is known at or past its readable prefix.
     pub fn beyond(&self) -> &[bool]
         ensures { result.now ≡ self.now.beyond }
     {
         &self.reading.beyond
     }
 
-    /// Of each rank, whether its readable prefix ends at the Enter of an unread call. Such a rank is
-    /// [`beyond`](Self::beyond) it.
+    /// For each rank, whether its readable prefix ends at the Enter of an unread call. Such a rank is also
+    /// [`beyond`](Self::beyond).
     pub fn unread(&self) -> &[bool]
         ensures { result.now ≡ self.now.unread }
     {
@@ -103,14 +103,14 @@ impl Answer {
         &self.reading.conflicts
     }
 
-    /// The messages with the receives that take them, in order of the message (MPI 4.0, 3.5).
+    /// The certain pairs: messages with the receives that take them, in order of the message (MPI 4.0, 3.5).
     pub fn pairs(&self) -> &[Pair]
         ensures { result.now ≡ self.now.pairs }
     {
         &self.matching.pairs
     }
 
-    /// The messages in no pair that an untold receive fits, in their order.
+    /// The postponed messages: those in no pair that a receive without a told source fits, in their order.
     pub fn postponed(&self) -> &[OpName]
         ensures { result.now ≡ self.now.postponed }
     {
@@ -124,27 +124,29 @@ impl Answer {
         &self.waiting.rounds
     }
 
-    /// How each rank stands.
+    /// How each rank stands: free, waiting or ended.
     pub fn states(&self) -> &[State]
         ensures { result.now ≡ self.now.states }
     {
         &self.waiting.states
     }
 
-    /// The ranks that wait for ever, in rising order.
+    /// The stuck ranks, in rising order.
     pub fn stuck(&self) -> &[Stuck]
         ensures { map stopped result.now ≡ self.now.stuck }
     {
         &self.waiting.stuck
     }
 
-    /// How many calls were entered that the layout doesn't know. The count stays at `u64::MAX`.
+    /// How many foreign calls were entered: the layout doesn't have their object, peer or root. The count saturates at
+    /// `u64::MAX`.
     pub fn foreign(&self) -> u64
         ensures { result ≡ self.now.foreign }
     {
         self.foreign
     }
 
+    /// The same answer in memory of its own. Fails with `AllocError` when memory is refused.
     pub fn try_clone(&self) -> Result<Answer, AllocError>
         ensures { IfOk result (λ copy. copy ≡ self.now) }
     {
@@ -158,7 +160,7 @@ impl Answer {
         })
     }
 
-    /// Whether both tell the same.
+    /// Whether the two answers are equal.
     pub fn same(&self, other: &Answer) -> bool
         ensures { IsTrue result ↔ (self.now ≡ other.now) }
     {

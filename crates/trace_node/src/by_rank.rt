@@ -15,9 +15,9 @@ use trace_know::{Knowledge, join_laws, listing_laws, prefix_laws};
 use trace_ops::{RankOps, all_ops, ops_laws, ops_of};
 use trace_pair::PairIndex;
 
-/// What is told of the ranks of a layout, one after another, each by what is known of it alone. An answer
-/// needs what a rank did and not its events: so who knows all of one rank can let go of that before the
-/// next one, where a [`Node`](crate::Node) keeps all that is known.
+/// The answer in the making, rank by rank. An answer needs what each rank did and not its events. So a caller that
+/// knows all of one rank can drop its events before the next rank, whereas a [`Node`](crate::Node) keeps all that is
+/// known.
 #[derive(Drop)]
 pub struct RankByRank {
     reading: Reading,
@@ -27,7 +27,7 @@ pub struct RankByRank {
 }
 
 impl RankByRank {
-    /// No rank was told. Takes no memory.
+    /// The answer in the making before the first rank. Takes no memory.
     pub fn new(alloc: Global) -> RankByRank
         ensures { (layout : Parts) → AreTold layout empty 0 result }
     {
@@ -38,7 +38,7 @@ impl RankByRank {
         }
     }
 
-    /// All ranks, of which this is known.
+    /// All ranks at once, by what is known of them. Fails with `AllocError` when memory is refused.
     pub fn of_all(
         alloc: Global,
         layout: &Layout,
@@ -57,7 +57,8 @@ impl RankByRank {
         })
     }
 
-    /// The same with the next rank told, of which this is known.
+    /// Adds the next rank, by what is known of it. On an error the answer in the making is lost. Fails with
+    /// `AllocError` when memory is refused.
     pub fn telling(
         self,
         alloc: Global,
@@ -88,7 +89,7 @@ impl RankByRank {
         })
     }
 
-    /// The answer, once all ranks of the layout were told.
+    /// The answer, once all ranks of the layout were added. Fails with `AllocError` when memory is refused.
     pub fn into_answer(self, alloc: Global, layout: &Layout) -> Result<Answer, AllocError>
         requires { (view : View) × AreTold layout.now view layout.now.ranks self }
         ensures { IfOk result (λ a. (view : View) → AreTold layout.now view layout.now.ranks self → IsAnswer layout.now view a) }

@@ -2,17 +2,16 @@
 
 use thiserror::Error;
 
-/// Why a node took nothing, or has no answer to what it took. Tried in this order.
+/// Why a node took nothing, or has no answer to what it took: the first cause in this order.
 #[derive(Clone, Copy, Debug, PartialEq, Eq, Error)]
 pub enum NodeFault {
     /// A segment or a cell is of a rank that the layout doesn't have. Nothing was taken.
     #[error("N1 Rank")]
     Rank,
-    /// No memory was left for what is known. Nothing was taken.
+    /// Memory for what is known was refused. Nothing was taken.
     #[error("Memory")]
     Memory,
-    /// All was taken, but the answer was dropped: no memory was left for it, or the node was stale
-    /// before.
+    /// All was taken, but there is no answer: memory for it was refused, or the node was stale before.
     #[error("N2 Stale")]
     Stale,
 }

@@ -7,7 +7,7 @@ use trace_ops::ops_laws;
 use trace_pair::tables_are_certain;
 use trace_stuck::rising_lists_are_one;
 
-/// Two answers of one layout and one view are equal: an answer is a function of them.
+/// Two answers for one layout and one view are equal: the answer is a function of them.
 pub fn answers_are_one()
     ensures { AnswersAreOne }
 {
@@ -20,10 +20,11 @@ pub fn stuck_go_by_shape()
     ensures { StuckGoByShape }
 {}
 
-/// The pairs of an answer are certain: each is a couple of every matching that MPI allows, however the ranks
-/// go on and their open receives are told, where no later Cancel names what is sure. Where no receive is open,
-/// no message doubtful, and no two parts of one Startall fit the same, no other is allowed (MPI 4.0, 3.5 and
-/// 3.9), and they are such a matching where also no message of a pair comes after its receive.
+/// The pairs of an answer are certain: each belongs to every matching that MPI allows, however the ranks go on and
+/// whatever sources their open receives get, as long as no later Cancel names a sure message or receive. If no receive
+/// is open, no message doubtful, and no two parts of one Startall fit the same, MPI allows no other matching (3.5 and
+/// 3.9 of MPI 4.0); if also no message of a pair comes after its receive, the pairs are themselves a matching that MPI
+/// allows.
 pub fn answers_are_certain()
     ensures certain { AnswersAreCertain }
     ensures legal { AnswersAreLegal }

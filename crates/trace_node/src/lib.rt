@@ -10,12 +10,11 @@
 //! their events once and the index of pairs for what is new; and for the answer one pass over all
 //! messages, receives, collective calls and pairs.
 //!
-//! Who takes many segments can have them held without an answer ([`Node::hold`]), and ask for one when
-//! it is wanted ([`Node::catch_up`]): then the ranks that changed since they were followed cost their
-//! events once, and the answer its one pass.
+//! A caller with many segments can join them without an answer ([`Node::hold`]) and make one when it is needed
+//! ([`Node::catch_up`]): then each rank that changed costs its events once, and the answer its one pass.
 //!
-//! Where there is no memory for an answer, the knowledge is kept and the node is stale until
-//! [`Node::catch_up`] or [`Node::refresh`]: it loses no fact.
+//! If memory for an answer runs out, the node keeps its knowledge, so no fact is lost, and is stale until
+//! [`Node::catch_up`] or [`Node::refresh`].
 //!
 //! - [`fault`]: why a segment, other knowledge or a question is refused
 //! - [`stuck`]: a stuck rank; [`answer`]: what is told; `answer::parts`: its parts; `answer::gather`:
@@ -27,13 +26,18 @@
 //! - [`laws`]: that there is one answer, that its pairs are certain, and that shapes tell who is stuck, as contracts of
 //!   calls that do nothing
 //!
+//! To change something, open:
+//!
+//! - what an answer says: `specs/Answer.antt`; `src/answer.rt`, and how it is made: `src/answer/gather.rt`
+//! - what a node keeps, and what a refusal leaves: `specs/Node.antt`; [`node`], [`fault`]
+//!
 //! # Choices
 //!
 //! - An answer is a relation with a law that there is one. A computing definition of the stuck ranks would be the
 //!   release once more. It is seen as plain data, with conditions as trees; a tree that holds itself has no code of
 //!   Rattle's own, so the crate writes one.
-//! - A stale node stays stale until it is asked: if the next `take` could mend it, staleness would depend on the order
-//!   of calls.
+//! - A stale node stays stale until [`Node::catch_up`] or [`Node::refresh`]: if the next `take` could mend it,
+//!   staleness would depend on the order of calls.
 //! - A node can hold what comes and answer later, since an answer costs as much as all that is known. Each rank of the
 //!   index may be of an older view of its own, and is brought up to what is known rank by rank.
 //! - What a post and a take do to one node of a schedule is said here too, since the crew doesn't stand on

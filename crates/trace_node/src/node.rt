@@ -21,9 +21,9 @@ use trace_know::{Knowledge, ReadySegment, Segment, join_laws, view_laws};
 use trace_ops::ops_laws;
 use trace_pair::PairIndex;
 
-/// All that is known of the run of a layout, with the answer to it. A stale node has no answer: there
-/// was no memory for it, or what came was only held. It has one again after
-/// [`catch_up`](Self::catch_up) or [`refresh`](Self::refresh); its knowledge is whole.
+/// All that is known of the run of a layout, with the answer to it. A stale node has no answer: memory for it was
+/// refused, or what came was only held. It has one again after [`catch_up`](Self::catch_up) or
+/// [`refresh`](Self::refresh). Its knowledge is complete in any case.
 ///
 /// In a contract a node is seen as its layout, its knowledge, and whether it is stale.
 #[derive(Drop)]
@@ -53,7 +53,7 @@ impl<'a> Model for Node<'a> {
 }
 
 impl<'a> Node<'a> {
-    /// A node that knows nothing.
+    /// A node that knows nothing. Fails with `AllocError` when memory is refused.
     pub fn new(alloc: Global, layout: &'a Layout) -> Result<Node<'a>, AllocError>
         ensures { IfOk result (λ n. n ≡ held layout.now empty false) }
     {
@@ -63,8 +63,8 @@ impl<'a> Node<'a> {
         Ok(node)
     }
 
-    /// A node that knows what was gathered, as one that is new and merges it, but without a copy.
-    /// Where it is refused, the knowledge is gone.
+    /// A node that takes over this knowledge: as a new one that merges it, but without a copy. On an error the
+    /// knowledge is lost.
     pub fn of(alloc: Global, layout: &'a Layout, know: Knowledge) -> Result<Node<'a>, NodeFault>
         ensures ok { IfOk result (λ n. n ≡ held layout.now know false) }
         ensures rank { IsErrOf result NodeFault.Rank ↔ HasStranger layout.now know }
@@ -95,8 +95,8 @@ impl<'a> Node<'a> {
         })
     }
 
-    /// Joins the facts of the segment, and makes the answer to all that is known then. A stale node
-    /// joins them too, and stays stale.
+    /// Joins the facts of the segment and makes the new answer. A stale node joins them too, and stays stale. At `Rank`
+    /// and `Memory` nothing changes; at `Stale` the facts are joined, and the node has no answer.
     pub fn take(&mut self, segment: &Segment) -> Result<(), NodeFault>
         ensures ok { OnOk result (self.new ≡ held_with self.old (view_of (facts_of segment.now)) false) }
         ensures fresh { OnOk result (self.old.is_stale ≡ false) }
@@ -111,8 +111,9 @@ impl<'a> Node<'a> {
         self.answer_again(was_stale)
     }
 
-    /// Joins the facts of the segment, and makes no answer: the node is stale then. So many segments
-    /// can be held, and then answered at once, by [`catch_up`](Self::catch_up).
+    /// Joins the facts of the segment without making an answer: the node is stale then. Many segments can be held like
+    /// this and then answered at once, by [`catch_up`](Self::catch_up). At a fault, `Rank` or `Memory`, nothing
+    /// changes.
     pub fn hold(&mut self, segment: &Segment) -> Result<(), NodeFault>
         ensures ok { OnOk result (self.new ≡ held_with self.old (view_of (facts_of segment.now)) true) }
         ensures rank { IsErrOf result NodeFault.Rank ↔ (self.old.layout.ranks ≤ segment.now.rank) }
@@ -130,9 +131,8 @@ impl<'a> Node<'a> {
         Ok(())
     }
 
-    /// Joins the facts of a segment that stands ready, as [`hold`](Self::hold) does, which copies its
-    /// events: here they are copied only where what is known is shown to others. Where it is refused
-    /// nothing changes, and the segment comes back with why.
+    /// As [`hold`](Self::hold), which copies the segment's events, but for a ready segment: its events are copied only
+    /// if others share what the node knows. On an error nothing changes, and the segment comes back with the cause.
     pub fn hold_ready(&mut self, segment: ReadySegment) -> Result<(), (ReadySegment, NodeFault)>
         ensures ok { OnOk result (self.new ≡ held_with self.old (view_of (facts_of segment)) true) }
         ensures inside { OnOk result (segment.rank < self.old.layout.ranks) }
@@ -156,8 +156,9 @@ impl<'a> Node<'a> {
         }
     }
 
-    /// Joins all that the other knows, and makes the answer to all that is known then; where that is
-    /// nothing new, the answer stays. A stale node joins it too, and stays stale.
+    /// Joins all that the other knows and makes the new answer; if nothing is new, the answer stays. A stale node joins
+    /// it too, and stays stale. At `Rank` and `Memory` nothing changes; at `Stale` all is joined, and the node has no
+    /// answer.
     pub fn merge(&mut self, other: &Knowledge) -> Result<(), NodeFault>
         ensures ok { OnOk result (self.new ≡ held_with self.old other.now false) }
         ensures fresh { OnOk result (self.old.is_stale ≡ false) }
@@ -182,8 +183,8 @@ impl<'a> Node<'a> {
         self.answer.is_some() && self.know.get().contains(other)
     }
 
-    /// Joins all that the other knows, and makes no answer: the node is stale then, unless that is
-    /// nothing new and it had an answer, which stays.
+    /// Joins all that the other knows without making an answer: the node is stale then, unless nothing is new and it
+    /// had an answer, which stays. At a fault, `Rank` or `Memory`, nothing changes.
     pub fn hold_all(&mut self, other: &Knowledge) -> Result<(), NodeFault>
         ensures ok { OnOk result (self.new ≡ held_with self.old other.now self.new.is_stale) }
         ensures fresh { OnOk result (self.new.is_stale ≡ false → self.old.is_stale ≡ false) }
@@ -226,9 +227,9 @@ impl<'a> Node<'a> {
         Ok(())
     }
 
-    /// Makes the answer to all that is known, from the index of the pairs where it is kept: ranks whose
-    /// readable events are as they were when they were followed cost nothing but their part of the
-    /// answer. Where there is no memory for it, the node is stale, and the index isn't kept.
+    /// Makes the answer to all that is known, from the index of the pairs if it is kept: a rank whose readable events
+    /// haven't changed since costs only its part of the answer. If memory runs out, the node is stale and the index
+    /// isn't kept.
     pub fn catch_up(&mut self) -> Result<(), AllocError>
         ensures ok { OnOk result (self.new ≡ held self.old.layout self.old.know false) }
         ensures err { OnErr result (self.new ≡ held self.old.layout self.old.know true) }
@@ -243,8 +244,7 @@ impl<'a> Node<'a> {
         Ok(())
     }
 
-    /// Makes the answer anew, from all that is known. Where there is no memory for it, the node is
-    /// stale.
+    /// Makes the answer anew, from all that is known. If memory runs out, the node is stale.
     pub fn refresh(&mut self) -> Result<(), AllocError>
         ensures ok { OnOk result (self.new ≡ held self.old.layout self.old.know false) }
         ensures err { OnErr result (self.new ≡ held self.old.layout self.old.know true) }
@@ -254,7 +254,7 @@ impl<'a> Node<'a> {
         self.catch_up()
     }
 
-    /// The answer to all that is known.
+    /// The answer to all that is known. [`Stale`] comes exactly where the node is stale.
     pub fn answer(&self) -> Result<&Answer, Stale>
         ensures ok { IfOk result (λ a. IsAnswer self.now.layout self.now.know a.now) }
         ensures stale { IsErr result ↔ IsTrue self.now.is_stale }
@@ -272,7 +272,7 @@ impl<'a> Node<'a> {
         self.know.get()
     }
 
-    /// The answer to all that is known, to be shared.
+    /// The answer to all that is known, to be shared. [`Stale`] comes exactly where the node is stale.
     pub fn shared_answer(&self) -> Result<&SharedAnswer, Stale>
         ensures ok { IfOk result (λ a. IsAnswer self.now.layout self.now.know a.now) }
         ensures stale { IsErr result ↔ IsTrue self.now.is_stale }
@@ -290,14 +290,15 @@ impl<'a> Node<'a> {
         &self.know
     }
 
+    /// The layout of the run, which stays the same for the whole life of the node.
     pub fn layout(&self) -> &'a Layout
         ensures { result.now ≡ self.now.layout }
     {
         self.layout
     }
 
-    /// A node that knows the same and shares it, with the answer, until one of both knows more; a stale
-    /// node gives a stale one.
+    /// A node with the same knowledge and answer, which both share until one of them learns more. The copy of a stale
+    /// node is stale. Fails with `AllocError` when memory is refused.
     pub fn try_clone(&self) -> Result<Node<'a>, AllocError>
         ensures { IfOk result (λ copy. copy ≡ self.now) }
     {
@@ -329,8 +330,8 @@ impl<'a> Node<'a> {
     }
 }
 
-/// Puts this in place of what was kept, and lets go of that. It takes several steps, and in a node's own
-/// functions each step would name all that a node holds.
+/// Replaces what was kept by this, and drops what was kept. It takes several steps, and in a node's own functions each
+/// step would name all that a node holds.
 fn put<T: Drop>(kept: &mut Option<T>, value: Option<T>)
     ensures { kept.new ≡ value }
 {

@@ -1,7 +1,7 @@
-//! What a node knows, and its answer, each shared with those to whom it is shown.
+//! What a node knows, and its answer, each shared with the readers to whom it is shown.
 //!
-//! Sharing costs no copy. Who changes what is known and isn't its only owner gets a copy of its own
-//! first, so nobody else sees the change.
+//! Sharing costs no copy. An owner that changes what is known, and isn't the only one, gets a copy of its own first, so
+//! no other owner sees the change.
 
 ghost use Rattle.std.specs.Prelude.{◌≡◌, IfOk, IfErr, OnOk, OnErr};
 ghost use Rattle.trace_know.specs.Trace.{facts_of, view_of};
@@ -47,7 +47,8 @@ impl SharedKnowledge {
         &self.know
     }
 
-    /// One owner more of the same. No copy is made.
+    /// Another owner of the same value. Nothing is copied. Fails with `AllocError` when it already has as many owners
+    /// as can be counted.
     pub fn try_clone(&self) -> Result<SharedKnowledge, AllocError>
         ensures { IfOk result (λ s. s ≡ self.now) }
     {
@@ -57,7 +58,7 @@ impl SharedKnowledge {
         })
     }
 
-    /// Joins the facts of the segment. Without memory nothing changes.
+    /// Joins the facts of the segment. If memory runs out, nothing changes.
     pub(crate) fn take(&mut self, segment: &Segment) -> Result<(), AllocError>
         ensures ok { OnOk result (self.new ≡ join self.old (view_of (facts_of segment.now))) }
         ensures err { OnErr result (self.new ≡ self.old) }
@@ -71,8 +72,7 @@ impl SharedKnowledge {
         Ok(())
     }
 
-    /// Joins the facts of a segment that stands ready. Without memory nothing changes, and the segment
-    /// comes back.
+    /// Joins the facts of a segment that stands ready. If memory runs out, nothing changes and the segment comes back.
     pub(crate) fn take_ready(
         &mut self,
         segment: ReadySegment,
@@ -90,8 +90,8 @@ impl SharedKnowledge {
         }
     }
 
-    /// Joins a copy of a segment that stands ready to a copy of what is known, of which this is the only
-    /// owner from then on. Without memory nothing changes.
+    /// Joins a copy of a segment that stands ready to a copy of what is known, of which this is the only owner from
+    /// then on. If memory runs out, nothing changes.
     fn take_copy(&mut self, segment: &ReadySegment) -> Result<(), AllocError>
         ensures ok { OnOk result (self.new ≡ join self.old (view_of (facts_of segment.now))) }
         ensures err { OnErr result (self.new ≡ self.old) }
@@ -102,7 +102,7 @@ impl SharedKnowledge {
         Ok(())
     }
 
-    /// Joins all that the other knows. Without memory nothing changes.
+    /// Joins all that the other knows. If memory runs out, nothing changes.
     pub(crate) fn join(&mut self, other: &Knowledge) -> Result<(), AllocError>
         ensures ok { OnOk result (self.new ≡ join self.old other.now) }
         ensures err { OnErr result (self.new ≡ self.old) }
@@ -150,7 +150,8 @@ impl SharedAnswer {
         &self.answer
     }
 
-    /// One owner more of the same. No copy is made.
+    /// Another owner of the same value. Nothing is copied. Fails with `AllocError` when it already has as many owners
+    /// as can be counted.
     pub fn try_clone(&self) -> Result<SharedAnswer, AllocError>
         ensures { IfOk result (λ s. s ≡ self.now) }
     {

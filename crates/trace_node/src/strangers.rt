@@ -6,8 +6,8 @@ ghost use Rattle.trace_node.specs.Node.{HasStranger};
 use mpi_model::Layout;
 use trace_know::{Knowledge, listing_laws};
 
-/// Whether something is known of a rank that the layout doesn't have. The cells go by rank, so the
-/// last one tells.
+/// Whether something is known of a rank that the layout doesn't have. The cells are ordered by rank, so the last one
+/// decides.
 pub(crate) fn has_stranger(layout: &Layout, know: &Knowledge) -> bool
     ensures { IsTrue result ↔ HasStranger layout.now know.now }
 {

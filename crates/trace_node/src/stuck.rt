@@ -6,7 +6,7 @@ ghost use Rattle.trace_node.specs.Stopped.{stopped};
 use std::alloc::{AllocError, Global};
 use trace_stuck::Condition;
 
-/// A rank that waits for ever: no run of what is known lets it go on.
+/// A stuck rank: whatever the ranks do next, its call can't return.
 #[derive(Debug, Drop)]
 pub struct Stuck {
     pub rank: u32,
@@ -19,7 +19,7 @@ pub struct Stuck {
 }
 
 impl Stuck {
-    /// A copy, with equal parts.
+    /// A copy, with equal parts. Fails with `AllocError` when memory is refused.
     pub fn try_clone(&self, alloc: Global) -> Result<Stuck, AllocError>
         ensures { IfOk result (λ copy. stopped copy ≡ stopped self.now) }
     {

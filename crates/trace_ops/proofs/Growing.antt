@@ -29,8 +29,8 @@ pub record Same (s t : Step) : Type 0 where
   pub call : t.entry.call ≡ s.entry.call
   pub begun : t.begun ≡ s.begun
 
--- A step goes on: it is as it was, or its call had not returned, and was the last. Of an open call there is one step, with
--- the place 0, or each is a part of a start.
+-- A step goes on: it is as it was, or its call had not returned, and was the last. Of an open call there is one step,
+-- with the place 0, or each is a part of a start.
 abbrev pub Continues : Step → Step → List Step → Type 0
 Continues s t later = (t ≡ s) ⊎ (Same s t × IsOpen s × (((later ≡ []) × (s.part ≡ 0)) ⊎ ((is_start s.entry.call ≡ true) × AreOpen later)))
 

@@ -1,5 +1,5 @@
--- The messages and receives of steps that go on: the old ones are the first of the new ones, and those that come are of later
--- calls.
+-- The messages and receives of steps that go on: the old ones are the first of the new ones, and those that come are of
+-- later calls.
 use Rattle.std.proofs.Common.{◌≡◌, ℕ, Bool, true, false, List, [], ◌∷◌, ◌⊎◌, inl, inr, length, take, refl, sym, ◌∙◌, ap, subst}
 use Rattle.std.specs.Prelude.{ℤ, Option, Some, None, is_some, if◌then◌else◌, slice_get}
 use Rattle.std.specs.List.{AllZip, filter_map, cons_option}

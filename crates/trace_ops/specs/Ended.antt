@@ -4,8 +4,8 @@ use Rattle.mpi_model.specs.declared.outcome.Outs.{Outs}
 use Rattle.trace_ops.specs.Request.{is_completing}
 use Rattle.trace_ops.specs.Steps.{Step, touches}
 
--- The call whose outcome completes the request x, by the steps behind its post: the first of them that touches x, where that
--- completes it.
+-- The call whose outcome completes the request x, by the steps behind its post: the first of them that touches x, where
+-- that completes it.
 abbrev pub ended_by : ℤ → List Step → Option ℕ
 ended_by x [] = None
 ended_by x (s ∷ later) = if touches x s then (if is_completing s.entry then Some s.number else None) else ended_by x later

@@ -12,8 +12,8 @@ use Rattle.trace_ops.specs.Source.{told_in, told_by}
 use Rattle.trace_ops.specs.Touched.{end_of, ended_at, is_marked, is_void_end, tellings_of}
 use Rattle.trace_ops.specs.Trust.{gives_back, has_cancel, said_by}
 
--- Of the request x: what is kept of it tells whether one of these steps ends it or gives its number anew, which call completes
--- it, whether a Cancel names it before that, whether the outcome says that it was cancelled, and its source.
+-- Of the request x: what is kept of it tells whether one of these steps ends it or gives its number anew, which call
+-- completes it, whether a Cancel names it before that, whether the outcome says that it was cancelled, and its source.
 pub record TellsFate (x : ℤ) (later : List Step) (fate : Fate) : Type 0 where
   pub request : fate.request ≡ x
   pub ended : is_some (end_of fate.touch) ≡ list_any (touches x) later

@@ -13,8 +13,8 @@ use Rattle.mpi_model.specs.Ranges.{CollectiveCall}
 use Rattle.mpi_model.specs.Communicators.{members_of}
 use Rattle.mpi_model.specs.Layouts.{Parts, named}
 
--- The group of an object, and the object's id in the layout: ranks of the trace in the order of their ranks in the group (MPI
--- 4.0, 7.2.1).
+-- The group of an object, and the object's id in the layout: ranks of the trace in the order of their ranks in the
+-- group (MPI 4.0, 7.2.1).
 pub record Group : Type 0 where
   pub comm : ℕ
   pub members : List ℕ
@@ -23,8 +23,8 @@ pub record Group : Type 0 where
 abbrev pub group_at : Parts → ℕ → Option Group
 group_at layout comm = option_map (λ members. record { comm = comm; members = members }) (members_of layout.comms comm)
 
--- The group of the object of this sort that call n of a rank names. It has one just where the layout says that the rank, which
--- is then a member, names an object of the sort so in that call.
+-- The group of the object of this sort that call n of a rank names. It has one just where the layout says that the
+-- rank, which is then a member, names an object of the sort so in that call.
 abbrev pub group_named : Parts → ℕ → ℕ → Object → CommRef → Option Group
 group_named layout rank n object comm = option_and_then (group_at layout) (named layout rank n object comm)
 
@@ -39,8 +39,8 @@ abbrev pub is_within : List ℕ → Option ℕ → Bool
 is_within members None = true
 is_within members (Some n) = nat_lt n (length members)
 
--- The root is a rank in the group, where the kind of the call has one. `MPI_ROOT` and `MPI_PROC_NULL` name none in it (MPI
--- 4.0, 6.2.3).
+-- The root is a rank in the group, where the kind of the call has one. `MPI_ROOT` and `MPI_PROC_NULL` name none in it
+-- (MPI 4.0, 6.2.3).
 abbrev pub is_root_within : List ℕ → CollectiveCall → Bool
 is_root_within members c = is_within members c.root && (is_some c.root || not (has_root c.kind))
 
@@ -69,8 +69,8 @@ group_with call g = if are_within g.members call then Some g else None
 abbrev pub group_of : Parts → ℕ → ℕ → Call → Option Group
 group_of layout rank n call = option_and_then (group_with call) (option_and_then (group_named layout rank n (object_of call)) (comm_of call))
 
--- A foreign call: it names an object, and takes part in no group. The layout gives its rank no such communicator, window or
--- file, or its peer or root is outside. A Sendrecv is foreign as a whole.
+-- A foreign call: it names an object, and takes part in no group. The layout gives its rank no such communicator,
+-- window or file, or its peer or root is outside. A Sendrecv is foreign as a whole.
 abbrev pub is_foreign_in : Option Group → Call → Bool
 is_foreign_in g call = is_some (comm_of call) && is_none g
 

@@ -18,8 +18,8 @@ use Rattle.trace_ops.specs.declared.held.Init.{Init as Lent}
 use Rattle.trace_ops.specs.declared.held.Part.{Part}
 use Rattle.trace_ops.specs.declared.ops.gather.Gathered.{Gathered}
 
--- The lists have what these steps tell, turned round; the foreign ones of them are counted, what they touch is followed, and
--- it is told whether one of them may give a message back. The calls are all those of the rank.
+-- The lists have what these steps tell, turned round; the foreign ones of them are counted, what they touch is
+-- followed, and it is told whether one of them may give a message back. The calls are all those of the rank.
 pub record IsGathered (layout : Parts) (rank : ℕ) (calls : List Entry) (steps : List Step) (g : Gathered) : Type 0 where
   pub sends : reverse g.sends.items ≡ sends_of layout rank steps
   pub receives : reverse g.receives.items ≡ receives_of layout rank steps

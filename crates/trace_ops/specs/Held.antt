@@ -11,8 +11,8 @@ pub record Init : Type 0 where
   pub number : ℕ
   pub call : Call
 
--- A call changes what holds the number x: it gives x, to an operation or as an init, or frees it. Starts and completions
--- leave an init its number.
+-- A call changes what holds the number x: it gives x, to an operation or as an init, or frees it. Starts and
+-- completions leave an init its number.
 abbrev pub changes_hold : ℤ → Entry → Bool
 changes_hold x c = is_posted (given_of c.call c.outs) x || is_posted (freed_of c.call c.outs) x
 
@@ -20,8 +20,8 @@ changes_hold x c = is_posted (given_of c.call c.outs) x || is_posted (freed_of c
 abbrev pub hold_by : ℕ → Entry → Option Init
 hold_by n c = if is_init c.call then Some (record { number = n; call = c.call }) else None
 
--- The init that holds the number x after these calls, of which the last stands first: the last of them that changes this
--- decides. The call before which others stand has their count as its number.
+-- The init that holds the number x after these calls, of which the last stands first: the last of them that changes
+-- this decides. The call before which others stand has their count as its number.
 abbrev pub held_in : List Entry → ℤ → Option Init
 held_in [] x = None
 held_in (c ∷ before) x = if changes_hold x c then hold_by (length before) c else held_in before x

@@ -47,8 +47,8 @@ ops_view o = record {
 abbrev pub no_ops : Ops
 no_ops = record { sends = []; receives = []; rounds = []; comms = []; active = []; idle = []; cancelled = []; state = Free; waiting = None; foreign = 0 }
 
--- The messages, the receives, the collective calls and the names of requests that a Cancel names are of this rank, and stand
--- in order of their calls and parts.
+-- The messages, the receives, the collective calls and the names of requests that a Cancel names are of this rank, and
+-- stand in order of their calls and parts.
 pub record IsOwn (rank : ℕ) (ops : Ops) : Type 0 where
   pub sent : (m : Message) → Has ops.sends m → m.name.rank ≡ rank
   pub sent_from : (m : Message) → Has ops.sends m → m.from ≡ rank
@@ -85,8 +85,8 @@ pub record SameSend (old new : Message) : Type 0 where
   pub datatype : new.datatype ≡ old.datatype
   pub void : StaysVoid old.trust new.trust
 
--- The same receive, of which more may be known by now: its source, the call that completes it, a Cancel, or what became of
--- that. A source that was told stays, and the call that completed it.
+-- The same receive, of which more may be known by now: its source, the call that completes it, a Cancel, or what became
+-- of that. A source that was told stays, and the call that completed it.
 pub record TellsMore (old new : Receive) : Type 0 where
   pub name : new.name ≡ old.name
   pub comm : new.comm ≡ old.comm

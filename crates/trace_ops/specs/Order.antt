@@ -10,8 +10,8 @@ abbrev pub Has : {X : Type 0} → List X → X → Type 0
 Has [] x = ⊥
 Has (y ∷ ys) x = (x ≡ y) ⊎ Has ys x
 
--- A message that the same sender sent by an earlier call. The parts of one Startall start in any order, so that none of them
--- is earlier than another.
+-- A message that the same sender sent by an earlier call. The parts of one Startall start in any order, so that none of
+-- them is earlier than another.
 abbrev pub sent_before : Message → Message → Bool
 sent_before a b = (a.from == b.from) && nat_lt a.name.call b.name.call
 

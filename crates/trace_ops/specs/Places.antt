@@ -9,7 +9,8 @@ use Rattle.mpi_model.specs.declared.told.Told.{Told}
 use Rattle.trace_ops.specs.declared.completed.Completed.{Completed}
 use Rattle.trace_ops.specs.Request.{all_of, completions, element_of}
 
--- What each place of an outcome completes: an element of a Waitsome or Testsome whose index is past the list completes nothing.
+-- What each place of an outcome completes: an element of a Waitsome or Testsome whose index is past the list completes
+-- nothing.
 abbrev pub places_of : Call → Option Outs → List (Option Completed)
 places_of (Waitsome requests) (Some (Several elements)) = map (element_of requests) elements
 places_of (Testsome requests) (Some (Several elements)) = map (element_of requests) elements

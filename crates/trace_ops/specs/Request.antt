@@ -1,5 +1,5 @@
--- Requests: which calls give and free their numbers, and which outcomes complete them (MPI 4.0, 3.7.2, 3.7.3, 3.7.5, 3.8.3,
--- 3.9 and 6.12.1).
+-- Requests: which calls give and free their numbers, and which outcomes complete them (MPI 4.0, 3.7.2, 3.7.3, 3.7.5,
+-- 3.8.3, 3.9 and 6.12.1).
 use Rattle.std.specs.Prelude.{ℕ, ℤ, Bool, true, false, ◌&&◌, not, if◌then◌else◌, Option, Some, None, is_none, List, [], ◌∷◌, slice_get}
 use Rattle.std.specs.List.{list_any, filter_map, cons_option}
 use Rattle.std.specs.Option.{option_map}
@@ -19,8 +19,8 @@ use Rattle.trace_ops.specs.Calls.{Entry}
 abbrev pub number_for : ℤ → Option ℤ
 number_for request = if int_eq request null_request then None else Some request
 
--- The number that a returned call gives: to the operation that it starts, or, of an init, to the one that it describes. A
--- foreign call gives one too. A Start gives none: the number that it names has its init's operation.
+-- The number that a returned call gives: to the operation that it starts, or, of an init, to the one that it describes.
+-- A foreign call gives one too. A Start gives none: the number that it names has its init's operation.
 abbrev pub given_of : Call → Option Outs → Option ℤ
 given_of (Isend mode e) (Some (Posted request)) = number_for request
 given_of (Irecv e) (Some (Posted request)) = number_for request
@@ -86,10 +86,10 @@ any_of requests None told = []
 any_of requests (Some position) told = cons_option (indexed requests position told) []
 
 -- The requests that a returned call completes, each with what its place of the outcome tells: that of a Wait, that of a
--- Test whose flag is set, all of a Waitall, the indexed ones of a Waitany or Waitsome, and the same of a Testall, Testany
--- or Testsome. A Testall that found some of its requests pending has a flag in place of statuses, and completes none. The
--- Return of a Free ends its request, and tells nothing (3.7.3). An outcome whose kind doesn't belong to its call completes
--- nothing.
+-- Test whose flag is set, all of a Waitall, the indexed ones of a Waitany or Waitsome, and the same of a Testall,
+-- Testany or Testsome. A Testall that found some of its requests pending has a flag in place of statuses, and completes
+-- none. The Return of a Free ends its request, and tells nothing (3.7.3). An outcome whose kind doesn't belong to its
+-- call completes nothing.
 abbrev pub completions : Call → Option Outs → List Completed
 completions (Wait request) (Some (Status told)) = completes request told ∷ []
 completions (Test request) (Some (Flag done told)) = if done then completes request told ∷ [] else []

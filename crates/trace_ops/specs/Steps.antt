@@ -1,4 +1,5 @@
--- The steps of a rank. A step is a call, or one part of a Start or Startall: each of these starts for itself (MPI 4.0, 3.9).
+-- The steps of a rank. A step is a call, or one part of a Start or Startall: each of these starts for itself (MPI 4.0,
+-- 3.9).
 use Rattle.std.specs.Prelude.{◌≡◌, ℕ, ℤ, ◌+◌, ◌^◌, Bool, true, ◌||◌, nat_lt, if◌then◌else◌, Option, Some, None, is_some, List, [], ◌∷◌, ◌++◌, length, slice_get, slice_index_or, pos}
 use Rattle.std.specs.List.{cons_option}
 use Rattle.std.specs.Option.{option_map}
@@ -17,7 +18,8 @@ pub record Begun : Type 0 where
   pub request : ℤ
   pub init : Init
 
--- a step: the number of its call, its place in the list of a Startall, or else 0, its call, and what it starts of an init
+-- a step: the number of its call, its place in the list of a Startall, or else 0, its call, and what it starts of an
+-- init
 pub record Step : Type 0 where
   pub number : ℕ
   pub part : ℕ
@@ -36,8 +38,8 @@ part_step n part c x init = record { number = n; part = part; entry = c; begun =
 abbrev pub begun_step : ℕ → Entry → Lent → Step
 begun_step n c p = part_step n p.part c p.request (plain_init p.init)
 
--- The part for the number x, behind these calls of which the last stands first: none where no init holds x. An `int` counts
--- the parts, so that one past 2^31 is none.
+-- The part for the number x, behind these calls of which the last stands first: none where no init holds x. An `int`
+-- counts the parts, so that one past 2^31 is none.
 abbrev pub part_of : List Entry → Entry → ℕ → ℤ → Option Step
 part_of before c part x = if nat_lt part (2 ^ 31) then option_map (part_step (length before) part c x) (held_in before x) else None
 
@@ -105,7 +107,8 @@ naming_with n (Some b) = b.init.number
 abbrev pub naming : Step → ℕ
 naming s = naming_with s.number s.begun
 
--- the number that a step gives: a returned part of a Start or Startall gives its init's number anew, whatever the outcome
+-- the number that a step gives: a returned part of a Start or Startall gives its init's number anew, whatever the
+-- outcome
 abbrev pub given_with : Entry → Option Begun → Option ℤ
 given_with c None = given_of c.call c.outs
 given_with c (Some b) = if is_some c.outs then Some b.request else None
@@ -122,8 +125,8 @@ posted_by s = if is_init s.entry.call then None else given_by s
 abbrev pub completed_by : Step → List Completed
 completed_by s = completions s.entry.call s.entry.outs
 
--- The step ends the request x that was posted before: it completes it, frees it, or gives its number anew. (An init that
--- comes to hold x ends an earlier post; what holds x already stays.)
+-- The step ends the request x that was posted before: it completes it, frees it, or gives its number anew. (An init
+-- that comes to hold x ends an earlier post; what holds x already stays.)
 abbrev pub touches : ℤ → Step → Bool
 touches x s = is_posted (given_by s) x || is_completed x (completed_by s)
 

@@ -119,8 +119,8 @@ abbrev pub ended_at : List Entry → Option End → Option ℕ
 ended_at calls None = None
 ended_at calls (Some e) = completing e.call (slice_get calls e.call)
 
--- Of each number it is kept which call of a later step touches it first, with what that tells, and whether a Cancel names it
--- before. The calls are all those of the rank.
+-- Of each number it is kept which call of a later step touches it first, with what that tells, and whether a Cancel
+-- names it before. The calls are all those of the rank.
 pub record Follows (calls : List Entry) (later : List Step) (kept : ℤ → Option Touch) : Type 0 where
   pub ended : (x : ℤ) → is_some (end_of (kept x)) ≡ list_any (touches x) later
   pub by : (x : ℤ) → ended_at calls (end_of (kept x)) ≡ ended_by x later
@@ -152,8 +152,8 @@ NotesCall n c old new = (calls : List Entry) → slice_get calls n ≡ Some c �
 abbrev pub NotesPart : ℕ → Option ℤ → (old new : Touched) → Type 0
 NotesPart n given old new = (calls : List Entry) (s : Step) → IsPartOf calls n s → given ≡ given_by s → Notes calls s old new
 
--- The call has to do with no request, whatever its outcome: it gives no number, starts, completes and frees none, and cancels
--- none.
+-- The call has to do with no request, whatever its outcome: it gives no number, starts, completes and frees none, and
+-- cancels none.
 pub record IsWithoutRequest (call : Call) : Type 0 where
   pub starts : is_start call ≡ false
   pub gives : (outs : Option Outs) → given_of call outs ≡ None

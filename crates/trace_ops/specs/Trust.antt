@@ -24,8 +24,8 @@ cancel_of call = None
 abbrev pub cancels : ℤ → Step → Bool
 cancels x s = is_posted (cancel_of s.entry.call) x
 
--- A Cancel names the request x, which was posted before these steps: it comes before a step that completes x, frees it or
--- posts it anew.
+-- A Cancel names the request x, which was posted before these steps: it comes before a step that completes x, frees it
+-- or posts it anew.
 abbrev pub has_cancel : ℤ → List Step → Bool
 has_cancel x [] = false
 has_cancel x (s ∷ later) = cancels x s || (not (touches x s) && has_cancel x later)
@@ -77,8 +77,8 @@ abbrev pub is_cancelled_post : Option ℤ → List Step → Bool
 is_cancelled_post None later = false
 is_cancelled_post (Some x) later = has_cancel x later
 
--- One of these steps is an Imrecv whose request a Cancel names. Where that cancels it, it gives its message back, and no
--- handle is read that says which probe took that message (MPI 4.0, 3.8.3 and 3.8.4).
+-- One of these steps is an Imrecv whose request a Cancel names. Where that cancels it, it gives its message back, and
+-- no handle is read that says which probe took that message (MPI 4.0, 3.8.3 and 3.8.4).
 abbrev pub gives_back : List Step → Bool
 gives_back [] = false
 gives_back (s ∷ later) = (is_matched_receive s.entry.call && is_cancelled_post (posted_by s) later) || gives_back later

@@ -73,7 +73,8 @@ impl<'a> Called<'a> {
         }
     }
 
-    /// Whether its outcome completes the requests that it touches: it gives no number, starts none anew, and frees none.
+    /// Whether its outcome completes the requests that it touches: it gives no number, starts none anew, and frees
+    /// none.
     #[inline(always)]
     pub fn is_completing(&self) -> bool
         ensures { result ≡ is_completing (plain_called self.now) }
@@ -81,7 +82,7 @@ impl<'a> Called<'a> {
         self.given().is_none() && !is_start(self.call) && !matches!(self.call, Call::Free(_))
     }
 
-    /// How many places its outcome has, each of which may complete a request.
+    /// How many entries its outcome has, each of which may complete a request.
     #[inline(always)]
     pub fn places(&self) -> usize
         ensures { result ≡ length (places_by self.now) }
@@ -89,7 +90,7 @@ impl<'a> Called<'a> {
         place_count(self.call, self.outs)
     }
 
-    /// The request that it completed at a place of its outcome.
+    /// The request that an entry of its outcome completed, if it did.
     #[inline(always)]
     pub fn completed_at(&self, place: usize) -> Option<Completed>
         requires { place < length (places_by self.now) }
@@ -190,6 +191,7 @@ impl<'a> Model for Calls<'a> {
 }
 
 impl<'a> Calls<'a> {
+    /// The calls of these events. `local` is a local call, which stands wherever no call was entered.
     pub fn new(events: Readable<'a>, local: &'a Call) -> Calls<'a>
         requires { local.now ≡ Local }
         ensures { result ≡ calls_of events.entry }

@@ -10,10 +10,12 @@ ghost use Rattle.trace_ops.specs.Request.{any_of, completes, element_of, given_o
 use mpi_model::{Call, Element, NULL_REQUEST, Outs, Told};
 use std::alloc::AllocError;
 
-/// A request that an outcome completes, and what the outcome tells of it.
+/// A request that an outcome completes, and what the outcome says of its source.
 #[derive(Clone, Copy, Debug, PartialEq, Eq)]
 pub struct Completed {
+    /// The trace's number of the request.
     pub request: i64,
+    /// What is told of the message's source.
     pub told: Told,
 }
 
@@ -28,7 +30,8 @@ fn number_for(request: i64) -> Option<i64>
     }
 }
 
-/// The number that a returned call gives: to the operation that it starts, or, of an init, to the one that it describes.
+/// The number that a returned call gives: to the operation that it starts, or, of an init, to the one that it
+/// describes.
 #[inline(always)]
 pub(crate) fn given_of(call: &Call, outs: Option<&Outs>) -> Option<i64>
     ensures { result ≡ given_of call.now (option_copied outs.entry) }

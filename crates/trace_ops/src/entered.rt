@@ -11,7 +11,7 @@ pub struct Entered {
     /// The id of its object in the layout: of a communicator, a window or a file.
     pub comm: u32,
     pub function: CollectiveFunction,
-    /// The root's rank in the group, where the kind has a root.
+    /// The root's rank in the group; `None` if the kind has no root.
     pub root: Option<u32>,
     /// The number of the call in its rank.
     pub call: u64,
@@ -25,8 +25,8 @@ impl Entered {
         matches!(self.function.kind(), Kind::Barrier) && !self.function.is_nonblocking()
     }
 
-    /// Whether it is a collective communication, blocking or not: only of these it is sure that each member's trace has
-    /// them, since all others are read where their parameters are there (MPI 4.0, 6).
+    /// Whether it is a collective communication, blocking or not (MPI 4.0, 6). Only these are certain to stand in each
+    /// member's trace: other collective calls are read only if their parameters are there.
     pub fn is_communication(&self) -> bool
         ensures { result ≡ is_communication self.now }
     {

@@ -50,7 +50,7 @@ fn told_in(members: &[u32], x: i64, called: &Called<'_>, first: usize) -> Option
     None
 }
 
-/// The rank of the trace that a told number names in the group.
+/// The rank of the trace that has this rank in the group; `None` if the outcome tells no source.
 pub(crate) fn source_in(members: &[u32], told: Option<u32>) -> Option<u32>
     ensures { result ≡ source_in members.now told }
 {
@@ -89,8 +89,8 @@ fn called_at<'a>(calls: &'a Calls<'_>, n: usize) -> Option<Called<'a>>
     }
 }
 
-/// What the call that ends a number tells of it: the source, by its completions from a place on, and the call itself, where
-/// its outcome completes a request.
+/// What the call that ends a number tells of it: the source, by its completions from a place on, and the call itself,
+/// where its outcome completes a request.
 #[inline(always)]
 fn told_by_end(
     members: &[u32],
@@ -116,7 +116,7 @@ fn told_by_end(
     (told, ended)
 }
 
-/// What becomes of the request that is posted, if one is, by what is kept of its number of the steps behind its post.
+/// What becomes of the request that the call posts, if it posts one, by what the later steps do with its number.
 #[inline(always)]
 pub(crate) fn fate_of<'a>(
     touch: Option<Touch>,
@@ -133,7 +133,7 @@ pub(crate) fn fate_of<'a>(
     })
 }
 
-/// By the fate of an Irecv's request, what is told of its source, and the call whose outcome completes it.
+/// What is told of the source of an Irecv, and the call whose outcome completes it, by the fate of its request.
 #[inline(always)]
 pub(crate) fn end_of_post(members: &[u32], fate: Option<Fate<'_>>) -> (Option<u32>, Option<u64>)
     ensures told { OfFate fate.entry (λ later posted. result.0 ≡ told_of_post members.now later posted) }

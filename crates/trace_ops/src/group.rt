@@ -6,8 +6,7 @@ ghost use Rattle.trace_ops.specs.Groups.{IsWorldOf, plain_group};
 
 use mpi_model::{Call, Collective, CommRef, Layout, Object, Peer};
 
-/// The group of an object: ranks of the trace in the order of their ranks in it (MPI 4.0,
-/// 7.2.1).
+/// The group of an object: ranks of the trace, in the order of their ranks in the group (MPI 4.0, 7.2.1).
 #[derive(Clone, Copy, Debug)]
 pub(crate) struct Group<'a> {
     /// The object's id in the layout.
@@ -15,7 +14,7 @@ pub(crate) struct Group<'a> {
     pub members: &'a [u32],
 }
 
-/// The group of the object of this sort that call `n` of the rank names, where the layout has one.
+/// The group of the object of this sort that call `n` of the rank names; `None` if the layout has no such object.
 #[inline(always)]
 pub(crate) fn group_named<'a>(
     layout: &'a Layout,
@@ -90,7 +89,7 @@ pub(crate) fn world_of<'a>(layout: &'a Layout, rank: u32) -> Option<Group<'a>>
     group_named(layout, rank, 0, Object::Communicator, CommRef::World)
 }
 
-/// The group of the object of this sort that call `n` of the rank names, where the group of the world is at hand.
+/// The same, when the group of the world is already known.
 #[inline(always)]
 fn named_given_world<'a>(
     layout: &'a Layout,
@@ -109,8 +108,8 @@ fn named_given_world<'a>(
     }
 }
 
-/// The group in which call `n` of the rank takes part, where the group of the world is at hand: none where the call names
-/// no communicator, or is foreign.
+/// The group in which call `n` of the rank takes part, when the group of the world is already known. It is `None` if
+/// the call names no communicator, or is foreign.
 #[inline(always)]
 pub(crate) fn group_given_world<'a>(
     layout: &'a Layout,
@@ -130,16 +129,15 @@ pub(crate) fn group_given_world<'a>(
     }
 }
 
-/// The group in which call `n` of the rank takes part: none where the call names no communicator,
-/// or is foreign.
+/// The group in which call `n` of the rank takes part; `None` if the call names no communicator, or is foreign.
 fn group_of<'a>(layout: &'a Layout, rank: u32, n: u64, call: &Call) -> Option<Group<'a>>
     ensures { plain_group result ≡ group_of layout.now rank n call.now }
 {
     group_given_world(layout, rank, n, call, world_of(layout, rank))
 }
 
-/// Whether the call, which takes part in this group, if in any, is foreign: the layout gives its
-/// rank no object as the call names it, or its peer or root is outside the group.
+/// Whether the call is foreign: the layout has no object that the rank names so, or the call's peer or root is outside
+/// the group. `group` is the group in which it takes part, if any.
 pub(crate) fn is_foreign_in(group: Option<Group<'_>>, call: &Call) -> bool
     ensures { result ≡ is_foreign_in (plain_group group.entry) call.now }
 {

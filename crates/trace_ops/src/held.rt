@@ -24,7 +24,7 @@ pub(crate) struct Init<'a> {
     pub call: &'a Call,
 }
 
-/// By number, the init that holds it.
+/// The init that holds each request number.
 pub(crate) type Held<'a> = IndexMap<i64, Init<'a>>;
 
 /// Whether the call describes a send or a receive, and starts nothing (MPI 4.0, 3.9).
@@ -99,7 +99,8 @@ fn still_holds_none(held: &Held<'_>, call: &Call) -> bool
     holds_none(held) && !is_init(call)
 }
 
-/// Goes one call on. Nearly always no init holds a number, and there is nothing to look up: then its outcome is not read.
+/// Goes one call on. Nearly always no init holds a number, and there is nothing to look up: then its outcome is not
+/// read.
 fn hold<'a>(held: &mut Held<'a>, calls: &Calls<'a>, n: usize, call: &Call) -> Result<(), AllocError>
     requires { IsEnteredAt calls.now n call.now }
     ensures { OnOk result (HoldsPast calls.now n (get int_eq held.old) (get int_eq held.new)) }
@@ -198,11 +199,11 @@ pub(crate) fn begun_at<'a>(
 /// What holds the numbers that a rank's Starts and Startalls list, and what holds numbers at the end.
 #[derive(Drop)]
 pub(crate) struct Holding<'a> {
-    /// Of each number that a Start or Startall lists, in their order, what held it before the call.
+    /// For each number that a Start or Startall lists, in their order, what held it before the call.
     pub inits: Vec<Option<Init<'a>>>,
     /// What holds a number after all calls.
     pub held: Held<'a>,
-    /// For the messages and the receives of the calls.
+    /// Room for the messages and the receives of the calls.
     pub room: Room,
 }
 

@@ -11,10 +11,10 @@ ghost use Rattle.trace_ops.specs.RankOps.{all_ops, ops_by};
 
 use trace_know::{growth_laws, join_laws};
 
-/// The ops of a rank are its own, in order of their calls, also in the list of all ranks. Where
-/// its readable events get longer they grow: the old messages and receives are the first of the
-/// new ones; sources that were not told may be told now, and a Cancel may come, or what became of
-/// it. Read the other way round it says what becomes of them where the readable events get shorter.
+/// The ops of a rank are its own and stand in order of their calls, also in the list of all ranks. When its readable
+/// events get longer, the ops grow: the old messages and receives are the first of the new ones; only sources that were
+/// not told may now be told, and a Cancel, or its outcome, may be added. Read backwards, it says what happens when the
+/// readable events get shorter.
 pub fn ops_laws()
     ensures own { (layout : Parts) (rank : ℕ) (beyond : Bool) (events : List Event)
         → IsOwn rank (ops_by layout rank beyond events) }
@@ -22,7 +22,7 @@ pub fn ops_laws()
     ensures grow { OpsGrow }
 {}
 
-/// Where more is known, by one join, the ops of a rank grow or are cut.
+/// When more is known, by one join, the ops of a rank grow or are cut.
 pub fn join_law()
     ensures { JoinGrowsOrCuts }
 {

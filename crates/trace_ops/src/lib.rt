@@ -1,5 +1,5 @@
-//! What each rank did, by what is known of its run: its messages and receives, its entries into
-//! collective calls, its active requests, and how it stands.
+//! What each rank did, as far as its events are known: its messages and receives, its collective calls, its active
+//! requests, and whether it is free, waiting or ended.
 //!
 //! [`ops_of`] goes twice through the calls of a rank: from the first to the last, by which it knows
 //! which inits hold the numbers that Starts and Startalls list; and from the last to the first, so
@@ -35,7 +35,7 @@
 //! # Choices
 //!
 //! - Calls are gone through from the last to the first, so what later calls tell of a request is known when its post is
-//!   met. Forwards, each completion would search or shift a list of active requests.
+//!   met. Going forwards, each completion would search or shift a list of active requests.
 //! - Which init holds a Start's number is looked up before, from the first call on. Each part of a Startall is then a
 //!   step of its own, so all other rules speak of one operation. A rank without inits is gone through once; if an init
 //!   or a start is met, what was gathered is dropped.

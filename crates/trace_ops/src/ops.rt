@@ -37,7 +37,7 @@ impl Model for RankOps {
 }
 
 impl RankOps {
-    /// What a rank without calls did. Takes no memory.
+    /// The ops of a rank without calls. Takes no memory.
     pub fn empty(alloc: Global) -> RankOps
         ensures { result ≡ no_ops }
     {
@@ -55,16 +55,16 @@ impl RankOps {
         }
     }
 
-    /// The messages that the rank's sends start, in order of their calls and parts, each with what a
-    /// Cancel leaves of it (MPI 4.0, 3.2.3, 3.8.4 and 3.9).
+    /// The messages that the rank's sends start, in order of their calls and parts, each with its trust, which says
+    /// whether it was cancelled (MPI 4.0, 3.2.3, 3.8.4 and 3.9).
     pub fn sends(&self) -> &[Message]
         ensures { result.now ≡ self.now.sends }
     {
         &self.sends
     }
 
-    /// The receives of the rank, in order of their calls and parts, each with its source where that is
-    /// told, and with what a Cancel leaves of it. Matched probes are receives.
+    /// The receives of the rank, in order of their calls and parts, each with its source, if that is told, and its
+    /// trust, which says whether it was cancelled. Matched probes are receives.
     pub fn receives(&self) -> &[Receive]
         ensures { result.now ≡ self.now.receives }
     {
@@ -85,37 +85,37 @@ impl RankOps {
         &self.comms
     }
 
-    /// The active requests at the end of the rank's readable events, each with the name of what was
-    /// posted, in order of posting.
+    /// The active requests at the end of the rank's readable events, each with the operation that was posted, in order
+    /// of posting (MPI 4.0, 3.7.3).
     pub fn active(&self) -> &[(i64, OpName)]
         ensures { result.now ≡ self.now.active }
     {
         &self.active
     }
 
-    /// The idle numbers at the end of the rank's readable events, rising: an init holds them, and
-    /// they are not active (MPI 4.0, 3.9).
+    /// The idle request numbers at the end of the rank's readable events, in rising order: persistent requests that
+    /// exist and are not active (MPI 4.0, 3.9).
     pub fn idle(&self) -> &[i64]
         ensures { result.now ≡ self.now.idle }
     {
         &self.idle
     }
 
-    /// The requests that a readable Cancel names, whether they are still active or not, by the names
-    /// of what was posted, in order of posting.
+    /// The operations whose request a readable Cancel names, whether it is still active or not, in order of posting.
     pub fn cancelled(&self) -> &[OpName]
         ensures { result.now ≡ self.now.cancelled }
     {
         &self.cancelled
     }
 
+    /// How the rank stands at the end of its readable events.
     pub fn state(&self) -> State
         ensures { result ≡ self.now.state }
     {
         self.state
     }
 
-    /// The number of the call in which the rank waits, and the call, where it is waiting.
+    /// The number of the call in which the rank waits, and the call; `None` if the rank isn't waiting.
     pub fn waiting(&self) -> Option<(u64, &Call)>
         ensures { option_map (λ w. (w.0, w.1.now)) result ≡ self.now.waiting }
     {
@@ -132,6 +132,7 @@ impl RankOps {
         self.foreign
     }
 
+    /// The same operations in memory of their own. Fails with `AllocError` when memory is refused.
     pub fn try_clone(&self) -> Result<RankOps, AllocError>
         ensures { IfOk result (λ copy. copy ≡ self.now) }
     {

@@ -17,7 +17,7 @@ pub(crate) struct Room {
 }
 
 impl Room {
-    /// Of no calls.
+    /// The counts of no calls.
     pub fn empty() -> Room {
         Room {
             sends: 0,

@@ -3,7 +3,7 @@
 /// How a rank stands.
 #[derive(Clone, Copy, Debug, PartialEq, Eq)]
 pub enum State {
-    /// It can go on, or more is known of it than can be read.
+    /// It isn't seen to wait, or something is known past its readable events.
     Free,
     /// Its last readable event enters a call in which it may have to wait for others.
     Waiting,

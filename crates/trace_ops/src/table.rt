@@ -11,10 +11,10 @@ use std::alloc::{AllocError, Global};
 /// The most numbers that have a place in the list.
 const MOST_LOW: usize = 1024;
 
-/// By number, what the calls behind do with it. A number is nearly always small: it then has its own place in a list.
+/// What later calls do with each request number. Nearly all numbers are small, and have a place of their own in a list.
 #[derive(Drop)]
 pub(crate) struct Touched {
-    /// Of each number below its length.
+    /// For each number below its length.
     low: Vec<Option<Touch>>,
     /// Of all other numbers.
     high: IndexMap<i64, Touch>,
@@ -33,7 +33,8 @@ fn low_place(count: usize, x: i64) -> Option<usize>
 }
 
 impl Touched {
-    /// Nothing is kept of any number. The list takes no more room than so many calls.
+    /// Nothing is kept for any number. The list is no longer than this number of calls. Fails with `AllocError` when
+    /// memory is refused.
     pub fn new(alloc: Global, calls: usize) -> Result<Touched, AllocError>
         ensures { IfOk result (λ touched. (x : ℤ) → kept_of touched x ≡ None) }
     {
@@ -53,7 +54,8 @@ impl Touched {
         }
     }
 
-    /// Keeps this of the number, and answers what was kept of it.
+    /// Keeps this for the number, and returns what was kept before. On `AllocError`, when memory is refused, its
+    /// contents are unspecified.
     #[inline(always)]
     pub fn insert(&mut self, x: i64, touch: Touch) -> Result<Option<Touch>, AllocError>
         ensures changed { OnOk result (ChangesAt x (λ before. Some touch) (kept_of self.old) (kept_of self.new)) }

@@ -110,8 +110,8 @@ entered_same comm call old new e h =
     ∙ entered_more comm call (take (length old) new) (drop (length old) new) h
     ∙ ap (λ (l : List Entered). entered_before comm call l) e
 
--- Where the receive that ends last of those whose envelopes fit may have taken the message, some may; where that one may
--- not, none may.
+-- Where the receive that ends last of those whose envelopes fit may have taken the message, some may; where that one
+-- may not, none may.
 module _ (held : List Ops) (opened : List Receive) (m : Message) (e : Option ℕ) (last : IsLastFor opened m (Some e)) where
   at_its_rank : (u : Receive) → envelopes_fit m u ≡ true → comes_after held m u ≡ is_after (get_or held m.from no_ops) (get_or held m.to no_ops) m m.to u.ended
   at_its_rank u f = ap (λ x. is_after (get_or held m.from no_ops) (get_or held x no_ops) m x u.ended) (sym (envelopes_at m u f))

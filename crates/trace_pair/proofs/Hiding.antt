@@ -1,4 +1,5 @@
--- Whether some open receive may have taken a message: by a test of all of them, and by those that are called before a limit.
+-- Whether some open receive may have taken a message: by a test of all of them, and by those that are called before a
+-- limit.
 use Rattle.std.proofs.Common.{◌≡◌, ◌⊎◌, Bool, true, false, ◌&&◌, List, [], ◌∷◌, Some, None, inl, inr, ⊎_elim, sym, refl, ◌∙◌, ap, arith, cond, eqb, subst}
 use Rattle.std.specs.Prelude.{not}
 use Rattle.std.specs.Bool.{Decides}

@@ -31,8 +31,8 @@ up_self a = record { rank = refl; call = omega arith }
 up_along : (a b c : OpName) → IsUpTo a b → IsUpTo b c → IsUpTo a c
 up_along a b c h g = let x = h.call in let y = g.call in record { rank = h.rank ∙ g.rank; call = omega arith }
 
--- Two lists of calls have the same messages to the receive's rank up to this message's call, and the same receives up to
--- this receive's call; and what comes after one of those receives in the one, does so in the other.
+-- Two lists of calls have the same messages to the receive's rank up to this message's call, and the same receives up
+-- to this receive's call; and what comes after one of those receives in the one, does so in the other.
 pub record SameUpTo (after : After) (ms : List Message) (qs : List Receive) (other : After) (other_ms : List Message) (other_qs : List Receive) (m : Message) (q : Receive) : Type 0 where
   pub messages : (n : Message) → IsUpTo (sent_at n) (sent_at m) → n.to ≡ q.at → Has ms n → Has other_ms n
   pub messages_back : (n : Message) → IsUpTo (sent_at n) (sent_at m) → n.to ≡ q.at → Has other_ms n → Has ms n
@@ -81,8 +81,8 @@ module _ (after : After) (ms : List Message) (qs : List Receive) (other : After)
   pub pairs_are_local : (m : Message) (q : Receive) → Has other_ms m → SameUpTo after ms qs other other_ms other_qs m q → Paired after ms qs m q → Paired other other_ms other_qs m q
   pairs_are_local m q i h g = local_below (suc (m.name.call + q.name.call)) m q (omega arith) i h g
 
--- Whole calls that come at the ranks' ends, with no source told, no trust changed and no receive ended, leave each couple
--- as it was.
+-- Whole calls that come at the ranks' ends, with no source told, no trust changed and no receive ended, leave each
+-- couple as it was.
 module _ (after : After) (ms : List Message) (qs : List Receive) (more_ms : List Message) (more_qs : List Receive)
     (sent : (m : Message) → Has ms m → Has more_ms m) (none_sent : (n m : Message) → Has more_ms n → Has ms m → IsUpTo (sent_at n) (sent_at m) → Has ms n)
     (posted : (q : Receive) → Has qs q → Has more_qs q) (none_posted : (r q : Receive) → Has more_qs r → Has qs q → IsUpTo (posted_at r) (posted_at q) → Has qs r) where

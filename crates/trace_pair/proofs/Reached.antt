@@ -1,7 +1,7 @@
 -- What comes after a receive, by the last Barriers alone.
 --
--- A sender has left the more, the later its message, and what is entered behind the end of a receive stays so. So of its
--- Barriers on a communicator the last one before the message decides.
+-- A sender has left the more, the later its message, and what is entered behind the end of a receive stays so. So of
+-- its Barriers on a communicator the last one before the message decides.
 use Rattle.std.proofs.Common.{◌≡◌, ℕ, zero, suc, ◌+◌, ◌<◌, ◌≤◌, Bool, true, false, ◌&&◌, ◌||◌, List, [], ◌∷◌, ◌++◌, inl, inr, ⊎_elim, sym, refl, ◌∙◌, ap, arith, length, filter, take, drop, get_or, add-one, eqb, ltb, eqb-true, zero-add, cond, Option, Some, None, subst}
 use Rattle.std.specs.Prelude.{nat_le, unwrap_or, slice_get, slice_set}
 use Rattle.std.specs.List.{list_any}
@@ -255,8 +255,8 @@ has_number xs x h =
 number_in : (xs : List ℕ) (x : ℕ) → Has xs x → list_any (λ c. eqb c x) xs ≡ true
 number_in xs x i = let e : eqb x x ≡ true = grind (arith, nat_tests) in any_of (λ c. eqb c x) xs x i e
 
--- What the sender left, by the last Barriers alone: the receiver's rank entered behind call `ended` some Barrier that the
--- sender entered before the message, just where on some communicator of both it so entered the last of them.
+-- What the sender left, by the last Barriers alone: the receiver's rank entered behind call `ended` some Barrier that
+-- the sender entered before the message, just where on some communicator of both it so entered the last of them.
 module _ (s r : Ops) (m : Message) (e : ℕ) (sent : AreEntered s.rounds) (taken : AreEntered r.rounds) where
   -- the test of a Barrier, from its five parts
   left_at : (x : Entered) → is_barrier x ≡ true → ltb x.call m.name.call ≡ true → list_any (λ c. eqb c x.comm) s.comms ≡ true → list_any (λ c. eqb c x.comm) r.comms ≡ true →

@@ -35,8 +35,8 @@ tag_admits None b x y h g f = inl refl
 tag_admits (Some s) None x y h g f = inr (refl, refl)
 tag_admits (Some s) (Some t) x y h g f = inl (grind (arith, nat_tests))
 
--- a message that fits one of two receives fits the other too, where one message of its sender fits both; or that names a
--- tag, and this one doesn't
+-- a message that fits one of two receives fits the other too, where one message of its sender fits both; or that names
+-- a tag, and this one doesn't
 pub fits_beside : (m n : Message) (q r : Receive) → fits m q ≡ true → fits m r ≡ true → fits n r ≡ true → n.from ≡ m.from → (fits n q ≡ true) ⊎ ((r.tag ≡ None) × (is_some q.tag ≡ true))
 fits_beside m n q r h g f same =
     let a = fit_parts m q h in let b = fit_parts m r g in let c = fit_parts n r f in

@@ -1,4 +1,5 @@
--- The pairs of a table are certain, and where no receive is open and no message doubtful they are the one legal matching.
+-- The pairs of a table are certain, and where no receive is open and no message doubtful they are the one legal
+-- matching.
 use Rattle.std.proofs.Common.{subst, ◌≡◌, Bool, true, false, List, inl, inr, ⊎_elim, sym, ap, Some}
 use Rattle.std.specs.List.{AllZip}
 use Rattle.std.specs.Option.{option_map}

@@ -240,7 +240,8 @@ module _ (held : List Ops) (i : ℕ) (n : Ops) (f : Fronts) (own : AreOwn 0 held
       let r = receiver_alike q iq in
       after_same (get_or held m.from no_ops) (get_or (set held i n) m.from no_ops) (get_or held q.at no_ops) (get_or (set held i n) q.at no_ops) m q.at s.0 r.0 q.ended s.1 r.1 s.2 r.2
 
--- The state goes from the calls that were held to those that come: what doesn't stay is taken back, and the rest is added.
+-- The state goes from the calls that were held to those that come: what doesn't stay is taken back, and the rest is
+-- added.
 module _ (held : List Ops) (i : ℕ) (n : Ops) (f : Fronts) (own : AreOwn 0 held) (own_new : IsOwn i n) (singles : All IsSingle held) (single : IsSingle n) (lt : i < length held) (fronts : AreFronts (get_or held i no_ops) n f) (s0 s1 s2 : Matched) where
   abbrev was : Ops
   was = get_or held i no_ops

@@ -1,12 +1,12 @@
 -- Which messages come after which receives.
 --
 -- A rank's own message, which it sends once a receive of its own is completed, can't be what that took (MPI 4.0, 3.5: a
--- rank's calls are in order). Neither can a message that its sender sends once it has left a Barrier which the receiver's
--- rank entered with the receive completed: no member leaves a Barrier before all have entered it (6.3).
+-- rank's calls are in order). Neither can a message that its sender sends once it has left a Barrier which the
+-- receiver's rank entered with the receive completed: no member leaves a Barrier before all have entered it (6.3).
 --
--- Which Barrier is which is told by counting collective communications alone. Another collective call is read only where its
--- parameters are there, so one member's calls may tell of it and another's not; and a count that is too low lets a message
--- come after a receive too soon. Where no round is mismatched both counts say the same.
+-- Which Barrier is which is told by counting collective communications alone. Another collective call is read only
+-- where its parameters are there, so one member's calls may tell of it and another's not; and a count that is too low
+-- lets a message come after a receive too soon. Where no round is mismatched both counts say the same.
 use Rattle.std.specs.Prelude.{ℕ, suc, Bool, false, ◌&&◌, ◌||◌, ◌==◌, nat_lt, nat_le, cond, Option, Some, None, List, [], ◌∷◌, filter, get_or}
 use Rattle.std.specs.List.{list_any}
 use Rattle.mpi_model.specs.declared.message.Message.{Message}
@@ -29,7 +29,8 @@ entered_before comm call [] = 0
 entered_before comm call (x ∷ xs) = cond ((x.comm == comm) && nat_lt x.call call) (suc (entered_before comm call xs)) (entered_before comm call xs)
 
 -- The sender entered this Barrier before the message's call, and before call `ended` the receiver's rank had entered no
--- more collective calls on its communicator than the sender before the Barrier: so it entered the Barrier later than that.
+-- more collective calls on its communicator than the sender before the Barrier: so it entered the Barrier later than
+-- that.
 abbrev pub is_left : Ops → Ops → Message → ℕ → Entered → Bool
 is_left sender receiver m ended b =
     is_barrier b && nat_lt b.call m.name.call && list_any (λ c. c == b.comm) sender.comms && list_any (λ c. c == b.comm) receiver.comms

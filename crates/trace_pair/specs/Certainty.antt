@@ -36,7 +36,8 @@ abbrev pub StaysAfter : List Ops → List Ops → Type 0
 StaysAfter held more = (m n : Message) (q r : Receive) → Has (sends_of held) m → SameSend m n → Has (receives_of held) q → TellsMore q r
     → comes_after held m q ≡ true → comes_after more n r ≡ true
 
--- A message that comes after a receive where more is told did so before, unless an outcome completed the receive meanwhile.
+-- A message that comes after a receive where more is told did so before, unless an outcome completed the receive
+-- meanwhile.
 abbrev pub WasAfter : List Ops → List Ops → Type 0
 WasAfter held more = (m n : Message) (q r : Receive) → Has (sends_of held) m → SameSend m n → Has (receives_of held) q → TellsMore q r
     → r.ended ≡ q.ended → comes_after more n r ≡ true → comes_after held m q ≡ true

@@ -45,8 +45,8 @@ pub record AreRanked (opened : List Receive) (s : RankedEnds) : Type 0 where
 abbrev pub IsOfNoneAt : RankedEnds → ℕ → Type 0
 IsOfNoneAt s rank = (opened : List Receive) → AreRanked opened s → (u : Receive) → Has opened u → u.at ≡ rank → ⊥
 
--- Of the receives that pass the test and whose envelopes fit the message's, this is the end of the one that ends last. Some
--- receive whose envelope fits ends so.
+-- Of the receives that pass the test and whose envelopes fit the message's, this is the end of the one that ends last.
+-- Some receive whose envelope fits ends so.
 abbrev pub IsLastAmong : List Receive → Message → (Receive → Bool) → Option (Option ℕ) → Type 0
 IsLastAmong xs m p None = (r : Receive) → Has xs r → p r ≡ true → envelopes_fit m r ≡ true → ⊥
 IsLastAmong xs m p (Some e) = ((u : Receive) × Has xs u × (envelopes_fit m u ≡ true) × (u.ended ≡ e)) × ((r : Receive) → Has xs r → p r ≡ true → envelopes_fit m r ≡ true → ends_by r.ended e ≡ true)

@@ -65,7 +65,8 @@ Adds after own f old new = (before behind : List Message) (above below : List Re
     → Indexes after (between before (take f.sends own.sends) behind) (between above (take f.receives own.receives) below) old
     → Indexes after (between before own.sends behind) (between above own.receives below) new
 
--- the state follows the calls of a rank from the old ones to the new ones, wherever they stand among those of the others
+-- the state follows the calls of a rank from the old ones to the new ones, wherever they stand among those of the
+-- others
 abbrev pub Moves : After → Ops → Ops → Matched → Matched → Type 0
 Moves after o n old new = (before behind : List Message) (above below : List Receive)
     → IsSequence before behind o.sends → IsSequence before behind n.sends

@@ -22,8 +22,8 @@ call_of (Some x) = x.call
 abbrev pub call_at : List Entered → ℕ → ℕ
 call_at rounds place = call_of (slice_get rounds place)
 
--- The same to what comes after what: on one communicator, by one call; both are Barriers or neither is, and both are collective
--- communications or neither is.
+-- The same to what comes after what: on one communicator, by one call; both are Barriers or neither is, and both are
+-- collective communications or neither is.
 pub record IsAlike (x y : Entered) : Type 0 where
   pub comm : x.comm ≡ y.comm
   pub call : x.call ≡ y.call
@@ -37,8 +37,8 @@ pub record AreOneBefore (last : ℕ) (a b : List Entered) : Type 0 where
   pub first : (x : Entered) → Has (drop front a) x → last ≤ x.call
   pub second : (x : Entered) → Has (drop front b) x → last ≤ x.call
 
--- The communicators are those that were, and the collective calls that differ stand neither before a message that stays nor
--- before the end of a receive that stays.
+-- The communicators are those that were, and the collective calls that differ stand neither before a message that stays
+-- nor before the end of a receive that stays.
 pub record AreAsBefore (old new : Ops) (f : Fronts) : Type 0 where
   pub comms : new.comms ≡ old.comms
   pub last : ℕ
@@ -46,8 +46,8 @@ pub record AreAsBefore (old new : Ops) (f : Fronts) : Type 0 where
   pub sends : (m : Message) → Has (take f.sends old.sends) m → m.name.call ≤ last
   pub receives : (q : Receive) → Has (take f.receives old.receives) q → IsEndedBy q last
 
--- The messages and receives that stay are the first of both, and what comes after what among them and the calls of other
--- ranks is as it was; or none stay.
+-- The messages and receives that stay are the first of both, and what comes after what among them and the calls of
+-- other ranks is as it was; or none stay.
 pub record AreFronts (old new : Ops) (f : Fronts) : Type 0 where
   pub sends_old : f.sends ≤ length old.sends
   pub sends_new : f.sends ≤ length new.sends

@@ -23,9 +23,9 @@ IsFree after ms qs q = (m : Message) → Has ms m → Paired after ms qs m q →
 abbrev pub couple_of : Message → Receive → Couple
 couple_of m q = record { message = m; receive = q }
 
--- In the sets are: messages without a receive, settled receives without a message, open receives, and the pairs, where P
--- says what is paired. What is void is in none of them.
--- Each set in two directions: what is in it is so, and what is so is in it.
+-- In the sets are: messages without a receive, settled receives without a message, open receives, and the pairs, where
+-- P says what is paired. What is void is in none of them. Each set in two directions: what is in it is so, and what is
+-- so is in it.
 pub record AreSets (P : Message → Receive → Type 0) (ms : List Message) (qs : List Receive) (waiting : List Message) (free opened : List Receive) (couples : List Couple) : Type 0 where
   pub senders : (m : Message) → Has ms m → IsOwnMessage m
   pub receivers : (q : Receive) → Has qs q → IsOwnReceive q
@@ -48,8 +48,8 @@ IsIndexed after ms qs waiting free opened couples = AreSets (Paired after ms qs)
 abbrev pub Found : After → List Message → List Receive → (Message → Receive → Type 0) → Message → Receive → Type 0
 Found after ms qs Done m q = Paired after ms qs m q × Done m q
 
--- What the index tests for a new message: the receive is the first free one that fits, no waiting message fits it, and the
--- message comes after each open receive of no later call that fits it.
+-- What the index tests for a new message: the receive is the first free one that fits, no waiting message fits it, and
+-- the message comes after each open receive of no later call that fits it.
 pub record TakesMessage (after : After) (ms : List Message) (qs : List Receive) (m : Message) (q : Receive) : Type 0 where
   pub told : is_some q.source ≡ true
   pub sure_receive : is_sure q.trust ≡ true
@@ -74,8 +74,8 @@ pub record TakesReceive (after : After) (ms : List Message) (qs more call : List
   pub no_open_part : (u : Receive) → Has call u → is_open u ≡ true → posted_no_later u q ≡ true → fits m u ≡ true → after m u ≡ true
   pub parts : (r : Receive) → Has call r → is_settled r ≡ true → posted_no_later r q ≡ true → fits m r ≡ true → (n : Message) × Has ms n × (sent_before n m ≡ true) × Paired after ms more n r
 
--- The message that a receive of a new call takes if another part of the call doesn't fit it too: the first waiting one that
--- fits, alone of its call, sure, and behind each open receive that it fits.
+-- The message that a receive of a new call takes if another part of the call doesn't fit it too: the first waiting one
+-- that fits, alone of its call, sure, and behind each open receive that it fits.
 pub record OffersMessage (after : After) (ms : List Message) (qs more : List Receive) (q : Receive) (m : Message) : Type 0 where
   pub member : Has ms m
   pub sure : is_sure m.trust ≡ true
@@ -117,7 +117,8 @@ pub record IsFirstReceive (receives : List Receive) (m : Message) (q : Receive) 
   pub fit : envelopes_fit m q ≡ true
   pub first : (r : Receive) → Has receives r → envelopes_fit m r ≡ true → name_lt r.name q.name ≡ true → ⊥
 
--- the message of the set whose envelope fits the receive's and that stands in front of all others whose do, alone of its call
+-- the message of the set whose envelope fits the receive's and that stands in front of all others whose do, alone of
+-- its call
 pub record IsSoleMessage (messages : List Message) (q : Receive) (m : Message) : Type 0 where
   pub member : Has messages m
   pub fit : envelopes_fit m q ≡ true

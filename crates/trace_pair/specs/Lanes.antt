@@ -24,7 +24,8 @@ abbrev pub end_of : Option (Option ℕ) → List Step → Option (Option ℕ)
 end_of had [] = had
 end_of had (s ∷ steps) = end_of (Some s.latest) steps
 
--- Each step tells the later of its receive's end and the end that the step in front of it tells; in front of all stands `had`.
+-- Each step tells the later of its receive's end and the end that the step in front of it tells; in front of all stands
+-- `had`.
 abbrev pub AreLatest : Option (Option ℕ) → List Step → Type 0
 AreLatest had [] = Unit {0}
 AreLatest had (s ∷ steps) = (s.latest ≡ with_end had s.receive.ended) × AreLatest (Some s.latest) steps

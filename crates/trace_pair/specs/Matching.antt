@@ -23,8 +23,8 @@ IsTaken ms qs Couple m q =
     ⊎ (SomeOf ms (λ n. (sent_no_later n m ≡ true) × Couple n q)
     ⊎ SomeOf ms (λ n. (n.from ≢ m.from) × Couple n q))
 
--- A doubtful receive of an earlier call may have taken the message, in a couple or not, and may have given it back behind
--- the receive: so a cancelled Imrecv gives back what its Mprobe took (MPI 4.0, 3.8.4).
+-- A doubtful receive of an earlier call may have taken the message, in a couple or not, and may have given it back
+-- behind the receive: so a cancelled Imrecv gives back what its Mprobe took (MPI 4.0, 3.8.4).
 abbrev pub MayBeGivenBack : After → List Receive → Message → Receive → Type 0
 MayBeGivenBack after qs m q = SomeOf qs (λ p. (is_doubtful p.trust ≡ true) × (posted_before p q ≡ true) × (fits m p ≡ true) × (after m p ≡ false))
 
@@ -66,8 +66,8 @@ abbrev pub IsLeftUnposted : List Message → (OpName → OpName → Bool) → Re
 IsLeftUnposted ms couple = λ q. (is_doubtful q.trust ≡ true) × (SomeOf ms (λ n. couple n.name q.name ≡ true) → ⊥)
 
 -- A continuation: each rank goes on from what it did. Nothing comes in before the calls that there were or beside their
--- parts, a source that was told stays as it is, what is void stays void, what is sure stays sure wherever it stands again
--- (no later Cancel names it), and a message that comes after a receive goes on to do so.
+-- parts, a source that was told stays as it is, what is void stays void, what is sure stays sure wherever it stands
+-- again (no later Cancel names it), and a message that comes after a receive goes on to do so.
 pub record Continues (after : After) (ms : List Message) (qs : List Receive) (more_after : After) (more_ms : List Message) (more_qs : List Receive) : Type 0 where
   pub sent : (m : Message) → Has ms m → SomeOf more_ms (λ n. SameSend m n × StaysSure m.trust n.trust)
   pub none_sent_before : (n m : Message) → Has more_ms n → Has ms m → sent_no_later n m ≡ true → SomeOf ms (λ p. SameSend p n)

@@ -1,9 +1,9 @@
 -- Which message is received by which receive: the five rules.
 --
--- They follow from what MPI lets no implementation change: which receives a message fits (MPI 4.0, 3.2.3 and
--- 3.2.4), that neither messages of one sender nor receives of one rank overtake one another (MPI 4.0, 3.5), and that the
--- parts of one Startall start in any order (3.9). A
--- message or receive that a Cancel names may take part in none of it, until the run tells (MPI 4.0, 3.8.4).
+-- They follow from what MPI lets no implementation change: which receives a message fits (MPI 4.0, 3.2.3 and 3.2.4),
+-- that neither messages of one sender nor receives of one rank overtake one another (MPI 4.0, 3.5), and that the parts
+-- of one Startall start in any order (3.9). A message or receive that a Cancel names may take part in none of it, until
+-- the run tells (MPI 4.0, 3.8.4).
 use Rattle.std.specs.Prelude.{◌≡◌, ℕ, zero, suc, ◌+◌, Bool, true, false, ◌&&◌, ◌||◌, not, Option, is_some, List}
 use Rattle.std.specs.List.{list_any, list_all, find}
 use Rattle.mpi_model.specs.declared.message.Message.{Message}
@@ -17,7 +17,8 @@ use Rattle.trace_pair.specs.Places.{sent_no_later, posted_no_later}
 abbrev pub After : Type 0
 After = Message → Receive → Bool
 
--- Another open receive, of no later call, fits the message, and the message doesn't come after it: so it may have taken it.
+-- Another open receive, of no later call, fits the message, and the message doesn't come after it: so it may have taken
+-- it.
 abbrev pub blocked : After → List Receive → Message → Receive → Bool
 blocked after qs m q = list_any (λ u. is_open u && posted_no_later u q && fits m u && not (after m u)) qs
 

@@ -78,8 +78,8 @@ abbrev pub is_met : Option ℕ → List ℕ → ℕ → Bool
 is_met None calls ended = false
 is_met (Some before) calls ended = is_entered_behind calls ended before
 
--- Of the sender's Barriers on the communicator the last one before the call was entered by the receiver's rank behind call
--- `ended`.
+-- Of the sender's Barriers on the communicator the last one before the call was entered by the receiver's rank behind
+-- call `ended`.
 abbrev pub is_passed_in : List Entered → Ops → ℕ → ℕ → ℕ → Bool
 is_passed_in rounds receiver call ended comm =
     list_any (λ c. c == comm) receiver.comms && is_met (last_before call (barriers_on comm 0 rounds)) (calls_on comm receiver.rounds) ended

@@ -25,8 +25,8 @@ waiting_of b = waiting_in b.messages.messages b.messages.takers
 abbrev pub couples_of : Batch → List Couple
 couples_of b = couples_with b.messages.messages b.messages.takers
 
--- It stands for these messages and receives as an index does: the pairs, and what is in none. Of the open receives it has the
--- last ends.
+-- It stands for these messages and receives as an index does: the pairs, and what is in none. Of the open receives it
+-- has the last ends.
 pub record Settles (after : After) (ms : List Message) (qs : List Receive) (b : Batch) : Type 0 where
   pub messages : b.messages.messages ≡ ms
   pub rise : AreRising (λ m. m.name) ms
@@ -46,8 +46,8 @@ pub record SettlesAmong (after : After) (ms : List Message) (all done qs : List 
   pub held : AreSets (Found after ms all (λ m r. Has done r)) ms qs (waiting_of b) b.free opened (couples_of b)
   pub last : AreRanked opened b.opened
 
--- Of the receives that are done are those that were there. The parts of the call that are of any tag, or those of a tag, come
--- next: none of them is done, and before those of a tag all of any tag are.
+-- Of the receives that are done are those that were there. The parts of the call that are of any tag, or those of a
+-- tag, come next: none of them is done, and before those of a tag all of any tag are.
 pub record IsNextKind (any_tag : Bool) (qs call done : List Receive) : Type 0 where
   pub keeps : (r : Receive) → Has qs r → Has done r
   pub fresh : (r : Receive) → Has call r → is_of any_tag r.tag ≡ true → Has done r → ⊥

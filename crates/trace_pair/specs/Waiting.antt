@@ -127,8 +127,8 @@ abbrev pub AreRisingPlaces : List ℕ → Type 0
 AreRisingPlaces [] = Unit {0}
 AreRisingPlaces (i ∷ places) = ((j : ℕ) → Has places j → i < j) × AreRisingPlaces places
 
--- Each message that waits has its place at its key. What stands at a key are places of its messages, in their order, and
--- of none that is void.
+-- Each message that waits has its place at its key. What stands at a key are places of its messages, in their order,
+-- and of none that is void.
 pub record ArePlaces {K : Type 0} (cmp : K → K → Ordering) (key_of : Message → K) (ms : List Message) (takers : List (Option Taker)) (places : Keyed K) : Type 0 where
   pub all : (i : ℕ) (m : Message) → slice_get ms i ≡ Some m → is_live m.trust ≡ true → waits_at takers i ≡ true → Has (places_at cmp places (key_of m)) i
   pub own : (k : K) (i : ℕ) → Has (places_at cmp places k) i → (m : Message) × (slice_get ms i ≡ Some m) × (key_of m ≡ k) × (is_live m.trust ≡ true)

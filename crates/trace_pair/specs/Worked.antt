@@ -124,8 +124,8 @@ enters comm kind nonblocking call = record { comm = comm; function = record { ki
 abbrev barrier : ℕ → Entered
 barrier call = enters 2 Barrier false call
 
--- Rank 0 posts a receive of any source and tag, which a Cancel names, and which its call `ended` completes without telling
--- what became of it. Rank 1 enters a collective call and sends, rank 2 sends and enters a Barrier.
+-- Rank 0 posts a receive of any source and tag, which a Cancel names, and which its call `ended` completes without
+-- telling what became of it. Rank 1 enters a collective call and sends, rank 2 sends and enters a Barrier.
 abbrev cancelled : Option ℕ → List Receive → List Entered → Entered → List ℕ → List Ops
 cancelled ended more rounds first comms =
     did [] ((record (receives 0 0 None None) { trust = Doubtful; ended = ended }) ∷ more) rounds
@@ -137,17 +137,17 @@ cancelled ended more rounds first comms =
 abbrev both : List Receive
 both = receives 0 4 (Some 1) (Some 7) ∷ receives 0 5 (Some 2) (Some 7) ∷ []
 
--- What rank 1 sends once it has left the Barrier isn't what a receive took that was completed before rank 0 entered it. So
--- it is while rank 0 isn't there yet. As long as no outcome completes the receive, it may have taken either message. A Comm_dup
--- that rank 0's calls alone tell of makes no difference: it isn't counted.
+-- What rank 1 sends once it has left the Barrier isn't what a receive took that was completed before rank 0 entered it.
+-- So it is while rank 0 isn't there yet. As long as no outcome completes the receive, it may have taken either message.
+-- A Comm_dup that rank 0's calls alone tell of makes no difference: it isn't counted.
 abbrev pub BehindABarrier : Type 0
 BehindABarrier = (table_of (cancelled (Some 2) both (barrier 3 ∷ []) (barrier 0) (2 ∷ [])) ≡ table (pair 1 1 0 4 ∷ []) (op 2 0 ∷ []))
     × (table_of (cancelled (Some 2) [] [] (barrier 0) (2 ∷ [])) ≡ table [] (op 2 0 ∷ []))
     × (table_of (cancelled None [] [] (barrier 0) (2 ∷ [])) ≡ table [] (op 1 1 ∷ op 2 0 ∷ []))
     × (table_of (cancelled (Some 2) both (enters 2 CommDup false 1 ∷ barrier 3 ∷ []) (barrier 0) (2 ∷ [])) ≡ table (pair 1 1 0 4 ∷ []) (op 2 0 ∷ []))
 
--- The receive may have taken it where it is completed only behind the Barrier, and where rank 1 comes from another kind of
--- call, or from an Ibarrier.
+-- The receive may have taken it where it is completed only behind the Barrier, and where rank 1 comes from another kind
+-- of call, or from an Ibarrier.
 abbrev pub NotBehindABarrier : Type 0
 NotBehindABarrier = (table_of (cancelled (Some 3) both (barrier 2 ∷ []) (barrier 0) (2 ∷ [])) ≡ table [] (op 1 1 ∷ op 2 0 ∷ []))
     × (table_of (cancelled (Some 2) both (barrier 3 ∷ []) (enters 2 Allreduce false 0) (2 ∷ [])) ≡ table [] (op 1 1 ∷ op 2 0 ∷ []))
@@ -158,8 +158,8 @@ abbrev pub OfAnotherBarrier : Type 0
 OfAnotherBarrier = (table_of (cancelled (Some 2) both (barrier 3 ∷ []) (enters 3 Barrier false 0) (2 ∷ 3 ∷ [])) ≡ table [] (op 1 1 ∷ op 2 0 ∷ []))
     × (table_of (cancelled (Some 2) both (barrier 1 ∷ barrier 3 ∷ []) (barrier 0) (2 ∷ [])) ≡ table [] (op 1 1 ∷ op 2 0 ∷ []))
 
--- Rank 0 receives from any source in its call 0, which call `ended` completes without telling the source, and from itself
--- in its call 1, which call 3 completes; in its call 2 it sends to itself. Rank 1 sends to it.
+-- Rank 0 receives from any source in its call 0, which call `ended` completes without telling the source, and from
+-- itself in its call 1, which call 3 completes; in its call 2 it sends to itself. Rank 1 sends to it.
 abbrev to_itself : ℕ → List Ops
 to_itself ended =
     did (sends 0 2 0 7 ∷ []) ((record (receives 0 0 None (Some 7)) { ended = Some ended }) ∷ (record (receives 0 1 (Some 0) (Some 7)) { ended = Some 3 }) ∷ []) []
@@ -205,8 +205,9 @@ PartBehindPart = (alone (sends_part 0 7 ∷ sends_part 1 8 ∷ []) (receives 1 0
 abbrev pub OpenPart : Type 0
 OpenPart = alone (sends 0 0 1 7 ∷ []) (receives_part 0 (Some 7) ∷ (record (receives_part 1 (Some 7)) { source = None }) ∷ []) ≡ table [] (op 0 0 ∷ [])
 
--- Rank 0 sends twice. Rank 1 matches a message in its call 0, by a Mprobe that tells rank 0, receives it in its call 1 by
--- an Imrecv that call 3 cancels and call 4 completes without telling what became of it, and receives in its calls 2 and 5.
+-- Rank 0 sends twice. Rank 1 matches a message in its call 0, by a Mprobe that tells rank 0, receives it in its call 1
+-- by an Imrecv that call 3 cancels and call 4 completes without telling what became of it, and receives in its calls 2
+-- and 5.
 abbrev pub probed : List Ops
 probed = did (sends 0 0 1 7 ∷ sends 0 1 1 7 ∷ []) [] []
     ∷ did [] (posted 1 0 (Some 0) Doubtful ∷ receives 1 2 (Some 0) (Some 7) ∷ receives 1 5 (Some 0) (Some 7) ∷ []) [] ∷ []
@@ -219,7 +220,7 @@ is_name a b = (a.rank == b.rank) && (a.call == b.call) && (a.part == b.part)
 abbrev pub given_back : OpName → OpName → Bool
 given_back m q = (is_name m (op 0 1) && is_name q (op 1 2)) || (is_name m (op 0 0) && is_name q (op 1 5))
 
--- The first message may have been given back behind the first of these receives: so that may have the second message, and
--- nothing is a pair.
+-- The first message may have been given back behind the first of these receives: so that may have the second message,
+-- and nothing is a pair.
 abbrev pub GivenBack : Type 0
 GivenBack = (table_of probed ≡ table [] (op 0 0 ∷ op 0 1 ∷ [])) × IsLegalFor probed given_back

@@ -1,5 +1,5 @@
-//! What takes each message, read for a few messages at a time: the receives stand far apart, and reads that don't wait for one
-//! another take no longer together than one of them.
+//! What takes each message, read for a few messages at a time: the receives stand far apart, and reads that don't wait
+//! for one another take no longer together than one of them.
 
 ghost use Rattle.std.specs.Prelude.{◌≡◌, IfOk};
 ghost use Rattle.trace_pair.specs.Waiting.{AreAhead, taker_at};
@@ -50,7 +50,7 @@ fn read_few(
 }
 
 impl<'b, 'a> Ahead<'b, 'a> {
-    /// Nothing is read yet.
+    /// The state before anything is read.
     pub(crate) fn new(alloc: Global, messages: &'b Takings<'a>) -> Ahead<'b, 'a>
         ensures { result ≡ messages.now }
     {

@@ -205,7 +205,7 @@ fn enter_receives(batch: &mut Batch, call: &[Receive]) -> Result<(), AllocError>
     Ok(())
 }
 
-/// Of each part of a call the place of the message that it takes, if no other free receive fits it.
+/// For each part of a call the place of the message that it takes, if no other free receive fits it.
 fn offered_places(
     batch: &mut Batch,
     reaches: &Reaches,

@@ -1,5 +1,5 @@
-//! Places of messages by keys. The map is asked once for nearly every key: from then on its row is found by a guess, a table by
-//! what the key mixes to, and by a look whether the row has that key.
+//! Places of messages by keys. The map is asked once for nearly every key: from then on its row is found by a guess, a
+//! table by what the key mixes to, and by a look whether the row has that key.
 
 ghost use Rattle.std.specs.Prelude.{◌≡◌, ◌<◌, ◌++◌, ◌∷◌, true, [], None, IfSome, OnOk, length};
 ghost use Rattle.std.specs.BTreeMap.{get};
@@ -46,7 +46,7 @@ impl Mix for (u32, u32, u32) {
 /// How many guesses there are at first.
 const FEW: usize = 256;
 
-/// Rows that were asked for, by what their keys mix to. Nothing is claimed of them: a key is looked for there first.
+/// Rows that were asked for, by what their keys mix to. They are only guesses: a key is looked for there first.
 #[derive(Drop)]
 struct Guesses {
     /// As many as a power of two, or none.
@@ -191,7 +191,7 @@ fn put_row<K: Ord + Copy + Drop>(
 }
 
 impl<K: Ord + Mix + Copy + Drop> PlacesByKey<K> {
-    /// No places at any key.
+    /// An empty map. It takes no memory.
     pub(crate) fn empty(alloc: Global) -> PlacesByKey<K>
         ensures { result ≡ [] }
     {

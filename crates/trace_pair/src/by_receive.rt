@@ -33,7 +33,7 @@ impl<'a> Model for PairsByReceive<'a> {
 }
 
 impl<'a> PairsByReceive<'a> {
-    /// The pairs by their receives. The more of `near` is places in that order, the sooner it is made.
+    /// The pairs by their receives. It is made faster the more of `near` is in that order.
     pub(crate) fn of_pairs(
         alloc: Global,
         pairs: &'a [Pair],
@@ -47,7 +47,7 @@ impl<'a> PairsByReceive<'a> {
         Ok(PairsByReceive { pairs, places })
     }
 
-    /// The message that the receive of that name takes, if it takes one; found by halving.
+    /// The message that the receive of that name takes; `None` if no pair has it. It is found by binary search.
     pub fn message_of(&self, receive: OpName) -> Option<OpName>
         ensures { result ≡ given_by self.now receive }
     {
@@ -55,9 +55,9 @@ impl<'a> PairsByReceive<'a> {
         self.message_near(receive, &mut nowhere)
     }
 
-    /// As [`message_of`](Self::message_of), but looked for at a place first, which is then set behind the
-    /// one where the pair was found. So who asks for receives in their order, with one place for all of
-    /// them, halves only at the first and at those that are in no pair.
+    /// As [`message_of`](Self::message_of), but it looks at `next` first and then sets it behind the place of the pair.
+    /// A caller that asks for receives in their order, with one `next` for all, needs a binary search only for the
+    /// first one and for those in no pair.
     pub fn message_near(&self, receive: OpName, place: &mut usize) -> Option<OpName>
         ensures { result ≡ given_by self.now receive }
     {

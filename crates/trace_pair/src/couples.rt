@@ -32,7 +32,7 @@ impl Model for Couples {
     ghost invariant = { λ s. AreMutual s.takers.items s.taken.items };
 }
 
-/// What the receive tells beside its message.
+/// What the receive has beside what its message says.
 pub(crate) fn taker_of(q: &Receive) -> Taker
     ensures { result ≡ taker_of q.now }
 {
@@ -68,6 +68,7 @@ pub(crate) fn receive_by(m: &Message, taker: Taker) -> Receive
 }
 
 impl Couples {
+    /// An empty set of couples. It takes no memory.
     pub(crate) fn empty(alloc: Global) -> Couples
         ensures { result ≡ [] }
     {

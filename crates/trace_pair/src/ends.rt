@@ -15,8 +15,8 @@ use mpi_model::{Message, Receive};
 use std::alloc::{AllocError, Global};
 use std::collections::BTreeMap;
 
-/// Of some receives, the call that ends the one which ends last, by receiver, tag, source and communicator. `None` is one
-/// that doesn't end.
+/// For some receives, by receiver, tag, source and communicator, the last call that ends one of them. `None` says that
+/// one of them doesn't end.
 #[derive(Drop)]
 pub struct Ends {
     kinds: Kinds,
@@ -24,7 +24,7 @@ pub struct Ends {
 }
 
 impl Ends {
-    /// Of no receives.
+    /// The ends of no receives. It takes no memory.
     pub fn empty(alloc: Global) -> Ends
         ensures { AreLast [] result }
     {
@@ -34,7 +34,7 @@ impl Ends {
         }
     }
 
-    /// And the end of this receive.
+    /// Adds the end of this receive. On `AllocError`, when memory is refused, its contents are unspecified.
     pub fn insert(&mut self, q: &Receive) -> Result<(), AllocError>
         ensures { OnOk result ((opened : List Receive) → AreLast opened self.old → AreLast (q.now ∷ opened) self.new) }
     {

@@ -162,8 +162,8 @@ fn call_at(rounds: &[Entered], place: usize) -> u64
     }
 }
 
-/// Whether two calls are the same to what comes after what: one call on one communicator, both Barriers or neither, and both
-/// collective communications or neither.
+/// Whether two calls are the same to what comes after what: one call on one communicator, both Barriers or neither, and
+/// both collective communications or neither.
 fn is_alike(a: &Entered, b: &Entered) -> bool
     ensures { IsTrue result ↔ IsAlike a.now b.now }
 {
@@ -205,8 +205,8 @@ fn last_common(a: &[Entered], b: &[Entered]) -> u64
     earlier(call_at(a, front), call_at(b, front))
 }
 
-/// How many messages and how many receives stay where a rank did other calls than was held: those of
-/// the common front, as long as what comes after what stays as it was.
+/// How many messages and receives stay when a rank's ops change: those of the common front, as long as it is unchanged
+/// which messages come after which receives.
 #[derive(Clone, Copy, Debug)]
 pub(crate) struct Fronts {
     pub(crate) sends: usize,
@@ -232,7 +232,7 @@ fn fronts_of(held: &RankOps, new: &RankOps) -> Fronts
     }
 }
 
-/// Takes back the calls of a rank that don't stay where it did other ones, and tells how many stay.
+/// Takes back the calls of a rank that don't stay when its ops change, and returns how many stay.
 pub(crate) fn drop_calls(
     state: &mut Matched,
     held: &[RankOps],
@@ -252,7 +252,7 @@ pub(crate) fn drop_calls(
     Ok(fronts)
 }
 
-/// Adds the calls of a rank behind those that stay.
+/// Adds the calls of a rank after those that stay.
 pub(crate) fn add_calls(
     state: &mut Matched,
     held: &[RankOps],

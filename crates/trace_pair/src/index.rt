@@ -39,9 +39,8 @@ pub(crate) enum Following {
     Never,
 }
 
-/// The pairs of the ops that it holds, one for each rank. Sets follow the ops as they change, as long
-/// as each call has one part; else, as before the first change, [`pairs`](PairIndex::pairs) goes over all
-/// calls.
+/// Finds the pairs of the ops that it holds. As long as each call has one part, it keeps sets that follow each change
+/// of the ops; otherwise, and before the first change, [`pairs`](PairIndex::pairs) goes over all calls.
 #[derive(Drop)]
 pub struct PairIndex {
     held: Vec<RankOps>,
@@ -61,7 +60,7 @@ impl Model for PairIndex {
 }
 
 impl PairIndex {
-    /// Every rank is without calls.
+    /// An index in which no rank has made a call yet. Fails with `AllocError` when memory is refused.
     pub fn new(alloc: Global, ranks: u32) -> Result<PairIndex, AllocError>
         ensures { IfOk result (λ index. index ≡ fresh ranks) }
     {
@@ -71,7 +70,8 @@ impl PairIndex {
         })
     }
 
-    /// The index of these ops, the ops of rank r at place r, as `grow` makes it rank by rank.
+    /// The index of these ops, those of rank r at place r, as [`grow`](Self::grow) would make it rank by rank. Fails
+    /// with `AllocError` when memory is refused.
     pub fn of_all(alloc: Global, ops: Vec<RankOps>) -> Result<PairIndex, AllocError>
         requires own { AreOwn 0 ops.items }
         ensures { IfOk result (λ index. index ≡ ops.items) }
@@ -83,8 +83,8 @@ impl PairIndex {
         })
     }
 
-    /// The rank did more. Sources may be told by now, and a Cancel may have come, or what became of it:
-    /// so pairs can go, too. Where memory is refused, the index is as made by `new`.
+    /// Replaces the rank's ops by longer ones. Sources may be told now, and a Cancel or its outcome may have come, so
+    /// pairs can also vanish. If memory is refused, the index is as new.
     pub fn grow(&mut self, rank: u32, ops: RankOps) -> Result<(), AllocError>
         requires rank { rank < length self.old }
         requires own { IsOwn rank ops }
@@ -95,8 +95,8 @@ impl PairIndex {
         self.set(rank, ops)
     }
 
-    /// The rank did less than was thought, and what its later calls told isn't told any more. Where
-    /// memory is refused, the index is as made by `new`.
+    /// Replaces the rank's ops by shorter ones: what its later calls told isn't told any more. If memory is refused,
+    /// the index is as new.
     pub fn cut(&mut self, rank: u32, ops: RankOps) -> Result<(), AllocError>
         requires rank { rank < length self.old }
         requires own { IsOwn rank ops }
@@ -107,16 +107,16 @@ impl PairIndex {
         self.set(rank, ops)
     }
 
-    /// The ops that it holds, those of rank r at place r.
+    /// The ops that the index holds, those of rank r at place r.
     pub fn ops(&self) -> &[RankOps]
         ensures { result.now ≡ self.now }
     {
         &self.held
     }
 
-    /// The table of the held ops, made by one pass over them, what its pairs are worth, and that none
-    /// is missing where no receive is open, no message doubtful, and no two parts of one call fit the
-    /// same (MPI 4.0, 3.5 and 3.9).
+    /// The pairs of the held ops, made in one pass. The contract says that each pair is certain, and that none is
+    /// missing if no receive is open, no message doubtful, and no two parts of one call fit the same (MPI 4.0, 3.5 and
+    /// 3.9). Fails with `AllocError` when memory is refused.
     pub fn pairs(&self) -> Result<PairTable, AllocError>
         ensures table { IfOk result (λ t. t ≡ table_of self.now) }
         ensures certain { IfOk result (λ t. AreCertain self.now t.pairs) }
@@ -128,8 +128,8 @@ impl PairIndex {
         Ok(table)
     }
 
-    /// The rank's ops are these, whatever they were: `grow` and `cut` for a caller who doesn't know
-    /// which of them it is. Where memory is refused, the index is as made by `new`.
+    /// Replaces the rank's ops by these, longer or shorter, for a caller that doesn't know which. If memory is refused,
+    /// the index is as new.
     pub fn set(&mut self, rank: u32, ops: RankOps) -> Result<(), AllocError>
         requires rank { rank < length self.old }
         requires own { IsOwn rank ops }

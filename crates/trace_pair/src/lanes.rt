@@ -1,7 +1,8 @@
-//! The open receives of one key, in order of their calls, each with the end of the last to end of it and all in front of it.
+//! The open receives of one key, in order of their calls, each with the end of the last to end of it and all in front
+//! of it.
 //!
-//! A message asks a lane for that end alone, of the whole lane or of the front that is called no later than some call. Receives
-//! come and go at the end of a lane, but for a few: so one costs a search, and a push or a pop.
+//! A message asks a lane for that end alone, of the whole lane or of the front that is called no later than some call.
+//! Receives come and go at the end of a lane, but for a few: so one costs a search, and a push or a pop.
 
 ghost use Rattle.std.specs.Prelude.{◌≡◌, ◌≤◌, not, false, nat_lt, nat_le, take, filter, length, IfOk, OnOk, OnErr, IsTrue, None};
 ghost use Rattle.std.specs.BTreeSet.{contains};
@@ -119,7 +120,7 @@ fn stands_last(steps: &[Step], q: &Receive) -> bool
 }
 
 impl Lane {
-    /// Of one receive.
+    /// A lane of one receive.
     pub(crate) fn one(alloc: Global, q: Receive) -> Result<Lane, AllocError>
         ensures { IfOk result (λ s. (d : Receive) → contains receive_cmp s d ≡ is_eq (receive_cmp q d)) }
     {
@@ -131,6 +132,7 @@ impl Lane {
         Ok(Lane { steps })
     }
 
+    /// Whether no receive stands in it.
     pub(crate) fn is_empty(&self) -> bool
         ensures none { IsTrue result → (d : Receive) → contains receive_cmp self.now d ≡ false }
         ensures some { result ≡ false → HasMember receive_cmp self.now }
@@ -166,7 +168,8 @@ impl Lane {
         }
     }
 
-    /// The end of the last to end of the receives that are called no later than the limit, or of all where there is none.
+    /// The end of the last to end of the receives that are called no later than the limit, or of all where there is
+    /// none.
     pub(crate) fn latest(&self, limit: Option<u64>) -> Option<Option<u64>>
         ensures { IsLatestOf (filter (is_within limit) self.now.keys) result }
     {

@@ -16,7 +16,7 @@ fn later_end(a: Option<u64>, b: Option<u64>) -> Option<u64>
     }
 }
 
-/// With one end more, where there may be one.
+/// The later of two ends, when there may be only one.
 pub(crate) fn with_end(had: Option<Option<u64>>, end: Option<u64>) -> Option<u64>
     ensures { result ≡ with_end had end }
 {

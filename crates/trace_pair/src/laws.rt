@@ -1,4 +1,4 @@
-//! What makes the rules easy to believe, as contracts of calls that do nothing.
+//! Facts that make the rules easy to believe, as contracts of functions that do nothing.
 
 ghost use Rattle.std.specs.Prelude.{◌≡◌, List, Bool, true};
 ghost use Rattle.std.specs.List.{AllZip};
@@ -13,8 +13,8 @@ ghost use Rattle.trace_pair.specs.Matching.{IsCoupledBy, IsLeftUnposted, IsLeftU
 ghost use Rattle.trace_pair.specs.Table.{table_of};
 ghost use Rattle.trace_pair.specs.Worked.{Over, AnyTag, Hidden, ToldLater, InOrder, CutBack, Exchanged, Interleaved, Freed, TwoCommunicators, CancelledReceive, ToldCancelled, CancelledMessage, BehindABarrier, NotBehindABarrier, OfAnotherBarrier, BehindTheEnd, NotBehindTheEnd, PartsByTag, PartsInAnyOrder, PartBehindPart, OpenPart, GivenBack};
 
-/// A pair obeys the five rules, what obeys them is a pair, and no other relation obeys them. Each
-/// message has at most one receive, and each receive at most one message.
+/// The pairs are the only relation that obeys the five rules. Each message has at most one receive, and each receive at
+/// most one message.
 pub fn pairs_are_the_rules()
     ensures rules { (after : After) (ms : List Message) (qs : List Receive) → PairsObey after ms qs }
     ensures all { (after : After) (ms : List Message) (qs : List Receive) → WhatObeysIsPaired after ms qs }
@@ -26,21 +26,21 @@ pub fn pairs_are_the_rules()
         → AreApart ms → HaveOneMessage after ms qs }
 {}
 
-/// Each pair is a couple of every legal matching of every continuation in which no later Cancel names
-/// what is sure.
+/// Each pair belongs to every legal matching of every continuation in which no later Cancel names a sure message or
+/// receive.
 pub fn pairs_are_certain()
     ensures { (after : After) (ms : List Message) (qs : List Receive) → PairsAreCertain after ms qs }
 {}
 
-/// A message that comes after a receive does so however the ranks go on; and where it comes to do
-/// so, an outcome completed the receive meanwhile.
+/// If a message comes after a receive, it does so however the ranks go on. If it comes after it only in a continuation,
+/// an outcome has completed the receive meanwhile.
 pub fn what_comes_after_stays()
     ensures stays { (held more : List Ops) → AreOwn 0 held → AreOwn 0 more → AllZip Grows held more → StaysAfter held more }
     ensures was { (held more : List Ops) → AreOwn 0 held → AreOwn 0 more → AllZip Grows held more → WasAfter held more }
 {}
 
-/// A matching is legal where, for some doubtful messages and receives that are in no couple, it is
-/// legal as if those were void; and beside a legal one stand all doubtful ones that are in no couple.
+/// A matching is legal if it is legal with some of the doubtful messages and receives that are in no couple taken as
+/// void. A legal matching stays legal if all of these are taken as void.
 pub fn doubtful_may_stand_outside()
     ensures legal { (after : After) (ms : List Message) (qs : List Receive)
         (couple : Message → Receive → Bool) (unsent : Message → Bool) (unposted : Receive → Bool)
@@ -51,10 +51,9 @@ pub fn doubtful_may_stand_outside()
         → IsLegalBeside after ms qs (IsCoupledBy couple) (IsLeftUnsent qs couple) (IsLeftUnposted ms couple) }
 {}
 
-/// What the pairs of a table are worth: each is a couple of every legal matching of every continuation; and
-/// where no receive is open, no message doubtful, and no two parts of one call fit one receive or
-/// message, no other matching is legal (MPI 4.0, 3.5), and they are a legal one where also no message of
-/// a pair comes after its receive.
+/// What the pairs of a table mean. Each pair belongs to every legal matching of every continuation. If no receive is
+/// open, no message doubtful, and no two parts of one call fit one receive or message, no other matching is legal (MPI
+/// 4.0, 3.5); if also no message of a pair comes after its receive, the pairs are themselves a legal matching.
 pub fn tables_are_certain()
     ensures certain { (held : List Ops) → AreOwn 0 held → AreCertain held (table_of held).pairs }
     ensures legal { (held : List Ops) → AreOwn 0 held → AreLegalIfSettled held (table_of held).pairs }

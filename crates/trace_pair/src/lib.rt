@@ -1,17 +1,15 @@
 //! Which message was received by which receive.
 //!
-//! A pair is reported only where it is certain: whatever the ranks did next, and however their open
-//! receives were told, MPI allows no run in which the two aren't matched. Where no receive is open, no
-//! message doubtful, and no two parts of one Startall fit the same, the pairs are the only matching
-//! that MPI allows. Both are clauses of [`pair_all`] and of [`PairIndex::pairs`]. They hold of runs in
-//! which no call that isn't read cancels a request of one that is.
+//! A pair is reported only if it is certain: whatever the ranks did next, and whatever sources their open receives got,
+//! MPI allows no run in which the two aren't matched. Where no receive is open, no message doubtful, and no two parts
+//! of one Startall fit the same, the pairs are the only matching that MPI allows. Both are clauses of [`pair_all`] and
+//! of [`PairIndex::pairs`]. They hold for runs in which no unread call cancels a request of a call that is read.
 //!
-//! [`pair_all`] goes once over all calls, and takes n of them in n log n; [`PairIndex::pairs`] has the
-//! same contract. The index follows the ranks as they grow and are cut back; one step costs in
-//! proportion to what is new, and one pass over that rank's calls. It has no sets until the first step:
-//! [`PairIndex::of_all`] only keeps the calls, and `pairs` is `pair_all` then. So it is again from the
-//! step on that brings a call of several parts, a Startall. It keeps no table: each call of `pairs`
-//! makes one, by a pass over all messages.
+//! [`pair_all`] goes once over all calls, and takes n of them in n log n; [`PairIndex::pairs`] has the same contract.
+//! The index follows the ranks as they grow and are cut back; one step costs in proportion to what is new, and one pass
+//! over that rank's calls. It makes its sets at the first step: before that [`PairIndex::of_all`] only keeps the calls,
+//! and `pairs` does what `pair_all` does. The same holds after a step that brings a call of several parts, a Startall.
+//! It keeps no table: each call of `pairs` makes one, by a pass over all messages.
 //!
 //! - [`pair`]: a pair
 //! - [`scratch`]: the pairing from scratch; [`batch`]: its pass over all receives; [`sends`]: all messages, where they
@@ -38,15 +36,15 @@
 //!
 //! # Choices
 //!
-//! - A table of pairs has no `partner`: its pairs stand in order of the message, and who follows one message or one
-//!   receive searches that list. Both ends at hand without memory would want a second list in each table, and no report
-//!   asks for it.
-//! - The rules are a `Bool` function with a bound, and a law makes the bound vanish, so worked examples compute. "The
-//!   same sender" is said by `from`, "the same rank" by `at`, as `fits` says it.
+//! - A table of pairs has no `partner`: its pairs are in order of the message, and a caller that follows one message or
+//!   one receive searches that list. To find both ends without memory each table would need a second list, which no
+//!   report uses.
+//! - The rules are a `Bool` function with a bound, and a law removes the bound, so that worked examples can be
+//!   computed. "The same sender" is said by `from`, "the same rank" by `at`, as `fits` says it.
 //! - [`pair_all`] is one pass over all calls; the rules as written hold each message against all others. The calls of
 //!   all ranks are put in part by part: rank by rank nearly all messages would wait at once.
-//! - After a refused growth the index is as new: a state within a rank's change is of no use, and taking back could be
-//!   refused as well.
+//! - If memory runs out, the index is as new: a state in the middle of a rank's change is of no use, and undoing it
+//!   could run out of memory as well.
 //! - Open receives stand in lanes by what they name, each with the latest end up to it: a message asks for the ends of
 //!   four lanes. One set by calls would be walked for each message.
 //! - The index follows calls of one part, and keeps no table, which would be made anew at each step; nor a table by the
@@ -54,8 +52,8 @@
 //! - What takes the messages is read for 32 of them at a time: a master's receives stand far apart in the order of its
 //!   messages, and many reads wait for memory together. The row of a key is guessed by what the key mixes to; nothing
 //!   is claimed of the guesses. Keys begin with what tells most apart, the receiver.
-//! - Messages and receives have functions of their own: a generic over one side would need a trait whose laws say of
-//!   each side which sets hold it, and by which keys.
+//! - Messages and receives have separate functions: a generic one would need a trait whose laws say, for each side,
+//!   which sets hold it and by which keys.
 //! - What comes after a receive counts collective communications alone. Other collective calls are read leniently: if
 //!   they counted, a trace that lacks a communicator would let a message come after a receive too soon.
 //!

@@ -28,6 +28,7 @@ pub(crate) struct Matched {
 }
 
 impl Matched {
+    /// The state before the first message and the first receive. It takes no memory.
     pub(crate) fn empty(alloc: Global) -> Matched
         ensures { (after : After) → Indexes after [] [] result }
     {

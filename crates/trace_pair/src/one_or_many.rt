@@ -60,7 +60,7 @@ impl<T: Ord> Members<T> {
         }
     }
 
-    /// The first member in the set's order; `None` where it has none.
+    /// The first member in the set's order; `None` if it has none.
     pub(crate) fn first(&self) -> Option<T>
     where
         T: Copy,
@@ -83,7 +83,7 @@ impl<T: Ord> Members<T> {
         self.first().is_none()
     }
 
-    /// Puts a member in, for which a set of one gets its tree. Where memory is lacking, the set stays the same.
+    /// Puts a member in, for which a set of one gets its tree. If memory runs out, nothing changes.
     pub(crate) fn insert(&mut self, alloc: Global, x: T) -> Result<(), AllocError>
     where
         T: Copy + Drop,

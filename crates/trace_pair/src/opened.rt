@@ -24,7 +24,7 @@ use std::alloc::{AllocError, Global};
 use std::collections::BTreeMap;
 use std::marker::Model;
 
-/// The receiver, the tag, the source and the communicator of receives.
+/// What receives name: the receiver, the tag, the source and the communicator.
 type Key = (u32, Option<u32>, Option<u32>, u32);
 
 /// Puts a lane of one receive at its key, where none stands.
@@ -112,6 +112,7 @@ impl Model for Opened {
 }
 
 impl Opened {
+    /// An empty set of open receives. It takes no memory.
     pub(crate) fn empty(alloc: Global) -> Opened
         ensures { result ≡ [] }
     {
@@ -138,8 +139,8 @@ impl Opened {
         drop_from(&mut self.lanes, q);
     }
 
-    /// The end of the last to end of the receives with this source and tag that are called no later than the limit, where there
-    /// is one, and whose envelopes fit the message's.
+    /// The end of the last to end of the receives with this source and tag that are called no later than the limit,
+    /// where there is one, and whose envelopes fit the message's.
     fn last_with(
         &self,
         m: &Message,
@@ -177,8 +178,8 @@ impl Opened {
         later_of(told, untold)
     }
 
-    /// Whether some that are called no later than the limit, where there is one, may have taken the message: where it comes after
-    /// the last to end, it comes after all.
+    /// Whether some that are called no later than the limit, where there is one, may have taken the message: where it
+    /// comes after the last to end, it comes after all.
     fn hides_within(&self, reaches: &Reaches, m: &Message, limit: Option<u64>) -> bool
         ensures yes { result ≡ true → SomeHides (comes_after reaches.now) (filter (is_within limit) self.now) m.now }
         ensures no { result ≡ false → NoneHides (comes_after reaches.now) (filter (is_within limit) self.now) m.now }

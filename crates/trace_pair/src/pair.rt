@@ -5,13 +5,12 @@ ghost use Rattle.trace_pair.specs.Table.{pair_of};
 
 use mpi_model::{Message, OpName, Receive};
 
-/// The names of a message and of the receive that takes it.
+/// The operations of a message and of the receive that takes it.
 #[derive(Clone, Copy, Debug, PartialEq, Eq)]
 pub struct Pair {
     pub message: OpName,
     pub receive: OpName,
-    /// More elements are sent than the receive takes, at one datatype: the call is erroneous
-    /// (MPI 4.0, 3.2.4).
+    /// More elements are sent than the receive takes, of the same datatype: the program is erroneous (MPI 4.0, 3.2.4).
     pub over: bool,
 }
 
@@ -22,7 +21,7 @@ pub(crate) struct Couple {
     pub(crate) receive: Receive,
 }
 
-/// What a receive tells beside what the message tells that it takes.
+/// What a receive has beside what the message that it takes already says.
 #[derive(Clone, Copy, Debug, PartialEq, Eq)]
 pub(crate) struct Taker {
     pub(crate) call: u64,
@@ -33,7 +32,7 @@ pub(crate) struct Taker {
     pub(crate) ended: Option<u64>,
 }
 
-/// The pair of a message and its receive, which is over where both have one datatype and the message the greater count.
+/// The pair of a message and its receive. It is `over` if both have one datatype and the message has the greater count.
 pub(crate) fn make_pair(m: &Message, q: &Receive) -> Pair
     ensures { result ≡ pair_of m.now q.now }
 {

@@ -1,5 +1,5 @@
-//! Places of messages, in their order: where the first message that waits is found without going through those that were
-//! taken again.
+//! Places of messages, in their order: where the first message that waits is found without going through those that
+//! were taken again.
 
 ghost use Rattle.std.specs.Prelude.{◌≡◌, ◌++◌, ◌∷◌, [], OnOk, IfOk, drop, slice_get};
 ghost use Rattle.trace_pair.specs.Waiting.{from_waiting, is_followed, is_of_call, call_at, sole_or_first};

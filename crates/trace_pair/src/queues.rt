@@ -13,7 +13,8 @@ use std::alloc::{AllocError, Global};
 use std::collections::BTreeMap;
 use std::marker::Model;
 
-/// A set of messages, by receiver, sender, tag and communicator; and the same ones without the tag, for a receive of any.
+/// A set of messages, by receiver, sender, tag and communicator; and the same ones without the tag, for a receive of
+/// any.
 #[derive(Drop)]
 pub(crate) struct Messages {
     alloc: Global,
@@ -35,6 +36,7 @@ impl Model for Messages {
 }
 
 impl Messages {
+    /// An empty set of messages. It takes no memory.
     pub(crate) fn empty(alloc: Global) -> Messages
         ensures { result ≡ [] }
     {
@@ -98,7 +100,8 @@ impl Messages {
     }
 }
 
-/// The kinds of receives that a set ever had: by whether the source is told, and a tag. A kind that it didn't have needs no probe.
+/// The kinds of receives that a set ever had: by whether the source is told, and a tag. A kind that it didn't have
+/// needs no probe.
 #[derive(Clone, Copy, Debug, PartialEq, Eq)]
 pub(crate) struct Kinds {
     pub(crate) told: bool,
@@ -107,6 +110,7 @@ pub(crate) struct Kinds {
     pub(crate) untold_any_tag: bool,
 }
 
+/// The kinds of a set that never had a receive.
 pub(crate) const NO_KINDS: Kinds = Kinds {
     told: false,
     told_any_tag: false,
@@ -131,7 +135,7 @@ impl Kinds {
         }
     }
 
-    /// And the kind of this source and tag.
+    /// Adds the kind of this source and tag.
     pub(crate) fn marked(self, source: Option<u32>, tag: Option<u32>) -> Kinds
         ensures { result ≡ kinds_with self source tag }
     {
@@ -166,6 +170,7 @@ impl Model for Receives {
 }
 
 impl Receives {
+    /// An empty set of receives. It takes no memory.
     pub(crate) fn empty(alloc: Global) -> Receives
         ensures { result ≡ [] }
     {

@@ -1,4 +1,5 @@
-//! The ends of open receives, as the ranks come one after another: what is for a rank behind those that posted some needs no search.
+//! The ends of open receives, as the ranks come one after another: what is for a rank behind those that posted some
+//! needs no search.
 
 ghost use Rattle.std.specs.Prelude.{◌≡◌, ◌∷◌, false, [], OnOk, List};
 ghost use Rattle.mpi_model.specs.declared.message.Receive.{Receive};
@@ -18,7 +19,7 @@ pub(crate) struct RankedEnds {
 }
 
 impl RankedEnds {
-    /// Of no receives.
+    /// The ends of no receives. It takes no memory.
     pub(crate) fn empty(alloc: Global) -> RankedEnds
         ensures { AreRanked [] result }
     {
@@ -35,7 +36,7 @@ impl RankedEnds {
         (rank as u64) < self.below
     }
 
-    /// And the end of this receive.
+    /// Adds the end of this receive.
     pub(crate) fn insert(&mut self, q: &Receive) -> Result<(), AllocError>
         ensures { OnOk result ((opened : List Receive) → AreRanked opened self.old → AreRanked (q.now ∷ opened) self.new) }
     {

@@ -1,4 +1,5 @@
-//! Receives in sets, as the ranks come one after another: what is for a rank behind those that have some needs no search.
+//! Receives in sets, as the ranks come one after another: what is for a rank behind those that have some needs no
+//! search.
 
 ghost use Rattle.std.specs.Prelude.{◌≡◌, [], true, false, IfNone, IfSome, OnOk};
 ghost use Rattle.mpi_model.specs.declared.message.Receive.{Receive};
@@ -33,6 +34,7 @@ impl Model for RankedReceives {
 }
 
 impl RankedReceives {
+    /// An empty set of receives. It takes no memory.
     pub(crate) fn empty(alloc: Global) -> RankedReceives
         ensures { result ≡ [] }
     {
@@ -50,7 +52,7 @@ impl RankedReceives {
         (rank as u64) < self.below
     }
 
-    /// Puts a receive in. What the set has after an error means nothing.
+    /// Puts a receive in. After an error the contents are unspecified.
     pub(crate) fn insert(&mut self, q: Receive) -> Result<(), AllocError>
         ensures { OnOk result (AddsTo self.old self.new q) }
     {

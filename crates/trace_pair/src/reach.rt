@@ -1,9 +1,9 @@
-//! Which messages come after which receives, asked of a table that is made once: no question goes through the collective
-//! calls again.
+//! Which messages come after which receives, asked of a table that is made once: no question goes through the
+//! collective calls again.
 //!
-//! A sender has left the more, the later its message: so of its Barriers on a communicator the last one before the message
-//! decides. That is one search in the sender's Barriers, for each communicator on which it entered any, and one look at
-//! the call with which the receiver's rank entered that Barrier's round.
+//! A sender has left the more, the later its message: so of its Barriers on a communicator the last one before the
+//! message decides. That is one search in the sender's Barriers, for each communicator on which it entered any, and one
+//! look at the call with which the receiver's rank entered that Barrier's round.
 
 ghost use Rattle.std.specs.Prelude.{◌≡◌, ◌==◌, ◌<◌, ◌≤◌, ℕ, Some, List, IfOk, IfSome, IfNone, OnOk, OnErr, length, nat_lt, get_or, slice_get};
 ghost use Rattle.std.specs.List.{list_any};
@@ -21,8 +21,8 @@ use std::collections::BTreeMap;
 use std::marker::Model;
 use trace_ops::{Entered, RankOps};
 
-/// A Barrier that a rank entered: its call, and how many collective communications of the rank on its communicator stand
-/// before it.
+/// A Barrier that a rank entered: its call, and how many collective communications of the rank on its communicator
+/// stand before it.
 #[derive(Clone, Copy)]
 pub(crate) struct Barrier {
     call: u64,
@@ -44,8 +44,8 @@ impl Model for CommCalls {
     ghost view = { λ s. record { calls = s.calls.items; barriers = s.barriers.items } };
 }
 
-/// The collective communications of a rank by communicator, with a row for each on which it entered some; the communicators on which
-/// it entered Barriers; and those that hold it, in rising order.
+/// The collective communications of a rank by communicator, with a row for each on which it entered some; the
+/// communicators on which it entered Barriers; and those that hold it, in rising order.
 #[derive(Drop)]
 pub struct RankReach {
     rows: BTreeMap<u32, CommCalls>,
@@ -229,7 +229,7 @@ impl RankReach {
         })
     }
 
-    /// Whether the communicator holds the rank, found by halves.
+    /// Whether the communicator holds the rank, found by binary search.
     fn holds(&self, comm: u32) -> bool
         requires { IsNonDecreasing self.now.comms.items }
         ensures { result ≡ holds self.now comm }
@@ -255,8 +255,8 @@ impl RankReach {
         self.rows.get(&comm)?.last_before(call)
     }
 
-    /// Whether the receiver's rank entered behind call `ended` the last Barrier on the communicator that this rank entered
-    /// before the call.
+    /// Whether the receiver's rank entered behind call `ended` the last Barrier on the communicator that this rank
+    /// entered before the call.
     fn is_passed_on(&self, receiver: &RankReach, comm: u32, call: u64, ended: u64) -> bool
         requires rows { AreRowsRising self.now }
         requires comms { IsNonDecreasing receiver.now.comms.items }
@@ -343,7 +343,7 @@ impl<'a> Model for Reaches<'a> {
 }
 
 impl<'a> Reaches<'a> {
-    /// Of these ops, whose table this is.
+    /// The table of these ops.
     pub fn new(ops: &'a [RankOps], table: &'a [RankReach]) -> Reaches<'a>
         requires { AreReachesOf ops.now table.now }
         ensures { result ≡ ops.now }
@@ -358,8 +358,8 @@ impl<'a> Reaches<'a> {
         self.ops
     }
 
-    /// Whether the message comes after a receive of the rank that this call completes: a search for each communicator on
-    /// which the sender entered Barriers.
+    /// Whether the message comes after a receive of the rank that this call completes: a search for each communicator
+    /// on which the sender entered Barriers.
     pub(crate) fn is_after(&self, m: &Message, at: u32, ended: Option<u64>) -> bool
         ensures { result ≡ is_after (get_or self.now m.now.from no_ops) (get_or self.now at no_ops) m.now at ended }
     {

@@ -35,6 +35,7 @@ impl Model for Rows {
 }
 
 impl Rows {
+    /// A table without rows. It takes no memory.
     pub(crate) fn empty(alloc: Global) -> Rows
         ensures { result ≡ table_of [] }
     {

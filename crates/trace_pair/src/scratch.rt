@@ -12,11 +12,10 @@ use crate::table::PairTable;
 use std::alloc::{AllocError, Global};
 use trace_ops::RankOps;
 
-/// The pairs and the postponed messages of all ranks, the ops of rank r at place r.
+/// The pairs and the postponed messages of all ranks (MPI 4.0, 3.2.3 and 3.5); `ops` has those of rank r at place r.
 ///
-/// It goes once over all messages and once over all receives, and asks a few questions of sorted maps
-/// for each; what comes after a receive it asks of a table that it makes first. It knows no index, which
-/// is what makes it the test partner of one.
+/// It goes once over all messages and once over all receives, with a few look-ups in sorted maps for each. It uses no
+/// index, so it can be used to test one. Fails with `AllocError` when memory is refused.
 pub fn pair_all(alloc: Global, ops: &[RankOps]) -> Result<PairTable, AllocError>
     requires own { AreOwn 0 ops.now }
     ensures table { IfOk result (λ table. table ≡ table_of ops.now) }

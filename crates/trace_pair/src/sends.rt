@@ -55,7 +55,7 @@ impl<'a> Sends<'a> {
         self.messages.len()
     }
 
-    /// Whose memory the list stands in.
+    /// The allocator of the list's memory.
     pub(crate) fn allocator(&self) -> &Global {
         self.messages.allocator()
     }

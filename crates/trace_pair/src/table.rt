@@ -22,8 +22,8 @@ use trace_ops::RankOps;
 #[derive(Drop)]
 pub struct PairTable {
     rows: Rows,
-    /// Places of the pairs, nearly in order of the receive. Nothing is claimed of them: the sort by the
-    /// receive begins with them, where it is asked for.
+    /// Places of the pairs, nearly in order of the receive. This order is only a guess, from which the sort by the
+    /// receive starts.
     near: Vec<u32>,
 }
 
@@ -39,8 +39,7 @@ impl Model for PairTable {
 }
 
 impl PairTable {
-    /// The table of these rows. The more of `near` is places in order of the receive, the sooner the
-    /// pairs are put in that order.
+    /// The table of these rows. The pairs are sorted by receive faster the more of `near` is in that order.
     pub(crate) fn of_rows(rows: Rows, near: Vec<u32>) -> PairTable
         requires { ArePairs rows.pairs }
         ensures { result ≡ rows }
@@ -65,14 +64,14 @@ impl PairTable {
         Ok(PairTable::of_rows(rows, near))
     }
 
-    /// In order of the message: by rank, then by call.
+    /// The pairs, in order of the message: by rank, then by call.
     pub fn pairs(&self) -> &[Pair]
         ensures { result.now ≡ self.now.pairs }
     {
         &self.rows.pairs
     }
 
-    /// Messages in no pair that an open receive fits, in their order.
+    /// The messages in no pair that an open receive fits, in their order.
     pub fn postponed(&self) -> &[OpName]
         ensures { result.now ≡ self.now.postponed }
     {
@@ -87,7 +86,7 @@ impl PairTable {
         (self.rows.pairs, self.rows.postponed)
     }
 
-    /// The receive that takes the message of that name, if one does; found by halving.
+    /// The receive that takes the message of that name; `None` if no pair has it. It is found by binary search.
     pub fn receive_of(&self, message: OpName) -> Option<OpName>
         ensures { result ≡ taken_by self.now.pairs message }
     {
@@ -95,17 +94,17 @@ impl PairTable {
         self.receive_near(message, &mut nowhere)
     }
 
-    /// As [`receive_of`](Self::receive_of), but looked for at a place first, which is then set behind the
-    /// one where the pair was found. So who asks for messages in their order, with one place for all of
-    /// them, halves only at the first and at those that are in no pair.
+    /// As [`receive_of`](Self::receive_of), but it looks at `next` first and then sets it behind the place of the pair.
+    /// A caller that asks for messages in their order, with one `next` for all, needs a binary search only for the
+    /// first one and for those in no pair.
     pub fn receive_near(&self, message: OpName, place: &mut usize) -> Option<OpName>
         ensures { result ≡ taken_by self.now.pairs message }
     {
         taken_near(&self.rows.pairs, place, &message)
     }
 
-    /// The pairs in order of the receive. The table keeps no such order: it is made anew by each call, in
-    /// n log n, and less the nearer the receives came in their order.
+    /// The pairs in order of the receive. Each call sorts them anew, in n log n, or less if they are nearly in order.
+    /// Fails with `AllocError` when memory is refused.
     pub fn by_receive(&self, alloc: Global) -> Result<PairsByReceive<'_>, AllocError>
         ensures { IfOk result (λ pairs. pairs ≡ self.now.pairs) }
     {

@@ -1,4 +1,5 @@
-//! What takes each message, and whether it waits, which is asked much more often: for that a message has a byte of its own.
+//! What takes each message, and whether it waits, which is asked much more often: for that a message has a byte of its
+//! own.
 
 ghost use Rattle.std.specs.Prelude.{◌≡◌, ◌<◌, true, false, Some, None, IfOk, OnOk, OnErr, length, replicate, slice_get, slice_index_or, slice_set};
 ghost use Rattle.trace_pair.specs.Coupled.{taker_of};
@@ -11,12 +12,12 @@ use mpi_model::Receive;
 use std::alloc::{AllocError, Global};
 use std::marker::Model;
 
-/// Of each message what takes it.
+/// For each message what takes it.
 #[derive(Drop)]
 pub(crate) struct TakenBy<'a> {
-    /// Of each message the receive that takes it, where one does.
+    /// For each message the receive that takes it, where one does.
     receives: Vec<Option<&'a Receive>>,
-    /// Of each message whether it waits: in a byte, since that is asked of any of them in turn.
+    /// For each message whether it waits: in a byte, since that is asked of any of them in turn.
     waiting: Vec<bool>,
     /// The places of those that are taken, as their receives came, as far as four bytes hold them.
     came: Vec<u32>,
@@ -58,7 +59,7 @@ fn mark_at(marks: &[bool], place: usize) -> bool
     marks.get(place).copied().unwrap_or(false)
 }
 
-/// Of each message how many before it are taken.
+/// For each message how many before it are taken.
 fn taken_before(alloc: Global, waiting: &[bool]) -> Result<Vec<u32>, AllocError> {
     let mut counts = Vec::with_capacity(alloc, waiting.len())?;
     let mut count: u32 = 0;
@@ -72,7 +73,7 @@ fn taken_before(alloc: Global, waiting: &[bool]) -> Result<Vec<u32>, AllocError>
 }
 
 impl<'a> TakenBy<'a> {
-    /// Nothing takes any of so many messages.
+    /// This many messages, none of which is taken.
     pub(crate) fn none(alloc: Global, count: usize) -> Result<TakenBy<'a>, AllocError>
         ensures { IfOk result (λ takers. takers ≡ replicate count None) }
     {
@@ -115,9 +116,8 @@ impl<'a> TakenBy<'a> {
         Ok(())
     }
 
-    /// The places of the pairs, as the receives that take them came: a start from which the sort by the
-    /// receive has nothing left to do. Nothing is claimed of that order. Where each message is taken, its
-    /// pair stands at its place.
+    /// The places of the pairs, as the receives that take them came: a start from which the sort by the receive has
+    /// nothing left to do. This order is only a guess. Where each message is taken, its pair stands at its place.
     pub(crate) fn into_places_near(self, alloc: Global) -> Result<Vec<u32>, AllocError> {
         let mut places = self.came;
         if places.len() == self.waiting.len() {

@@ -103,7 +103,7 @@ fn lanes_or_new(alloc: Global, messages: &Sends, lanes: Option<Lanes>) -> Result
 }
 
 impl<'a> Takings<'a> {
-    /// Nothing takes any of these messages.
+    /// These messages, none of which is taken.
     pub(crate) fn new(alloc: Global, messages: Sends<'a>) -> Result<Takings<'a>, AllocError>
         requires { AreRising (λ m. m.name) messages }
         ensures { IfOk result (λ t. t ≡ untaken messages.entry) }
@@ -133,7 +133,7 @@ impl<'a> Takings<'a> {
         self.plain
     }
 
-    /// Whose memory the messages stand in.
+    /// The allocator of the list of messages.
     pub(crate) fn allocator(&self) -> &Global {
         self.messages.allocator()
     }

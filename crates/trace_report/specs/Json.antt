@@ -74,7 +74,8 @@ abbrev pub open_fields : KindFunction → Option ℕ → ℕ → ℕ → List �
 open_fields function root entered members = codes "open\"" ++ called_fields function root
     ++ codes ",\"entered\":" ++ decimal entered ++ codes ",\"members\":" ++ decimal members
 
--- how a round stands: its function and root where the members agree, and how many of them have entered where not all have
+-- how a round stands: its function and root where the members agree, and how many of them have entered where not all
+-- have
 abbrev pub standing_fields : Standing → List ℕ
 standing_fields Mismatched = codes "mismatched\""
 standing_fields (Complete function root) = complete_fields function root

@@ -20,8 +20,8 @@ head_lines a = codes "mpimatch report 1\nranks " ++ decimal a.ranks ++ codes " s
 
 -- Ranks
 
--- `rank R prefix P free`, with ` beyond` where something is known at or past the prefix, and ` unread` where it ends at the
--- Enter of an unread call
+-- `rank R prefix P free`, with ` beyond` where something is known at or past the prefix, and ` unread` where it ends at
+-- the Enter of an unread call
 abbrev pub rank_text : ℕ → ℕ → State → Bool → Bool → List ℕ
 rank_text rank prefix state beyond unread = codes "rank " ++ decimal rank ++ codes " prefix " ++ decimal prefix ++ codes " "
     ++ state_word state ++ where_so beyond (codes " beyond") ++ where_so unread (codes " unread") ++ codes "\n"

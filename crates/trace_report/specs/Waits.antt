@@ -5,8 +5,8 @@ use Rattle.trace_stuck.specs.Shape.{Waits, OnNothing, OnRank, OnAll, OnOne, OnMi
 use Rattle.trace_report.specs.declared.form.Form.{Form}
 use Rattle.trace_report.specs.declared.form.Form.TheVariants.{Lines, Json}
 
--- The words of a condition: nothing to wait for, the heads of an all-of and a one-of, what stands between two parts, and
--- what ends a list of them.
+-- The words of a condition: nothing to wait for, the heads of an all-of and a one-of, what stands between two parts,
+-- and what ends a list of them.
 pub record WaitWords : Type 0 where
   pub yes : List ℕ
   pub all : List ℕ

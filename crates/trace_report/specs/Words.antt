@@ -38,7 +38,7 @@ small_first None = []
 abbrev pub begun_small : List ℕ → List ℕ
 begun_small name = small_first (slice_get name 0) ++ drop 1 name
 
--- a collective function: its name without `MPI_`, in small letters, as `bcast`, `ibcast` and `comm_split`; only the first letter
--- of a name isn't small there
+-- a collective function: its name without `MPI_`, in small letters, as `bcast`, `ibcast` and `comm_split`; only the
+-- first letter of a name isn't small there
 abbrev pub function_word : KindFunction → List ℕ
 function_word f = begun_small (short_name f)

@@ -13,7 +13,7 @@ pub(crate) enum Form {
 }
 
 impl Form {
-    /// What stands for a condition that waits for nothing.
+    /// The text of a condition that waits for nothing.
     pub(crate) fn yes(self) -> &'static [u8]
         ensures { result.now ≡ (words_of self).yes }
     {

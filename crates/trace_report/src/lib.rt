@@ -1,9 +1,8 @@
 //! The report of an answer, as lines or as one JSON object.
 //!
-//! [`write_report`] takes no memory: each line goes to a page of 4,096 bytes on the stack, and a
-//! full page to the device in one call. Where a write fails the report is a front of its text, as
-//! long as the fault says, and nothing is tried after it. [`report_text`] is the same text in
-//! memory. Cost: one pass over the answer.
+//! [`write_report`] takes no memory: each line goes to a page of 4,096 bytes on the stack, and a full page to the
+//! device in one call. If a write fails, the device has a front of the report, as long as the fault says, and nothing
+//! more is tried. [`report_text`] is the same text in memory. Cost: one pass over the answer.
 //!
 //! What each line says stands in `specs/Report.antt`, and each object of the JSON in
 //! `specs/Json.antt`, a function for each; for readers both stand in `docs/formats/report.md`.

@@ -10,7 +10,7 @@ use crate::sink::Sink;
 use mpi_model::OpName;
 use trace_pair::Pair;
 
-/// A line for each place of which two pieces tell two things.
+/// A line for each place of which two pieces say different things.
 #[tactic(auto, using(crate::proofs::Printing::nothing))]
 pub(crate) fn put_conflicts<S: Sink>(out: &mut S, places: &[(u32, u64)])
     ensures { Prints (S.page out.old) (S.page out.new) (flat_map conflict_line places.now) }
@@ -20,7 +20,7 @@ pub(crate) fn put_conflicts<S: Sink>(out: &mut S, places: &[(u32, u64)])
     }
 }
 
-/// `conflict R PLACE`: two pieces tell two things of this place.
+/// `conflict R PLACE`: two pieces say different things of this place.
 fn put_conflict<S: Sink>(out: &mut S, at: &(u32, u64))
     ensures { Prints (S.page out.old) (S.page out.new) (conflict_line at.now) }
 {

@@ -24,13 +24,13 @@ use arrayvec::ArrayVec;
 use mpi_model::Write;
 use trace_node::Answer;
 
-/// Writes the report of an answer, and answers how many bytes it has. It takes no memory, hands the
-/// device a page at a time, and writes nothing after a failure.
+/// Writes the report of an answer and returns how many bytes it has. It takes no memory and hands the device a page at
+/// a time. After a failed write it writes nothing more.
 pub fn write_report<W: Write>(answer: &Answer, writer: &mut W) -> Result<u64, ReportFault>
     ensures ok { OnOk result (Appends (W.written writer.old) (W.written writer.new) (report_text answer.now)) }
     ensures length { IfOk result (λ n. n ≡ capped (length (report_text answer.now))) }
 
-    // at a refused write just the first `written` bytes of the text were written
+    // after a failed write exactly the first `written` bytes of the text were written
     ensures err { IfErr result (WritesFront (W.written writer.old) (W.written writer.new) (report_text answer.now)) }
     ensures failures { CountsFailure (W.failures writer.old) (W.failures writer.new) result }
     ensures beside { LeavesSide (W.read_side writer.old) (W.read_side writer.new) }
@@ -38,14 +38,13 @@ pub fn write_report<W: Write>(answer: &Answer, writer: &mut W) -> Result<u64, Re
     write_as(Form::Lines, answer, writer)
 }
 
-/// Writes the report of an answer as one JSON object with a line feed behind it, and answers how
-/// many bytes it has. It takes no memory, hands the device a page at a time, and writes nothing
-/// after a failure.
+/// Writes the report of an answer as one JSON object and a line feed, and returns how many bytes it has. It takes no
+/// memory and hands the device a page at a time. After a failed write it writes nothing more.
 pub fn write_json<W: Write>(answer: &Answer, writer: &mut W) -> Result<u64, ReportFault>
     ensures ok { OnOk result (Appends (W.written writer.old) (W.written writer.new) (json_text answer.now)) }
     ensures length { IfOk result (λ n. n ≡ capped (length (json_text answer.now))) }
 
-    // at a refused write just the first `written` bytes of the text were written
+    // after a failed write exactly the first `written` bytes of the text were written
     ensures err { IfErr result (WritesFront (W.written writer.old) (W.written writer.new) (json_text answer.now)) }
     ensures failures { CountsFailure (W.failures writer.old) (W.failures writer.new) result }
     ensures beside { LeavesSide (W.read_side writer.old) (W.read_side writer.new) }

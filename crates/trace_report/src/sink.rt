@@ -8,11 +8,11 @@ pub(crate) trait Sink {
     /// What was printed, and how much of it has reached the device.
     ghost page: { Self → Page };
 
-    /// Takes the whole text, and may hold it back.
+    /// Takes the whole text. It may hold the text back until later.
     fn put(&mut self, text: &[u8])
         ensures { Prints (page self.old) (page self.new) text.now };
 
-    /// Hands on what it holds.
+    /// Passes on what it holds back.
     fn flush(&mut self)
         ensures prints { Prints (page self.old) (page self.new) [] }
         ensures empty { (page self.new).pending ≡ [] };

@@ -33,7 +33,7 @@ impl Write for Text {
     }
 }
 
-/// The report of an answer.
+/// The report of an answer. Fails with `AllocError` when memory is refused.
 pub fn report_text(alloc: Global, answer: &Answer) -> Result<Vec<u8>, AllocError>
     ensures { IfOk result (λ text. text.items ≡ report_text answer.now) }
 {

@@ -15,8 +15,8 @@ HeartIn there step r (Some m) = ((there r ≡ true) × ((s : ℕ) → Leads step
 HeartIn there step r None = (there r ≡ true) × ((s : ℕ) → Leads step r s → Leads step s r) → ⊥
 
 -- Some nodes are there, and each step is from one to another. `least` has the least node that is reached, `leaks` says
--- from where a step leads to a node with another one, `strays` which nodes reach such a node, and `roots` are the others
--- that are their own least.
+-- from where a step leads to a node with another one, `strays` which nodes reach such a node, and `roots` are the
+-- others that are their own least.
 module _ (there : ℕ → Bool) (step against : ℕ → ℕ → Bool)
     (turn : (x y : ℕ) → against x y ≡ true → step y x ≡ true) (back : (x y : ℕ) → step x y ≡ true → against y x ≡ true)
     (within : (x y : ℕ) → step x y ≡ true → (there x ≡ true) × (there y ≡ true))

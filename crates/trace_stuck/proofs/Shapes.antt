@@ -88,8 +88,8 @@ one_of x y h = cc
 pub all_of : (x y : Waits) → OnAll x ≡ OnAll y → x ≡ y
 all_of x y h = cc
 
--- A test of a list of ranks is a test of the whole, whether the ranks stand as parts or as a list, and whether one or all
--- of them are waited for.
+-- A test of a list of ranks is a test of the whole, whether the ranks stand as parts or as a list, and whether one or
+-- all of them are waited for.
 module _ (on : Waits → Wait) (same_on : (x y : Waits) → on x ≡ on y → x ≡ y) (first second : Condition) (b : Bool) where
   pub same_parts_ranks : (parts : List Condition) (ranks : List ℕ) (xs : List Condition) (ys : List ℕ) → xs ≡ parts → ys ≡ ranks →
       (test : (IsTrue b → map shape xs ≡ map OnRank ys) × (map shape xs ≡ map OnRank ys → IsTrue b)) →

@@ -5,7 +5,8 @@ use Rattle.trace_stuck.specs.Chains.{Leads}
 use Rattle.trace_stuck.specs.Named.{at_rank}
 use Rattle.trace_stuck.specs.Release.{among}
 
--- an edge of a graph, which lists for each node those to which its edges go; one to a node that isn't there counts for nothing
+-- an edge of a graph, which lists for each node those to which its edges go; one to a node that isn't there counts for
+-- nothing
 abbrev pub edge : List (Vec ℕ Global) → ℕ → ℕ → Bool
 edge edges r s = nat_lt s (length edges) && among (at_rank edges r) s
 

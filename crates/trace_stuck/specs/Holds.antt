@@ -5,8 +5,9 @@ use Rattle.trace_stuck.specs.declared.condition.Condition.{Condition}
 use Rattle.trace_stuck.specs.declared.condition.Condition.TheOpen.{Condition-F, Yes, Rank, All, One, OneRank, AllRanks, Mismatched}
 use Rattle.trace_stuck.specs.declared.condition.Condition.TheFolds.{fold-Condition}
 
--- One level of a condition, with the answer of each part in its place. All-of nothing is true, one-of nothing is false. MPI
--- forbids a mismatched round, and leaves open what becomes of it: so it holds, and nobody is stuck for its sake.
+-- One level of a condition, with the answer of each part in its place. All-of nothing is true, one-of nothing is false.
+-- MPI forbids a mismatched round and doesn't say what becomes of it. So the condition holds, and no rank is stuck
+-- because of it.
 abbrev pub holds_step : (ℕ → Bool) → Condition-F Bool → Bool
 holds_step able Yes = true
 holds_step able (Rank r) = able r

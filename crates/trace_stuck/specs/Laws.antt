@@ -18,7 +18,8 @@ abbrev pub StuckRanksAreClosed : Type 0
 StuckRanksAreClosed = (states : List State) (conditions : List (Option Condition)) (inside : ℕ → Bool) →
     ((r : ℕ) → (inside r ≡ true) ↔ IsStuck states conditions r) → IsClosed states conditions inside
 
--- Where one list is closed, another is a release order, and the two are together the waiting ranks, the closed one lists the stuck ranks.
+-- Where one list is closed, another is a release order, and the two are together the waiting ranks, the closed one
+-- lists the stuck ranks.
 abbrev pub CheckedVerdictsAreRight : Type 0
 CheckedVerdictsAreRight = (states : List State) (conditions : List (Option Condition)) (stuck release : List ℕ) →
     IsClosed states conditions (among stuck) → IsReleaseOrder states conditions release →

@@ -10,7 +10,8 @@ use Rattle.trace_stuck.specs.Holds.{may_go}
 abbrev pub among : List ℕ → ℕ → Bool
 among ranks r = list_any (λ s. s == r) ranks
 
--- After these, the ranks are distinct waiting ranks, each of which may go on where the free ranks and those before it can.
+-- After these, the ranks are distinct waiting ranks, each of which may go on where the free ranks and those before it
+-- can.
 abbrev pub IsReleasedAfter : List State → List (Option Condition) → List ℕ → List ℕ → Type 0
 IsReleasedAfter states conditions before [] = Unit {0}
 IsReleasedAfter states conditions before (r ∷ ranks) =

@@ -34,7 +34,8 @@ abbrev pub Labelled : ℕ → ℕ → List (Option ℕ) → List ℕ → List (O
 Labelled l x labels stack = LabelledAs (is_bare labels x) l x labels stack
 
 -- Labels below `top` were given, and `top` is given now. A labelled node that is not held has no edge to a node without
--- a label or with a greater one; a node that is held has the label that is given now. The starts below `done` are labelled.
+-- a label or with a greater one; a node that is held has the label that is given now. The starts below `done` are
+-- labelled.
 pub record Spreads (step : ℕ → ℕ → Bool) (starts : ℕ → Bool) (top done : ℕ) (held : ℕ → Bool) (labels : List (Option ℕ)) : Type 0 where
   pub sound : (x l : ℕ) → label_at labels x ≡ Some l → (starts l ≡ true) × Leads step l x × (l ≤ top)
   pub fresh : (x : ℕ) → held x ≡ true → label_at labels x ≡ Some top

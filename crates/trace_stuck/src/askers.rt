@@ -91,7 +91,7 @@ fn note_names(
     }
 }
 
-/// So many ranks for which nobody asks.
+/// This many ranks, none of which is named by a condition.
 pub(crate) fn no_askers(alloc: Global, count: usize) -> Result<Vec<Vec<u32>>, AllocError>
     ensures len { IfOk result (λ a. vec_len a ≡ count) }
     ensures none { IfOk result (λ a. (s : ℕ) → at_rank a.items s ≡ []) }
@@ -103,7 +103,7 @@ pub(crate) fn no_askers(alloc: Global, count: usize) -> Result<Vec<Vec<u32>>, Al
     Ok(askers)
 }
 
-/// For each of the ranks below `count` the ranks whose condition names it.
+/// For each rank below `count`, the ranks whose condition names it.
 pub(crate) fn askers_of(
     alloc: Global,
     conditions: &[Option<Condition>],

@@ -7,7 +7,8 @@ use crate::askers::{no_askers, note_all};
 use crate::search::edges_at;
 use std::alloc::{AllocError, Global};
 
-/// The same edges, each turned round. Where a node lists another twice in a row, one edge is kept.
+/// The same edges, each turned round. Where a node lists another twice in a row, one edge is kept. Fails with
+/// `AllocError` when memory is refused.
 pub fn turned(alloc: Global, edges: &[Vec<u32>]) -> Result<Vec<Vec<u32>>, AllocError>
     requires { length edges.now ≤ 2 ^ 32 }
     ensures len { IfOk result (λ v. vec_len v ≡ length edges.now) }

@@ -75,7 +75,8 @@ fn is_shut(states: &[State], conditions: &[Option<Condition>], ranks: &[u32], r:
         && !may_rank_go(conditions, &Outside { states, ranks }, r as usize)
 }
 
-/// Whether the list is an order of release. Then none of its ranks is in any closed set.
+/// Whether the list is an order of release: each of its ranks waits, and its condition holds once the free ranks and
+/// those before it can go on. Then none of its ranks is in any closed set.
 pub fn check_release(states: &[State], conditions: &[Option<Condition>], release: &[u32]) -> bool
     ensures order { (result ≡ true) ↔ IsReleaseOrder states.now conditions.now release.now }
     ensures out { result ≡ true → AreInNoClosedSet states.now conditions.now release.now }
@@ -88,7 +89,8 @@ pub fn check_release(states: &[State], conditions: &[Option<Condition>], release
     true
 }
 
-/// Whether the listed ranks are a closed set.
+/// Whether the listed ranks are a closed set: all of them wait, and none may go on even if every rank outside that has
+/// not ended can.
 pub fn check_closed(states: &[State], conditions: &[Option<Condition>], ranks: &[u32]) -> bool
     ensures { (result ≡ true) ↔ IsClosed states.now conditions.now (among ranks.now) }
 {

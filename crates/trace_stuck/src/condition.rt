@@ -6,12 +6,13 @@ ghost use Rattle.trace_stuck.specs.Shape.{shape, waits_of, OnNothing, OnRank, On
 use std::alloc::{AllocError, Global};
 use std::sync::Arc;
 
-/// A round of an object: of a communicator, a window or a file. It is the k-th collective call on the object of each of
-/// its members, from 0 on (MPI 4.0, 6.1).
+/// A round of an object, which is a communicator, a window or a file: the k-th collective call on it of each of its
+/// members, from 0 (MPI 4.0, 6.1).
 #[derive(Clone, Copy, Debug, PartialEq, Eq)]
 pub struct RoundName {
     /// The object's id in the layout.
     pub object: u32,
+    /// The number of the round, from 0.
     pub k: u64,
 }
 
@@ -20,25 +21,28 @@ pub struct RoundName {
 /// In a contract two conditions are compared by their `shape`, the plain tree of their parts.
 #[derive(Debug, Drop)]
 pub enum Condition {
-    /// Nothing: it can go on.
+    /// It needs nothing: it can go on.
     Yes,
-    /// That this rank can go on.
+    /// It needs this rank to go on.
     Rank(u32),
-    /// All of these; of none it is true.
+    /// All of these conditions have to hold. If the list is empty, it holds.
     All(Vec<Condition>),
-    /// One of these; of none it is false.
+    /// One of these conditions has to hold. If the list is empty, it doesn't hold.
     One(Vec<Condition>),
-    /// One of these ranks, with the shape of `One` of them. Many conditions may share the list.
+    /// One of these ranks has to go on: the same as `One` of `Rank`s, which it has as its shape. Many conditions may
+    /// share the list.
     OneRank(Arc<Vec<u32>>),
-    /// All of these ranks, with the shape of `All` of them. Many conditions may share the list.
+    /// All of these ranks have to go on: the same as `All` of `Rank`s, which it has as its shape. Many conditions may
+    /// share the list.
     AllRanks(Arc<Vec<u32>>),
-    /// Nothing that is sure: the round of its call is mismatched, which MPI forbids, so it counts as one that can go on.
-    /// Named is the first of the mismatched rounds in a row, of that object, that end with the round.
+    /// The round of its call is mismatched, which MPI forbids, so nothing certain can be said and it counts as able to
+    /// go on. The round named is the first of the consecutive mismatched rounds of that object that end with the call's
+    /// round.
     Mismatched(RoundName),
 }
 
 impl Condition {
-    /// Nothing to wait for.
+    /// The condition of a rank that has nothing to wait for.
     pub fn yes() -> Condition
         ensures { shape result ≡ OnNothing }
     {
@@ -93,14 +97,14 @@ impl Condition {
         Condition::Mismatched(first)
     }
 
-    /// A copy, with equal parts. Lists of ranks are shared with it.
+    /// A copy, with equal parts. Lists of ranks are shared with it. Fails with `AllocError` when memory is refused.
     pub fn try_clone(&self, alloc: Global) -> Result<Condition, AllocError>
         ensures { IfOk result (λ c. shape c ≡ shape self.now) }
     {
         copy_of(alloc, self)
     }
 
-    /// Whether the two have equal parts.
+    /// Whether the two are equal, part by part.
     pub fn same(&self, other: &Condition) -> bool
         ensures { IsTrue result ↔ (shape self.now ≡ shape other.now) }
     {

@@ -1,8 +1,9 @@
 //! Conditions in which no rank and no list of ranks comes twice among the parts of an all-of or a one-of.
 //!
-//! A call may list one request many times, and many requests may wait for one of the same members. The search for stuck ranks
-//! then goes through one list in place of them all. An equal part is looked for where the last part of its kind was kept: a
-//! guess, which is compared before it is believed. So a part costs one comparison, whatever stands before it.
+//! A call may list one request many times, and many requests may wait for one of the same members. The search for stuck
+//! ranks then goes through one list in place of them all. An equal part is looked for where the last part of its kind
+//! was kept: a guess, which is compared before it is believed. So a part costs one comparison, whatever stands before
+//! it.
 
 ghost use Rattle.std.specs.Prelude.{◌≡◌, ◌++◌, ◌∷◌, [], ℕ, Bool, Some, IsTrue, IfOk, IfSome, OnOk, slice_get};
 ghost use Rattle.std.specs.Option.{option_map};
@@ -185,7 +186,7 @@ fn distinct_option(
     }
 }
 
-/// The conditions, each without the parts that come twice.
+/// The conditions, each without repeated parts: each holds for the same sets of ranks as before.
 pub(crate) fn distinct_conditions(
     alloc: Global,
     conditions: &[Option<Condition>],

@@ -1,9 +1,9 @@
 //! The hearts of a graph: its strongly connected components that no edge leads out of.
 //!
-//! Three searches find them. The first tells for each node the least node that it reaches. Where an edge leads to a node
-//! with another least one, nobody who reaches that edge is in a heart; the second search finds these strays. A node that
-//! is its own least one and no stray is in a heart, which is all that it reaches: the third search. So each edge is gone
-//! through four times, with one that turns them round.
+//! Three searches find them. The first tells for each node the least node that it reaches. If an edge leads to a node
+//! with another least node, no node that reaches this edge is in a heart; the second search finds these strays. A node
+//! that is its own least one and no stray is in a heart, which is all that it reaches: the third search. So each edge
+//! is gone through four times, with one that turns them round.
 
 ghost use Rattle.std.specs.Prelude.{◌≡◌, ◌<◌, ◌≤◌, ◌^◌, ◌↔◌, ℕ, true, false, IfOk, IsTrue, length, nat_lt, vec_len};
 ghost use Rattle.trace_stuck.specs.Graph.{is_up, label_at};
@@ -42,7 +42,7 @@ fn does_leak(edges: &[Vec<u32>], labels: &[Option<u32>], r: u32) -> bool
     false
 }
 
-/// Of each node, whether an edge leads from it to one with another label.
+/// For each node, whether an edge leads from it to one with another label.
 fn leaks_of(
     alloc: Global,
     edges: &[Vec<u32>],
@@ -66,7 +66,7 @@ fn is_root(least: &[Option<u32>], strays: &[Option<u32>], r: u32) -> bool
     is_same(label_at(least, r), Some(r)) && label_at(strays, r).is_none()
 }
 
-/// Of each node, whether it is its own least node and no stray.
+/// For each node, whether it is its own least node and no stray.
 fn roots_of(
     alloc: Global,
     least: &[Option<u32>],
@@ -97,7 +97,7 @@ fn everyone(alloc: Global, count: usize) -> Result<Vec<bool>, AllocError>
 
 /// The hearts of a graph, which lists for each of its nodes, from 0 on, those to which its edges go: of each node the
 /// least node of its heart, where it is in one. A heart is a strongly connected component that no edge leads out of. An
-/// edge to a node that isn't there counts for nothing.
+/// edge to a node that doesn't exist is ignored. Fails with `AllocError` when memory is refused.
 pub fn hearts(alloc: Global, edges: &[Vec<u32>]) -> Result<Vec<Option<u32>>, AllocError>
     requires { length edges.now ≤ 2 ^ 32 }
     ensures len { IfOk result (λ hearts. vec_len hearts ≡ length edges.now) }

@@ -30,7 +30,7 @@ impl<'a> Able for Flags<'a> {
     }
 }
 
-/// The flag of a rank: down where the list has none.
+/// The flag of a rank: false if the list has none for it.
 pub(crate) fn flag_at(flags: &[bool], r: usize) -> bool
     ensures { result ≡ flag flags.now r }
 {

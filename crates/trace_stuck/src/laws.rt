@@ -4,8 +4,7 @@
 ghost use Rattle.trace_stuck.specs.Laws.{ConditionsAreMonotone, StuckRanksAreClosed, CheckedVerdictsAreRight, RisingListsAreOne};
 ghost use Rattle.trace_stuck.specs.Hearts.{HeartsAreOne};
 
-/// Where more ranks can go on, no condition that held is lost. So the union of closed sets is
-/// closed.
+/// If more ranks can go on, a condition that held still holds. So the union of closed sets is closed.
 pub fn conditions_are_monotone()
     ensures { ConditionsAreMonotone }
 {}
@@ -15,18 +14,17 @@ pub fn stuck_ranks_are_closed()
     ensures { StuckRanksAreClosed }
 {}
 
-/// A verdict that both checks accept, and whose two lists are together the waiting ranks, lists
-/// exactly the stuck ranks.
+/// If both checks accept a verdict, and its two lists together are the waiting ranks, it lists exactly the stuck ranks.
 pub fn checked_verdicts_are_right()
     ensures { CheckedVerdictsAreRight }
 {}
 
-/// There is one rising list of the stuck ranks.
+/// There is only one list of the stuck ranks in rising order.
 pub fn rising_lists_are_one()
     ensures { RisingListsAreOne }
 {}
 
-/// A node of a graph is in one heart at most, and a heart has one name: two lists of the hearts say the same of each node.
+/// A node of a graph is in at most one heart, and a heart has one name: two lists of the hearts agree on each node.
 pub fn hearts_are_one()
     ensures { HeartsAreOne }
 {}

@@ -5,10 +5,9 @@
 //! rank outside that has not ended can. The stuck ranks are the union of all closed sets, the
 //! greatest one. A cycle alone is no deadlock: one of its ranks may have another way out.
 //!
-//! The program starts from the other side. It releases each rank that may go on, then those that
-//! wait for it, and so on; who is left at the end is stuck. The order of release is a witness that
-//! names no rank too many, the closed set one that names none too few, and two checks that take no
-//! memory tell both apart from anything else.
+//! The program works the other way round. It releases each rank that may go on, then those that wait for it, and so on;
+//! the ranks that are left at the end are stuck. The order of release shows that no other rank is stuck, the closed set
+//! that these ranks are, and two checks that take no memory test both.
 //!
 //! Cost over n ranks: before the search the parts of an all-of or a one-of are left out that come twice.
 //! That costs each part one comparison, of two lists of ranks at several places at once. Let c be the
@@ -41,10 +40,10 @@
 //!
 //! # Choices
 //!
-//! - It knows no MPI; what the conditions are, `trace_wait` says.
-//! - A part that is one or all of some members shares their list. A list for each part would take parts times members:
-//!   65 KB of text could ask for a terabyte. A place in a table would leave a condition that doesn't say what it waits
-//!   for.
+//! - It knows no MPI: `trace_wait` makes the conditions.
+//! - A part that is one or all of some members shares their list. A list for each part would take memory for parts
+//!   times members: 65 KB of text could ask for a terabyte. With an index into a table instead, a condition alone
+//!   wouldn't say what it waits for.
 //! - The search passes over a part that lists the same members as another of its condition, found by content: a shared
 //!   list has no identity that a proof can use.
 //! - Hearts are searched in any graph of numbered nodes, with all of them as starts; a node without edges is a heart by

@@ -7,14 +7,14 @@ ghost use Rattle.trace_stuck.specs.Search.{GoesOn, GoesThrough, Labelled, bare, 
 
 use std::alloc::{AllocError, Global};
 
-/// The flag of a node: down where the list has none.
+/// The flag of a node: false if the list has none for it.
 pub(crate) fn is_up(flags: &[bool], r: u32) -> bool
     ensures { result ≡ is_up flags.now r }
 {
     flags.get(r as usize).copied().unwrap_or(false)
 }
 
-/// The label of a node: none where it has none, or where the list ends before it.
+/// The label of a node; `None` if it has none, or the list ends before it.
 pub(crate) fn label_at(labels: &[Option<u32>], r: u32) -> Option<u32>
     ensures { result ≡ label_at labels.now r }
 {
@@ -123,8 +123,8 @@ fn begin(
     }
 }
 
-/// Of each node of a graph the least start from which it is reached along edges, where there is one. The graph lists for
-/// each of its nodes, from 0 on, those to which its edges go.
+/// For each node of a graph the least start from which it is reached along edges, where there is one. The graph lists
+/// for each of its nodes, from 0 on, those to which its edges go. Fails with `AllocError` when memory is refused.
 pub fn firsts(
     alloc: Global,
     edges: &[Vec<u32>],

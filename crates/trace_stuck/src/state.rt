@@ -5,7 +5,7 @@ ghost use Rattle.trace_stuck.specs.States.{is_waiting, is_free, is_ended};
 
 use trace_ops::State;
 
-/// Whether the rank is waiting. What is no rank isn't.
+/// Whether the rank is waiting. A number past the last rank isn't.
 pub(crate) fn is_rank_waiting(states: &[State], r: usize) -> bool
     ensures { result ≡ is_waiting states.now r }
 {
@@ -15,7 +15,7 @@ pub(crate) fn is_rank_waiting(states: &[State], r: usize) -> bool
     }
 }
 
-/// Whether the rank is free. What is no rank isn't.
+/// Whether the rank is free. A number past the last rank isn't.
 pub(crate) fn is_rank_free(states: &[State], r: usize) -> bool
     ensures { result ≡ is_free states.now r }
 {
@@ -25,7 +25,7 @@ pub(crate) fn is_rank_free(states: &[State], r: usize) -> bool
     }
 }
 
-/// Whether the rank has ended. What is no rank counts as ended.
+/// Whether the rank has ended. A number past the last rank counts as ended.
 pub(crate) fn is_rank_ended(states: &[State], r: usize) -> bool
     ensures { result ≡ is_ended states.now r }
 {

@@ -1,4 +1,4 @@
-//! Which ranks wait for ever, and in which order the others are released.
+//! Which ranks are stuck, and in which order the other waiting ranks are released.
 
 ghost use Rattle.std.specs.Prelude.{◌≡◌, ◌<◌, ◌^◌, ◌&&◌, ◌||◌, ℕ, not, true, IfOk, length, vec_len};
 ghost use Rattle.std.specs.Prelude.{◌↔◌};
@@ -17,7 +17,7 @@ use crate::state::is_rank_waiting;
 use std::alloc::{AllocError, Global};
 use trace_ops::State;
 
-/// The ranks that wait for ever, and the other ranks that wait.
+/// The stuck ranks, and the other waiting ranks.
 #[derive(Debug, Drop)]
 pub struct Verdict {
     /// The stuck ranks, in rising order.
@@ -87,8 +87,8 @@ fn release_of(
     Ok(release)
 }
 
-/// The stuck ranks (the union of all closed sets) in rising order, and an order of release of all
-/// other waiting ranks.
+/// The stuck ranks (the union of all closed sets) in rising order, and an order of release of all other waiting ranks.
+/// Fails with `AllocError` when memory is refused.
 pub fn stuck(
     alloc: Global,
     states: &[State],

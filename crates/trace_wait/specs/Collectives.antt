@@ -88,8 +88,8 @@ first_in_row rounds c (suc k) = if is_mismatched_in rounds c k then first_in_row
 abbrev pub is_mismatched : Run → ℕ → ℕ → Bool
 is_mismatched s c k = is_mismatched_in s.rounds c k
 
--- What a call in a mismatched round waits for: nothing that is sure, since MPI forbids such calls. The row of mismatched
--- rounds began where the calls first differed, and goes on since one member is a call behind the others.
+-- What a call in a mismatched round waits for: nothing that is sure, since MPI forbids such calls. The row of
+-- mismatched rounds began where the calls first differed, and goes on since one member is a call behind the others.
 abbrev pub mismatched_part : Run → ℕ → ℕ → waits.Wait
 mismatched_part s c k = OnMismatched (record { object = c; k = first_in_row s.rounds c k })
 
@@ -119,8 +119,8 @@ by_category s r e k = of (row e.function.kind).category
     of AllToOne = to_root s r e k
     of Scan = scanned s r e.comm k
 
--- The others may owe a rank nothing in a call of this kind, since each rank has a count of its own, which may be 0, or since the
--- standard promises of no rank that it waits for the others. So where sends are buffered, it may go on.
+-- The others may owe a rank nothing in a call of this kind, since each rank has a count of its own, which may be 0, or
+-- since the standard promises of no rank that it waits for the others. So where sends are buffered, it may go on.
 abbrev pub may_be_owed_nothing : Sends → Kind → Bool
 may_be_owed_nothing sends.Wait kind = false
 may_be_owed_nothing sends.Buffer kind = (row kind).may_be_owed_nothing

@@ -28,8 +28,8 @@ unpaired_messages ops pairs = flat_map (λ o. filter (is_unpaired_message pairs)
 abbrev pub unpaired_receives : List Ops → List Pair → List Receive
 unpaired_receives ops pairs = flat_map (λ o. filter (is_unpaired_receive pairs) o.receives) ops
 
--- The receive can take the message: it fits, and the message doesn't come after it. A receive that was completed before the
--- message was sent takes it no more, whatever it took (MPI 4.0, 3.5 and 6.3).
+-- The receive can take the message: it fits, and the message doesn't come after it. A receive that was completed before
+-- the message was sent takes it no more, whatever it took (MPI 4.0, 3.5 and 6.3).
 abbrev pub may_take : List Ops → Message → Receive → Bool
 may_take ops m q = fits m q && not (comes_after ops m q)
 

@@ -38,7 +38,8 @@ is_buffered sends.Buffer Ready = true
 is_buffered sends.Wait Standard = false
 is_buffered sends.Wait Ready = false
 
--- A send may go on where it is buffered, is paired, or may be taken by an unpaired receive; else it waits for its destination.
+-- A send may go on where it is buffered, is paired, or may be taken by an unpaired receive; else it waits for its
+-- destination.
 abbrev pub may_send : Run → Message → Bool
 may_send s m = is_buffered s.layout.sends m.mode || is_some (taken_by s.pairs m.name) || list_any (may_take s.ops m) (unpaired_receives s.ops s.pairs)
 
@@ -62,8 +63,8 @@ may_receive s q = is_some (given_by s.pairs q.name) || list_any (λ m. fits m q)
 abbrev pub receive_part : Run → Receive → Wait
 receive_part s q = if may_receive s q then OnNothing else source_part s q
 
--- A probe may return where an unpaired message fits it, read as a receive; else it waits for its source. A message that was
--- cancelled may have been probed before (MPI 4.0, 3.8.1). A probe of the null process looks for none.
+-- A probe may return where an unpaired message fits it, read as a receive; else it waits for its source. A message that
+-- was cancelled may have been probed before (MPI 4.0, 3.8.1). A probe of the null process looks for none.
 abbrev pub may_probe : Run → Receive → Bool
 may_probe s q = list_any (λ m. envelopes_fit m q) (unpaired_messages s.ops s.pairs)
 

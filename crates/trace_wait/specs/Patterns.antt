@@ -1,4 +1,5 @@
--- The keys of the ordered sets in which things are looked up: what a receive names of a message, and rounds. No public clause speaks of it.
+-- The keys of the ordered sets in which things are looked up: what a receive names of a message, and rounds. No public
+-- clause speaks of it.
 use Rattle.std.specs.Prelude.{ℕ, Bool, true, false, ◌==◌, ◌&&◌, not, if◌then◌else◌, Option, Some, None, List, filter}
 use Rattle.std.specs.declared.cmp.Ordering.{Ordering}
 use Rattle.std.specs.Ordering.{nat_cmp, ordering_then}

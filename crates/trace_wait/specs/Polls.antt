@@ -1,5 +1,5 @@
--- What a rank asks for that polls: a Test or a probe that returned at once, asked again and again (MPI 4.0, 3.7.3, 3.7.5, 3.8.1
--- and 3.8.2).
+-- What a rank asks for that polls: a Test or a probe that returned at once, asked again and again (MPI 4.0, 3.7.3,
+-- 3.7.5, 3.8.1 and 3.8.2).
 use Rattle.std.specs.Prelude.{ℕ, if◌then◌else◌}
 use Rattle.mpi_model.specs.Ranges.{Probed}
 use Rattle.mpi_model.specs.declared.call.Call.{Call}
@@ -18,7 +18,8 @@ use Rattle.trace_wait.specs.Conditions.{waits_for}
 abbrev pub sought_by : Run → ℕ → Ops → ℕ → Call → Probed → waits.Wait
 sought_by s r o n call e = if is_foreign s.layout r n call then OnNothing else waits_for s r o n (calls.Probe e)
 
--- What rank r asks for by its call n: what the Wait, Waitall, Waitany, Waitsome or Probe of the same content would wait for.
+-- What rank r asks for by its call n: what the Wait, Waitall, Waitany, Waitsome or Probe of the same content would wait
+-- for.
 abbrev pub asked_by : Run → ℕ → Ops → ℕ → Call → waits.Wait
 asked_by s r o n (Test x) = waits_for s r o n (calls.Wait x)
 asked_by s r o n (Testall xs) = waits_for s r o n (calls.Waitall xs)

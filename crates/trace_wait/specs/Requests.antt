@@ -13,8 +13,8 @@ use Rattle.trace_ops.specs.Ops.{Ops}
 use Rattle.trace_wait.specs.Parts.{Run, is_of, send_of, send_part, receive_of, receive_part}
 use Rattle.trace_wait.specs.Collectives.{collective_of_call}
 
--- What an operation of rank r waits for: as a send, as a receive, or as its entry into a round. An Imrecv is none of these,
--- since its message is the rank's already (MPI 4.0, 3.8.3).
+-- What an operation of rank r waits for: as a send, as a receive, or as its entry into a round. An Imrecv is none of
+-- these, since its message is the rank's already (MPI 4.0, 3.8.3).
 abbrev pub started_part : Run → ℕ → Ops → OpName → Wait
 started_part s r o name = sent (send_of o name)
   where
@@ -76,9 +76,9 @@ AreMade s r o made = (x : ℤ) (c : Condition) → made x ≡ Some c → shape c
 abbrev pub is_idle : Ops → ℤ → Bool
 is_idle o x = list_any (λ y. int_eq y x) o.idle
 
--- What a number adds to a list of which one request has to be completed. The null number adds nothing, and neither does an
--- idle one. Another number that is not active may be of a request that a call posted which isn't read here, and then nothing
--- is known of it.
+-- What a number adds to a list of which one request has to be completed. The null number adds nothing, and neither does
+-- an idle one. Another number that is not active may be of a request that a call posted which isn't read here, and then
+-- nothing is known of it.
 abbrev pub choice : Run → ℕ → Ops → ℤ → Option Wait
 choice s r o x = if int_eq x null_request || is_idle o x then None else Some (request s r o x)
 

@@ -1,5 +1,5 @@
--- The collective rounds of a communicator (MPI 4.0, 6.1 and 6.12: the members call in one order, and all of them block or
--- none does).
+-- The collective rounds of a communicator (MPI 4.0, 6.1 and 6.12: the members call in one order, and all of them block
+-- or none does).
 use Rattle.std.specs.Prelude.{ℕ, ◌+◌, Bool, true, false, ◌==◌, ◌&&◌, not, Option, Some, None, List, [], ◌∷◌, filter, map, length, slice_get, if◌then◌else◌, max, unwrap_or}
 use Rattle.std.specs.List.{list_all, flat_map, filter_map, range_with_len}
 use Rattle.mpi_model.specs.Communicators.{Communicator, members_of}

@@ -244,7 +244,8 @@ fn round_part(
     }
 }
 
-/// What call n of the rank waits for, where it is collective, or the request that it posted.
+/// What call n of the rank waits for, if it is collective, or what the request waits for that it posted (MPI 4.0, 6.2.2
+/// and 6.12).
 pub(crate) fn collective_of_call(
     alloc: Global,
     run: &Overview,

@@ -1,4 +1,4 @@
-//! The collective calls of each rank, by communicator: all are gone through once, and found by halves.
+//! The collective calls of each rank, by communicator: all are gone through once, and found by binary search.
 
 ghost use Rattle.std.specs.Prelude.{◌≡◌, ◌==◌, ◌++◌, ◌∷◌, [], ℕ, IfOk, OnOk, count_by, nat_lt, slice_get};
 ghost use Rattle.std.specs.List.{find};
@@ -93,7 +93,8 @@ fn row_of(alloc: Global, entries: &[Entered]) -> Result<Row, AllocError>
     Ok(row)
 }
 
-/// The collective calls of these ranks, ready to be asked for by communicator.
+/// The collective calls of these ranks, ready to be asked for by communicator. Fails with `AllocError` when memory is
+/// refused.
 pub fn entries_of<'a>(alloc: Global, ops: &'a [RankOps]) -> Result<Entries<'a>, AllocError>
     ensures { IfOk result (λ s. s ≡ ops.now) }
 {
@@ -150,8 +151,8 @@ impl<'a> Entries<'a> {
         count_before(self.on(r, entered.comm), entered.call) as u64
     }
 
-    /// The round that call n of the rank entered, blocking or not: none where it isn't collective, is foreign, or isn't
-    /// known. It is found by halving.
+    /// The round that call n of the rank entered, blocking or not; `None` if it isn't collective, is foreign, or isn't
+    /// known. It is found by binary search.
     pub fn round_of(&self, r: u32, n: u64) -> Option<RoundName>
         requires { AreOwn 0 self.now }
         ensures { result ≡ round_of_call (ops_of self.now r) n }

@@ -35,7 +35,7 @@ pub(crate) fn groups_of(alloc: Global, layout: &Layout) -> Result<Vec<Group>, Al
     Ok(groups)
 }
 
-/// The list of the communicator's members, found by halves.
+/// The list of the communicator's members, found by binary search.
 fn list_of<'a>(layout: &Layout, groups: &'a [Group], comm: u32) -> Option<&'a Arc<Vec<u32>>>
     requires { AreGroups layout.now.comms groups.now }
     ensures { IfSome result (λ list. list.now.value.items ≡ group layout.now.comms comm) }

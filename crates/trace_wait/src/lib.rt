@@ -1,27 +1,35 @@
 //! What waiting ranks wait for: the rounds of collective calls, and the condition of each rank.
 //!
-//! A round of a communicator is the k-th collective call of each of its members. The condition of
-//! a waiting rank says whom it needs, by the call in which it waits and by what is known of its
-//! partners: see `docs/definitions.md`. Which ranks are stuck then is told by [`trace_stuck`],
-//! whose public names this crate passes on.
+//! A round of a communicator is the k-th collective call of each of its members. The condition of a waiting rank says
+//! which ranks it needs, by the call in which it waits and by what is known of its partners: see `docs/definitions.md`.
+//! [`trace_stuck`] says which ranks are stuck then; this crate re-exports its public names.
 //!
-//! Cost: rounds go once through all collective calls, with a look-up in an ordered map for each.
-//! Where no rank waits, conditions ask nothing but that of each rank. Else they go once through all
-//! messages and receives, each looked for in the table of pairs by halving, and keep only what those
-//! in no pair name, and when the receives end; a part of a condition costs some look-ups more, and
-//! that of a send the question whether its message comes after a receive. A request that a call lists
-//! twice is looked at once. That of a nonblocking collective call, and the number of its round, are
-//! found by halving, and its list of members is shared.
+//! Cost: rounds go once through all collective calls, with a look-up in an ordered map for each. Where no rank waits,
+//! conditions ask nothing but that of each rank. Else they go once through all messages and receives, each looked for
+//! in the table of pairs by binary search, and keep only what those in no pair name, and when the receives end; a part
+//! of a condition costs some look-ups more, and that of a send the question whether its message comes after a receive.
+//! A request that a call lists twice is looked at once. That of a nonblocking collective call, and the number of its
+//! round, are found by binary search, and its list of members is shared.
 //!
-//! - [`entries`]: collective calls by communicator, found by halves; [`counts`]: how many each member has entered
+//! - [`entries`]: collective calls by communicator, found by binary search; [`counts`]: how many each member has
+//!   entered
 //! - [`round`]: how a round stands; [`tally`]: the rounds of all communicators
-//! - [`sets`], [`paired`], [`unpaired`], [`mismatch`]: what is looked up for the conditions; [`overview`]: all of it together
+//! - [`sets`], [`paired`], [`unpaired`], [`mismatch`]: what is looked up for the conditions; [`overview`]: all of it
+//!   together
 //! - [`groups`]: the members of each communicator, in one list that all conditions share
 //! - [`posts`]: the message and the receive of a name; [`active`]: which operation a request stands for, and
 //!   which numbers are idle
 //! - [`parts`]: what a send, a receive and a probe wait for; [`collective`]: a collective call;
 //!   [`requests`]: requests
 //! - [`waiting`]: the condition of each rank; [`polls`]: what a rank asks for that polls
+//!
+//! To change something, open:
+//!
+//! - what a waiting rank waits for, call by call: `specs/Conditions.antt`; [`waiting`]
+//! - sends, receives and probes: `specs/Parts.antt`; [`parts`]. Requests: `specs/Requests.antt`; [`requests`].
+//!   Collective calls: `specs/Collectives.antt`; [`collective`]
+//! - when a round is complete, partial or mismatched: `specs/Rounds.antt`; [`tally`]
+//! - what a poll asks for: `specs/Polls.antt`; [`polls`]
 //!
 //! Its tests are the runs of `tests/rows/runs.txt`.
 #![tactic(auto)]

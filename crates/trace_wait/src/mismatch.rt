@@ -136,7 +136,7 @@ fn note_row(
     Ok(())
 }
 
-/// Of each mismatched round the first one of its row. Where the rounds come in their order, each is found at once.
+/// For each mismatched round the first one of its row. Where the rounds come in their order, each is found at once.
 fn firsts_of(
     alloc: Global,
     rounds: &[Round],

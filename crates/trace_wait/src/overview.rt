@@ -28,10 +28,10 @@ use trace_ops::{Entered, RankOps};
 use trace_pair::{Ends, PairTable, PairsByReceive, Reaches};
 use trace_stuck::{Condition, RoundName};
 
-/// The whole run, and what was gathered of it to be looked up: its pairs by their receives, which messages are in no pair, which
-/// of them were cancelled, when the receives end that are in no pair, which messages come after which
-/// receives, which rounds are mismatched, how many calls each member has entered and which, and the
-/// members of each communicator in a list to be shared.
+/// The whole run, and what was gathered of it to be looked up: its pairs by their receives, which messages are in no
+/// pair, which of them were cancelled, when the receives end that are in no pair, which messages come after which
+/// receives, which rounds are mismatched, how many calls each member has entered and which, and the members of each
+/// communicator in a list to be shared.
 #[derive(Drop)]
 pub(crate) struct Overview<'a> {
     pub layout: &'a Layout,
@@ -87,7 +87,8 @@ impl<'a> Overview<'a> {
         }
     }
 
-    /// The members of a communicator, in a list that all conditions share.
+    /// The members of a communicator, in a list that all conditions share. Fails with `AllocError` when memory is
+    /// refused.
     pub fn shared_members(&self, alloc: Global, comm: u32) -> Result<Arc<Vec<u32>>, AllocError>
         ensures { IfOk result (λ list. list.value.items ≡ members self.now comm) }
     {
@@ -143,7 +144,7 @@ impl<'a> Overview<'a> {
         !q.trust.is_void() && self.is_offered(q)
     }
 
-    /// Whether the envelope of some unpaired message fits the receive, be the message cancelled or not.
+    /// Whether the envelope of some unpaired message fits the receive, whether or not the message was cancelled.
     pub fn suits_some_message(&self, q: &Receive) -> bool
         ensures { result ≡ list_any (λ m. envelopes_fit m q.now) (unpaired_messages self.now.ops self.now.pairs) }
     {

@@ -1,5 +1,5 @@
-//! Whether a message or a receive is in a pair, for who asks for those of each rank in their order: it
-//! is looked for first behind the one that was found before.
+//! Whether a message or a receive is in a pair, for callers that ask for those of each rank in their order: it is
+//! looked for first after the one that was found before.
 
 ghost use Rattle.std.specs.Prelude.{◌≡◌, is_some};
 ghost use Rattle.trace_pair.specs.Table.{taken_by, given_by};

@@ -37,7 +37,8 @@ fn may_receive(run: &Overview, q: &Receive) -> bool
     run.is_given(q) || run.fits_some_message(q)
 }
 
-/// What a send waits for: its destination, or nothing.
+/// What a send waits for: its destination, or nothing if it is buffered, paired, or may be taken by an unpaired receive
+/// (MPI 4.0, 3.4 and 3.5).
 pub(crate) fn send_part(run: &Overview, m: &Message) -> Condition
     ensures { shape result ≡ send_part run.now m.now }
 {
@@ -65,7 +66,8 @@ fn source_part(alloc: Global, run: &Overview, q: &Receive) -> Result<Condition, 
     }
 }
 
-/// What a receive waits for: its source, or nothing.
+/// What a receive waits for: its told source, or one of all members, or nothing if it is paired or an unpaired message
+/// fits it (MPI 4.0, 3.2.4).
 pub(crate) fn receive_part(
     alloc: Global,
     run: &Overview,
@@ -80,7 +82,8 @@ pub(crate) fn receive_part(
     }
 }
 
-/// What a Probe waits for that looks for a message as this receive would; none looks for nothing.
+/// What a Probe waits for that looks for a message as this receive would (MPI 4.0, 3.8.1). A Probe of the null process,
+/// `None`, waits for nothing.
 pub(crate) fn probe_part(
     alloc: Global,
     run: &Overview,

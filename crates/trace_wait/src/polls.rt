@@ -15,7 +15,7 @@ use std::alloc::{AllocError, Global};
 use trace_ops::{RankOps, is_foreign, probed};
 use trace_stuck::Condition;
 
-/// A call that asks whether something is done, and doesn't wait for it: a Test, Testall, Testany,
+/// A poll: a call that asks whether something is done and doesn't wait for it, which is a Test, Testall, Testany,
 /// Testsome, Iprobe or Improbe.
 #[derive(Clone, Copy, Debug)]
 pub struct Poll<'a> {
@@ -45,7 +45,7 @@ fn sought_by(
     }
 }
 
-/// What rank r asks for by its call n: nothing where that is no such call.
+/// What rank r asks for by its call n; nothing if that is no poll.
 fn asked_by(
     alloc: Global,
     run: &Overview,
@@ -71,7 +71,7 @@ fn asked_by(
     }
 }
 
-/// What a poll of a rank asks for whose operations are at hand.
+/// What a poll of a rank asks for, by the rank's operations.
 fn asked_of(
     alloc: Global,
     run: &Overview,

@@ -1,5 +1,5 @@
-//! The message or the receive of a name, and whether a Cancel names its request, found by
-//! halves: those of a rank stand in order of their calls and parts.
+//! The message or the receive of a name, and whether a Cancel names its request, found by binary search: those of a
+//! rank stand in order of their calls and parts.
 
 ghost use Rattle.std.specs.Prelude.{◌≡◌, None, IfOk, IfErr, slice_get};
 ghost use Rattle.std.specs.List.{find, list_any};

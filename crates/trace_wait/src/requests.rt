@@ -249,7 +249,7 @@ fn push_choice(
     Ok(())
 }
 
-/// One of these; nothing where there is none.
+/// One of these conditions; nothing if there are none.
 pub(crate) fn some_of(parts: Vec<Condition>) -> Condition
     ensures { shape result ≡ some_of (map shape parts.items) }
 {
@@ -260,7 +260,7 @@ pub(crate) fn some_of(parts: Vec<Condition>) -> Condition
     }
 }
 
-/// What the request of this number waits for: nothing where it isn't active.
+/// What the request of this number waits for; nothing if it isn't active (MPI 4.0, 3.7.3).
 pub(crate) fn request(
     alloc: Global,
     run: &Overview,
@@ -280,7 +280,7 @@ pub(crate) fn request(
     }
 }
 
-/// What all requests of a list wait for.
+/// What a call waits for that completes all requests of a list (MPI 4.0, 3.7.5).
 pub(crate) fn all_of_list(
     alloc: Global,
     run: &Overview,
@@ -297,7 +297,7 @@ pub(crate) fn all_of_list(
     Ok(Condition::all(requests(alloc, run, r, o, xs)?))
 }
 
-/// What one request of a list waits for, whichever that is.
+/// What a call waits for that completes one request of a list, whichever that is (MPI 4.0, 3.7.5).
 pub(crate) fn some_of_list(
     alloc: Global,
     run: &Overview,

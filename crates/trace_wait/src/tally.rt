@@ -136,7 +136,7 @@ fn push_rounds(
     Ok(())
 }
 
-/// The members of a communicator, in group order: none where the layout doesn't have it.
+/// The members of a communicator, in group order; an empty list if the layout doesn't have it.
 pub(crate) fn members_of<'a>(layout: &'a Layout, comm: u32) -> &'a [u32]
     ensures value { result.now ≡ group layout.now.comms comm }
     ensures few { length result.now ≤ 1024 }
@@ -177,7 +177,8 @@ fn rounds_by(alloc: Global, layout: &Layout, entries: &Entries) -> Result<Vec<Ro
     Ok(out)
 }
 
-/// The rounds of all communicators, by communicator and k.
+/// The rounds of all communicators, windows and files, by id and k (MPI 4.0, 6.1 and 6.12). Fails with `AllocError`
+/// when memory is refused.
 pub fn rounds(alloc: Global, layout: &Layout, ops: &[RankOps]) -> Result<Vec<Round>, AllocError>
     ensures { IfOk result (λ v. v.items ≡ rounds_of layout.now.comms ops.now) }
 {

@@ -133,7 +133,7 @@ fn ask_all(
     Ok(())
 }
 
-/// When the unpaired receives end that were not cancelled.
+/// When the unpaired receives end that were not cancelled. Fails with `AllocError` when memory is refused.
 pub fn ends_asked(
     alloc: Global,
     ops: &[RankOps],

@@ -133,7 +133,7 @@ fn conditions_in(
 /// The conditions of ranks, and of what they ask for.
 #[derive(Debug, Drop)]
 pub struct RunConditions {
-    /// The condition of each rank, none where it isn't waiting.
+    /// The condition of each rank; `None` if it isn't waiting.
     pub of_ranks: Vec<Option<Condition>>,
     /// What each poll asks for, in the order in which they were given.
     pub of_polls: Vec<Condition>,
@@ -219,9 +219,10 @@ fn no_conditions(alloc: Global, ops: &[RankOps]) -> Result<Vec<Option<Condition>
     Ok(out)
 }
 
-/// The condition of each rank, none where it isn't waiting.
+/// The condition of each rank; `None` if it isn't waiting.
 ///
-/// The ops of rank r stand at place r; the pairs and the rounds are those of these ops.
+/// The ops of rank r stand at place r; the pairs and the rounds are those of these ops. Fails with `AllocError` when
+/// memory is refused.
 pub fn conditions(
     alloc: Global,
     layout: &Layout,
@@ -241,11 +242,11 @@ pub fn conditions(
     Ok(out)
 }
 
-/// The condition of each rank, none where it isn't waiting, and what each of the polls asks for: what the Wait, Waitall,
-/// Waitany, Waitsome or Probe of the same content would wait for in its place. What is looked up is gathered once for
-/// both.
+/// The condition of each rank (`None` if it isn't waiting), and what each of the polls asks for: what the Wait,
+/// Waitall, Waitany, Waitsome or Probe with the same arguments would wait for. The look-ups are prepared once for both.
 ///
-/// The ops of rank r stand at place r; the pairs and the rounds are those of these ops.
+/// The ops of rank r stand at place r; the pairs and the rounds are those of these ops. Fails with `AllocError` when
+/// memory is refused.
 pub fn conditions_with_polls(
     alloc: Global,
     layout: &Layout,

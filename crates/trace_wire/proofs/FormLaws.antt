@@ -41,7 +41,8 @@ pub record Takes (bytes text rest : List ℕ) : Type 0 where
 pub Takes-then : (a x b y c : List ℕ) → Takes a x b → Takes b y c → Takes a (x ++ y) c
 Takes-then a x b y c p q = record { parts = p.parts ∙ ap (λ (t : List ℕ). x ++ t) q.parts ∙ sym (append_assoc x y c); rest_fits = q.rest_fits }
 
--- A form is read and spelled alike, over the values that fit it. What is spelled isn't too long for a length to be written.
+-- A form is read and spelled alike, over the values that fit it. What is spelled isn't too long for a length to be
+-- written.
 pub record IsForm {A : Type 0} (form : Form A) (Fits : A → Type 0) : Type 0 where
   pub takes : (bytes : List ℕ) (x : A × List ℕ) → IsBytes bytes → form.read bytes ≡ Some x → Takes bytes (form.spell x.0) x.1 × Fits x.0
   pub again : (a : A) (rest : List ℕ) → Fits a → length (form.spell a) < 2 ^ 32 → form.read (form.spell a ++ rest) ≡ Some (a, rest)

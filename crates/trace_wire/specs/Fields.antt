@@ -40,7 +40,8 @@ peer_code (peers.Rank n) = n
 abbrev pub peer_of : ℕ → Option Peer
 peer_of n = if n == no_number then Some peers.Any else (if n == null_process then Some peers.Null else (small_of n >>= λ m. Some (peers.Rank m)))
 
--- what is told: a source, or a mark that nothing is told, or that the operation was cancelled (MPI 4.0, 3.2.5 and 3.8.4)
+-- what is told: a source, or a mark that nothing is told, or that the operation was cancelled (MPI 4.0, 3.2.5 and
+-- 3.8.4)
 abbrev pub told_code : Told → ℕ
 told_code tolds.Nothing = no_number
 told_code tolds.Cancelled = cancelled

@@ -27,8 +27,8 @@ abbrev pub IsFullBefore : List Entry → List Entry → Type 0
 IsFullBefore part [] = ⊥
 IsFullBefore part (e ∷ es) = longest < length (payload (part ++ e ∷ []))
 
--- The cells, cut into parts: each is the longest front of the cells from its first one on that goes into a frame. No cells
--- are one part.
+-- The cells, cut into parts: each is the longest front of the cells from its first one on that goes into a frame. No
+-- cells are one part.
 abbrev pub AreParts : List Entry → List (List Entry) → Type 0
 AreParts es [] = ⊥
 AreParts es (part ∷ []) = (es ≡ part) × GoIn part
@@ -115,8 +115,8 @@ BreaksAt ranks bytes count fault = (rest : List ℕ) × StandsBehind ranks bytes
 abbrev pub StraysAt : ℕ → List ℕ → ℕ → Type 0
 StraysAt ranks bytes count = (f : Framed) × (rest : List ℕ) × StandsBehind ranks bytes count (framed_bytes f ++ rest) × HasFrameAs f.0 (entries f.1) × HasOther ranks f.1
 
--- No frame was read, though a byte is left or the device failed: no memory, the device failed, or what is left begins with none,
--- for this cause.
+-- No frame was read, though a byte is left or the device failed: no memory, the device failed, or what is left begins
+-- with none, for this cause.
 abbrev pub BreaksOff : Option (List ℕ) → ℕ → ℕ → WireFault → Type 0
 BreaksOff left before now faults.Memory = now ≡ before
 BreaksOff left before now faults.Read = now ≡ one_more before

@@ -1,4 +1,4 @@
--- What a call does to a reader, told by the reader before it and after it. What a reader tells of itself stands in front: the
+-- What a call does to a reader, by the reader before it and after it. What a reader says of itself stands in front: the
 -- bytes that it has left, and how often it has failed.
 use Rattle.std.specs.Prelude.{ℕ, List, Option, Result}
 use Rattle.std.specs.FinMap.{entries}

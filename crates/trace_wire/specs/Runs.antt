@@ -21,7 +21,8 @@ pub record PlacedRun : Type 0 where
 abbrev pub placed_run : ℕ × ℕ → List Known → PlacedRun
 placed_run here cells = record { rank = here.0; first = here.1; cells = cells }
 
--- a cell in front of runs: it begins the first of them where that goes on right behind it, and is a run by itself elsewhere
+-- a cell in front of runs: it begins the first of them where that goes on right behind it, and is a run by itself
+-- elsewhere
 abbrev pub in_front : Entry → List PlacedRun → List PlacedRun
 in_front e [] = placed_run e.0 (e.1 ∷ []) ∷ []
 in_front e (r ∷ rs) = if is_behind e.0 (r.rank, r.first) then placed_run e.0 (e.1 ∷ r.cells) ∷ rs else placed_run e.0 (e.1 ∷ []) ∷ r ∷ rs

@@ -16,8 +16,8 @@ pub record Page : Type 0 where
   pub pending : List ℕ
   pub failed : Bool
 
--- The bytes were put into the sink. What it held and they were cut in two: the device took `sent`, and the rest is held,
--- or lost after a failure. After a failure nothing is sent.
+-- The bytes were put into the sink. What it held and they were cut in two: the device took `sent`, and the rest is
+-- held, or lost after a failure. After a failure nothing is sent.
 pub record Sends (s t : Page) (bytes : List ℕ) : Type 0 where
   pub sent : List ℕ
   pub rest : List ℕ

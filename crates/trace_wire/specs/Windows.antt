@@ -14,8 +14,8 @@ use Rattle.trace_wire.specs.Held.{Held}
 use Rattle.trace_wire.specs.Outcomes.{FailsWith, IsOfBytes}
 use Rattle.trace_wire.specs.Reading.{IsUnfilled}
 
--- Bytes of a payload were taken from the device. However it goes on, all that was left of it before and all that is left
--- now stand so to each other.
+-- Bytes of a payload were taken from the device. However it goes on, all that was left of it before and all that is
+-- left now stand so to each other.
 pub record Comes (old new : Option (List ℕ)) (s t : Held) (Stand : List ℕ → List ℕ → Type 0) : Type 0 where
   pub taken : List ℕ
   pub took : Consumes old new taken
@@ -31,7 +31,8 @@ IsLeft whole rest = whole ≡ rest
 abbrev pub Gave : {A : Type 0} → (List ℕ → Result (A × List ℕ) WireFault) → A → List ℕ → List ℕ → Type 0
 Gave read x whole rest = read whole ≡ Ok (x, rest)
 
--- The device failed, or ended before the payload; or what is left of the payload is refused for this cause, however it goes on.
+-- The device failed, or ended before the payload; or what is left of the payload is refused for this cause, however it
+-- goes on.
 abbrev pub Stops : {A : Type 0} → Option (List ℕ) → Option (List ℕ) → ℕ → ℕ → Held → Held → (List ℕ → Result A WireFault) → Unread → Type 0
 Stops old new before now s t read (Device fault) = IsUnfilled s.coming old before now fault
 Stops old new before now s t read (Payload fault) = (now ≡ before) × IsOfBytes fault × Comes old new s t (λ whole rest. FailsWith fault (read whole))

@@ -1,4 +1,4 @@
--- What a call does to a writer, told by the writer before it and after it. What a writer tells of itself stands in front: the
+-- What a call does to a writer, by the writer before it and after it. What a writer says of itself stands in front: the
 -- bytes that were written, how often it has failed, and its side for reading.
 use Rattle.std.specs.Prelude.{ℕ, Bool, List, Option}
 use Rattle.mpi_model.specs.Side.{Side}

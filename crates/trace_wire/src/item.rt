@@ -10,15 +10,15 @@ use crate::write::field::{put_element, put_i64, put_told};
 use crate::write::sink::Sink;
 use mpi_model::{Element, Told};
 
-/// What can stand in a counted list of a frame.
+/// What a counted list of a frame can hold.
 pub(crate) trait FrameItem: Drop {
     ghost form: { Form Self };
 
-    /// The value in front of bytes, and the bytes after it.
+    /// The value at the front of some bytes, and the bytes after it.
     fn read(bytes: &[u8]) -> Result<(Self, &[u8]), FieldFault>
         ensures { Reads (λ x. (x.0, x.1.now)) result (form.read bytes.now) };
 
-    /// Puts the bytes of the value.
+    /// Writes the bytes of the value.
     fn put<S: Sink>(&self, out: &mut S)
         ensures { Sends (S.page out.old) (S.page out.new) (form.spell self.now) };
 }

@@ -21,18 +21,18 @@ pub fn frame_laws()
     ensures again { (version : Version) (es : List Entry) (rest : List ℕ) → HasFrameAs version es
         → frame_at (frame_as version es ++ rest) ≡ Ok (es, rest) }
 
-    // Where a frame stands in front, nothing is refused.
+    // If the bytes begin with a frame, nothing is refused.
     ensures refused { (version : Version) (bytes rest : List ℕ) (es : List Entry) (fault : WireFault) → HasFrameAs version es
         → bytes ≡ frame_as version es ++ rest → frame_at bytes ≡ Err fault → ⊥ }
 
-    // No frame of a version begins another of that version or of the other, and a byte string is the frame of at most one
-    // list of cells, so of one view.
+    // No frame of a version begins another of that version or of the other, and a byte string is the frame of at most
+    // one list of cells, so of one view.
     ensures one { (one other : Version) (es fs : List Entry) (more : List ℕ) → HasFrameAs one es → HasFrameAs other fs
         → frame_as other fs ≡ frame_as one es ++ more → (other ≡ one) × (fs ≡ es) × (more ≡ []) }
     ensures views { (one other : Version) (v w : View) → HasFrameAs one (entries v) → HasFrameAs other (entries w)
         → frame_as one (entries v) ≡ frame_as other (entries w) → v ≡ w }
 
-    // What has a frame of some version has one of version 2.
+    // Knowledge that has a frame of some version has one of version 2.
     ensures second { (version : Version) (es : List Entry) → HasFrameAs version es → HasFrame es }
 
     // The runs of cells are the only ones that are in order, touch nowhere, and have these cells.

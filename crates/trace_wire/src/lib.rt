@@ -3,7 +3,7 @@
 //! Each knowledge has one frame of each [`Version`], each byte string is the frame of at most one knowledge, and no
 //! frame begins another. So [`read_frame`] leaves what follows a frame unread, and what [`write_frame`] wrote is read
 //! back as the same knowledge. Version 2 is written, run by run; version 1, cell by cell, is read as well, and written
-//! where it is asked for ([`write_frame_as`]). Hostile bytes get a named refusal: the first cause, in the order of
+//! where it is asked for ([`write_frame_as`]). Hostile bytes are refused with a named cause: the first in the order of
 //! [`WireFault`]. The format stands in `docs/formats/frames.md`, and as definitions in `specs/`.
 //!
 //! A payload has at most 67,108,864 bytes, in version 1 16,777,216. Both directions are linear in its length. Writing

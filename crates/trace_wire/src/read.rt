@@ -29,9 +29,10 @@ use trace_know::Knowledge;
 /// Reads one frame of either version, and leaves what follows it unread.
 ///
 /// Bytes that are no frame are refused for their first cause, in the order of [`WireFault`]: the ten bytes of the head
-/// are read and tried first, then the payload is read to its end, and its cells or runs are tried one by one as they come. So
-/// where one of them is at fault, the rest of the payload is read before that is answered. Memory is asked for a window of the
-/// payload, and for what came in it, whatever the length and the counts say. What was read before a refusal is lost.
+/// are read and checked first, then the payload is read to its end, and its cells or runs are checked one by one as
+/// they come. If one of them is at fault, the rest of the payload is read before the fault is returned. Memory is
+/// requested for a window of the payload, and for what came in it, whatever the length and the counts say. What was
+/// read before a refusal is lost.
 pub fn read_frame<R: Read>(alloc: Global, reader: &mut R) -> Result<Knowledge, WireFault>
     ensures ok { IfOk result (λ k. ReadsFrame (R.left reader.old) (R.left reader.new) (entries k)) }
     ensures fits { IfOk result (λ k. HasFrame (entries k)) }

@@ -162,8 +162,8 @@ pub(crate) fn payload_size(version: Version, knowledge: &Knowledge) -> Size
     }
 }
 
-/// How many bytes the frame of the knowledge has in a version. It takes no memory. It also tells that the cells of every
-/// knowledge are those of a frame, if the length is within the limit.
+/// How many bytes the frame of the knowledge has in a version. It takes no memory. Its contract also says that the
+/// cells of every knowledge are those of a frame, if the length is within the limit.
 pub fn frame_len_as(version: Version, knowledge: &Knowledge) -> u64
     ensures value { result ≡ min (length (frame_as version (entries knowledge.now))) (2 ^ 64 - 1) }
     ensures cells { AreCells None (entries knowledge.now) }

@@ -4,7 +4,7 @@ ghost use Rattle.std.specs.Prelude.{◌≡◌, ◌≤◌};
 ghost use Rattle.trace_wire.specs.FirstFault.{version_of};
 ghost use Rattle.trace_wire.specs.Frames.{longest_of, version_number};
 
-/// Which frame of a knowledge: it has one of each version, within that version's limit.
+/// The version of a frame. Each knowledge has one frame of each version, within that version's limit.
 #[derive(Clone, Copy, Debug, PartialEq, Eq)]
 pub enum Version {
     /// Cell by cell, each with its rank and place; a payload of at most 16,777,216 bytes.
@@ -24,7 +24,7 @@ impl Version {
         }
     }
 
-    /// The second of the two bytes of a head that tell the version. The first is 0.
+    /// The second of the two version bytes of a head. The first is 0.
     pub(crate) fn number(self) -> u8
         ensures { result ≡ version_number self }
     {

@@ -52,8 +52,9 @@ fn send<W: Write>(
     out.direct.failed
 }
 
-/// Appends the frame of the knowledge in a version, and takes no memory. One that is too long for the version is refused
-/// before any byte is written; where the device fails a front of the frame was written, and nothing is tried after that.
+/// Writes the frame of the knowledge in a version, and takes no memory. A frame that is too long for the version is
+/// refused before any byte is written. If the device fails, a front of the frame was written, and nothing more is
+/// tried.
 pub fn write_frame_as<W: Write>(
     version: Version,
     knowledge: &Knowledge,
@@ -77,7 +78,7 @@ pub fn write_frame_as<W: Write>(
     Ok(())
 }
 
-/// Appends the frame of the knowledge in version 2, as [`write_frame_as`] does.
+/// Writes the frame of the knowledge in version 2, as [`write_frame_as`] does, with the same faults.
 pub fn write_frame<W: Write>(knowledge: &Knowledge, writer: &mut W) -> Result<(), WireFault>
     ensures ok { OnOk result (Appends (W.written writer.old) (W.written writer.new) (frame (entries knowledge.now))) }
     ensures fits { OnOk result (HasFrame (entries knowledge.now)) }

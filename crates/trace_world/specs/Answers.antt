@@ -22,7 +22,8 @@ AnswersAnew node (Ok done) old new = new ≡ slice_set old node false
 AnswersAnew node (Err Stale) old new = ⊥
 AnswersAnew node (Err fault) old new = new ≡ old
 
--- A node was to make its answer from what it knows. Where that was accepted it has one; where there was no memory it has none.
+-- A node was to make its answer from what it knows. Where that was accepted it has one; where there was no memory it
+-- has none.
 abbrev pub AnswersFresh : ℕ → Result (Unit {0}) WorldFault → List Bool → List Bool → Type 0
 AnswersFresh node (Ok done) old new = new ≡ slice_set old node false
 AnswersFresh node (Err Memory) old new = new ≡ slice_set old node true
@@ -34,8 +35,8 @@ abbrev pub AnswersStill : Result (Unit {0}) WorldFault → List Bool → List Bo
 AnswersStill (Err Stale) old new = ⊥
 AnswersStill result old new = new ≡ old
 
--- Of each node, whether it had no answer before a step and whether it has none after it. Only takes and deliveries leave
--- a node without one.
+-- Of each node, whether it had no answer before a step and whether it has none after it. Only takes and deliveries
+-- leave a node without one.
 abbrev pub AnswersAfter : Step → Result (Unit {0}) WorldFault → List Bool → List Bool → Type 0
 AnswersAfter (Post worker node segment) result old new = AnswersStill result old new
 AnswersAfter (Take node) result old new = AnswersMore node result old new

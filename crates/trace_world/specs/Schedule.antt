@@ -1,5 +1,5 @@
--- Schedules: what posts, takes, shipments, deliveries and restarts do to plain lists of segments. They know no cells, no
--- frames and no answers.
+-- Schedules: what posts, takes, shipments, deliveries and restarts do to plain lists of segments. They know no cells,
+-- no frames and no answers.
 use Rattle.std.specs.Prelude.{ℕ, List, [], ◌∷◌, ◌++◌, drop, take, replicate, slice_index_or, slice_set}
 use Rattle.trace_know.specs.Segment.{PlacedEvents}
 use Rattle.trace_world.specs.declared.step.Step.{Step}
@@ -24,8 +24,8 @@ with_segment lists node segment = slice_set lists node (at lists node ++ segment
 abbrev pub opening : ℕ → State
 opening nodes = record { inboxes = replicate nodes []; reached = replicate nodes []; mails = [] }
 
--- A post adds a segment to the inbox. A take moves the inbox's front to what reached the node. A shipment mails all that
--- reached it. A delivery adds a mail's segments to what reached the node. A restart leaves the node with nothing.
+-- A post adds a segment to the inbox. A take moves the inbox's front to what reached the node. A shipment mails all
+-- that reached it. A delivery adds a mail's segments to what reached the node. A restart leaves the node with nothing.
 abbrev pub after : Step → State → State
 after (Post worker node segment) s = record s { inboxes = with_segment s.inboxes node segment }
 after (Take node) s = record s { inboxes = slice_set s.inboxes node (drop 1 (at s.inboxes node)); reached = slice_set s.reached node (at s.reached node ++ take 1 (at s.inboxes node)) }

@@ -8,15 +8,15 @@ ghost use Rattle.trace_world.specs.Heard.{has};
 use std::alloc::{AllocError, Global};
 use std::collections::BTreeSet;
 
-/// Mails that a node has joined since it began with nothing, by their numbers: what they tell is known to it. One for which
-/// there was no memory is left out.
+/// Mails that a node has joined since it began with nothing, by their numbers: what they tell is known to it. One for
+/// which there was no memory is left out.
 #[derive(Drop)]
 pub(crate) struct Heard {
     mails: BTreeSet<usize>,
 }
 
 impl Heard {
-    /// No mail yet. Takes no memory.
+    /// An empty set of mails. Takes no memory.
     pub(crate) fn new(alloc: Global) -> Heard
         ensures { (mail : ℕ) → has result mail ≡ false }
     {

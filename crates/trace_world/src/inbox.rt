@@ -24,6 +24,7 @@ impl Model for SegmentQueue {
 }
 
 impl SegmentQueue {
+    /// A queue without segments. It takes no memory.
     pub(crate) fn new(alloc: Global) -> SegmentQueue
         ensures { result ≡ [] }
     {
@@ -50,26 +51,28 @@ impl SegmentQueue {
         self.queue.front()
     }
 
-    /// Removes the front.
+    /// Removes the segment that came first.
     pub(crate) fn pop(&mut self)
         ensures { self.new ≡ drop 1 self.old }
     {
         let _ = self.queue.pop_front();
     }
 
+    /// Drops all segments of the queue.
     pub(crate) fn clear(&mut self)
         ensures { self.new ≡ [] }
     {
         self.queue.clear();
     }
 
+    /// How many segments wait in the queue.
     pub(crate) fn len(&self) -> usize
         ensures { result ≡ length self.now }
     {
         self.queue.len()
     }
 
-    /// The same segments, which both share.
+    /// A queue of the same segments, which both share.
     pub(crate) fn try_clone(&self) -> Result<SegmentQueue, AllocError>
         ensures { IfOk result (λ copy. copy ≡ self.now) }
     {

@@ -11,8 +11,8 @@ use crate::step::Step;
 use trace_know::view_laws;
 use trace_node::answers_are_one;
 
-/// Two nodes of a world that the same facts reached, in any orders, groupings and repetitions, know
-/// the same, their answers are equal, and so are their reports, byte for byte.
+/// If the same facts reached two nodes of a world, in whatever order, grouping and repetition, both know the same,
+/// their answers are equal, and so are their reports, byte for byte.
 pub fn equal_nodes()
     ensures knowledge { NodesReachedAlike KnowAlike }
     ensures answers { NodesReachedAlike AnswerAlike }
@@ -22,7 +22,7 @@ pub fn equal_nodes()
     answers_are_one();
 }
 
-/// Why a step is refused hangs on the state alone that a world of a layout shows.
+/// Whether a step is refused, and why, depends only on the state that a world of a layout shows.
 pub fn states_refuse()
     ensures { (w : WorldState) (s : State) (step : Step) → Shows w s → refusal (world_in w.layout s) step ≡ refusal w step }
 {}

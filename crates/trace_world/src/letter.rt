@@ -7,14 +7,15 @@ ghost use Rattle.mpi_model.specs.Side.{LeavesSide, untold};
 
 use mpi_model::{Failed, Read};
 
-/// Bytes that are still to be read. A reader in memory of `mpi_model` could be told to fail; this
-/// one can't, so whoever reads a mail need not say what would happen then.
+/// Bytes that are still to be read. A reader in memory of `mpi_model` could be told to fail; this one can't, so a
+/// function that reads a mail needn't say what would happen then.
 #[derive(Drop)]
 pub(crate) struct Letter<'a> {
     bytes: &'a [u8],
 }
 
 impl<'a> Letter<'a> {
+    /// A reader of these bytes, from the first on.
     pub(crate) fn new(bytes: &'a [u8]) -> Letter<'a>
         ensures { result.bytes.now ≡ bytes.now }
     {

@@ -1,10 +1,10 @@
 //! Nodes that exchange what they know, after any list of steps.
 //!
-//! A [`World`] is some nodes of one layout. Each has an inbox, into which workers post segments,
-//! and from which it takes them. A shipment makes a mail, the frame of all that a node knows then;
-//! a delivery joins a mail into any node; a restart leaves a node with nothing. Whatever the steps
-//! and their order, each node knows just what the segments that reached it tell together, and its
-//! answer is that of the definitions: that is the contract of [`World::run`].
+//! A [`World`] is some nodes of one layout. Each has an inbox, into which workers post segments, and from which it
+//! takes them. A shipment makes a mail, the frame of all that a node knows at that time; a delivery joins a mail into a
+//! node; a restart leaves a node with nothing. Whatever the steps and their order, each node knows just what the
+//! segments that reached it tell together, and its answer is that of the definitions: that is the contract of
+//! [`World::run`].
 //!
 //! A run makes each node's answer once, at its end; a single step makes that of its node. A post
 //! shares its segment; a shipment copies what is known into a frame. A mail that a node has joined isn't read again for
@@ -17,6 +17,11 @@
 //! - [`world`]: nodes with their inboxes, and the mails
 //! - [`laws`]: nodes that the same segments reached are equal, and equal states refuse the same steps, as
 //!   contracts
+//!
+//! To change something, open:
+//!
+//! - what a step does: `specs/Schedule.antt`; [`step`], [`moves`]
+//! - when a step is refused, and in which order: `specs/Refusals.antt`; [`world`]
 //!
 //! # Choices
 //!

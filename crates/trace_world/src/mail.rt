@@ -62,7 +62,7 @@ impl Mail {
         }
     }
 
-    /// One owner more of the same. No copy is made.
+    /// Another owner of the same value. Nothing is copied.
     pub(crate) fn try_clone(&self) -> Result<Mail, AllocError>
         ensures { IfOk result (λ m. m ≡ self.now) }
     {

@@ -42,7 +42,8 @@ impl SharedSegment {
         &self.segment
     }
 
-    /// One owner more of the same. No copy is made.
+    /// Another owner of the same value. Nothing is copied. Fails with `AllocError` when it already has as many owners
+    /// as can be counted.
     pub fn try_clone(&self) -> Result<SharedSegment, AllocError>
         ensures { IfOk result (λ s. s ≡ self.now) }
     {

@@ -17,6 +17,7 @@ pub(crate) struct Sheet {
 }
 
 impl Sheet {
+    /// A sheet on which nothing is written yet. It takes no memory.
     pub(crate) fn new(alloc: Global) -> Sheet
         ensures { result.bytes.items ≡ [] }
     {
@@ -26,6 +27,7 @@ impl Sheet {
         }
     }
 
+    /// What was written so far.
     pub(crate) fn bytes(&self) -> &[u8]
         ensures { result.now ≡ self.now.bytes.items }
     {

@@ -65,7 +65,8 @@ impl Step {
     }
 }
 
-/// Why a world refuses, tried in this order. A refused step has changed nothing, but at `Stale`.
+/// Why a world refuses a step or can't be made: the first cause in this order. A refused step has changed nothing,
+/// except for `Stale`.
 #[derive(Clone, Copy, Debug, PartialEq, Eq, Error)]
 pub enum WorldFault {
     /// No node has this number.
@@ -77,16 +78,16 @@ pub enum WorldFault {
     /// The node's inbox is empty.
     #[error("V3 EmptyInbox")]
     EmptyInbox,
-    /// The segment's rank is none of the layout.
+    /// The layout doesn't have the segment's rank.
     #[error("V4 Rank")]
     Rank,
     /// The frame to be shipped would be longer than a frame may be.
     #[error("V5 FrameLength")]
     FrameLength,
-    /// The step was done, and the node has no answer now: memory was refused, or it had none before.
+    /// The step was done, but the node has no answer now: memory was refused, or it had none before.
     #[error("V6 Stale")]
     Stale,
-    /// A world has 1 to 64 nodes.
+    /// The number of nodes isn't 1 to 64.
     #[error("V7 NodeCount")]
     NodeCount,
     /// No memory was left.
@@ -97,6 +98,7 @@ pub enum WorldFault {
 /// The step at which a run of steps ended, from 0, and why.
 #[derive(Clone, Copy, Debug, PartialEq, Eq)]
 pub struct StepFault {
+    /// The number of the step, from 0.
     pub step: usize,
     pub fault: WorldFault,
 }

@@ -43,7 +43,7 @@ pub struct World<'a> {
     nodes: Vec<Node<'a>>,
     inboxes: Vec<SegmentQueue>,
     mails: Vec<Mail>,
-    /// Of each node the mails that it has joined.
+    /// For each node the mails that it has joined.
     heard: Vec<Heard>,
 }
 
@@ -65,7 +65,8 @@ impl<'a> Model for World<'a> {
 }
 
 impl<'a> World<'a> {
-    /// So many nodes that know nothing, with empty inboxes, and no mail.
+    /// A world of this many nodes that know nothing, with empty inboxes and no mail. Fails with `NodeCount` unless
+    /// there are 1 to 64, and with `Memory` when memory is refused.
     pub fn new(alloc: Global, layout: &'a Layout, nodes: usize) -> Result<World<'a>, WorldFault>
         ensures shows { IfOk result (λ w. Shows w (opening nodes)) }
         ensures layout { IfOk result (λ w. w.layout ≡ layout.now) }
@@ -94,8 +95,8 @@ impl<'a> World<'a> {
         })
     }
 
-    /// Does one step. At [`WorldFault::Stale`] it was done, and its node has no answer; any other
-    /// refusal changes nothing.
+    /// Does one step. On [`WorldFault::Stale`] the step was done, but its node has no answer; any other refusal changes
+    /// nothing.
     pub fn step(&mut self, step: &Step) -> Result<(), WorldFault>
         ensures done { is_done result ≡ true → Follows self.old (step.now ∷ []) self.new }
         ensures undone { is_done result ≡ false → self.new ≡ self.old }
@@ -112,9 +113,9 @@ impl<'a> World<'a> {
         self.answer_again(step.node(), had)
     }
 
-    /// Does the steps in order, up to the first that is refused, which it names. The answers are made
-    /// once, at the end. Where there is no memory for that, the steps are undone and done again, each
-    /// with its answer, so that the one is named that lacks it.
+    /// Does the steps in order, up to the first that is refused, which the fault names. The answers are made once, at
+    /// the end. If memory for that runs out, the steps are undone and done again, each with its answer, so that the
+    /// fault names the step that lacks it.
     pub fn run(&mut self, steps: &[Step]) -> Result<(), StepFault>
         ensures ok { OnOk result (Follows self.old steps.now self.new) }
         ensures possible { OnOk result (Allows self.old steps.now) }
@@ -132,8 +133,7 @@ impl<'a> World<'a> {
         }
     }
 
-    /// Makes a node's answer anew. Where there is no memory for it, the node has none; what is known
-    /// stays in any case.
+    /// Makes a node's answer anew. If memory runs out, the node has no answer; what it knows stays in any case.
     pub fn refresh(&mut self, node: usize) -> Result<(), WorldFault>
         ensures shown { Follows self.old [] self.new }
         ensures ok { OnOk result (node < length self.old.nodes) }
@@ -147,14 +147,14 @@ impl<'a> World<'a> {
         moves::refresh(&mut self.nodes, node)
     }
 
-    /// A node, which tells what it knows and its answer.
+    /// The node of this number, with what it knows and its answer.
     pub fn node(&self, node: usize) -> Option<&Node<'a>>
         ensures { option_map (λ n. n.now) result ≡ slice_get self.now.nodes node }
     {
         self.nodes.get(node)
     }
 
-    /// How many segments wait for a node.
+    /// How many segments are in a node's inbox.
     pub fn inbox_len(&self, node: usize) -> Option<usize>
         ensures { result ≡ option_map length (slice_get self.now.inboxes node) }
     {
@@ -276,7 +276,8 @@ impl<'a> World<'a> {
         self.try_clone().ok()
     }
 
-    /// A copy that shares what the nodes know, the segments and the mails. Which mails its nodes have joined isn't noted.
+    /// A copy that shares what the nodes know, the segments and the mails. Which mails its nodes have joined isn't
+    /// noted.
     fn try_clone(&self) -> Result<World<'a>, AllocError>
         ensures { IfOk result (λ copy. copy ≡ self.now) }
     {

@@ -21,7 +21,8 @@ use std::alloc::{AllocError, Global};
 use std::fmt;
 use text_notes::Start;
 
-/// What was found, and what to do, for a person who reads of a fault: nothing, or lines of two spaces and a sentence.
+/// The advice below a fault line, for a person: what was found and what to do. It is nothing, or lines that begin with
+/// two spaces.
 #[derive(Clone, Copy, Debug)]
 pub struct Advice<'a> {
     fault: &'a RunFault,

@@ -13,16 +13,18 @@ use std::fmt;
 use trace_wire::{PackedCause, WireFault};
 use trace_world::WorldFault;
 
-/// The first cause that stands in the order in which files are read and refusals are tried. Each
-/// names its file as the words or the manifest spell it, and lines from 1.
+/// Why a run is refused: the first cause in the order in which files are read and checked. Each names its file as the
+/// command line or the manifest spells it; lines count from 1.
 #[derive(Debug, Drop)]
 pub enum RunFault {
+    /// Memory was refused.
     Memory,
     /// The file can't be opened or read, or has more bytes than its kind may have.
     File {
         path: String,
     },
-    /// The file is no JSON, as is noticed at this line and column, both from 1; column 0 is before the line's first byte.
+    /// The file is no JSON: the mistake is at this line and column, both from 1; column 0 is before the line's first
+    /// byte.
     Json {
         path: String,
         line: u64,
@@ -47,10 +49,12 @@ pub enum RunFault {
         path: String,
         frame: u64,
     },
+    /// The layout of the file breaks this rule of layouts.
     Layout {
         fault: LayoutFault,
         path: String,
     },
+    /// The text is refused at the line, for this cause.
     Text {
         cause: TextCause,
         path: String,
@@ -76,17 +80,17 @@ pub enum RunFault {
     Rank {
         path: String,
     },
-    /// A rank that the layout doesn't have: of the calls of a piece, where it isn't told which piece, or the one that was
-    /// asked for.
+    /// The layout doesn't have this rank. It is the rank of a piece's calls, when it isn't known which piece, or the
+    /// one that was asked for.
     Outside,
-    /// A replay has 1 to 64 nodes.
+    /// The number of nodes of a replay isn't 1 to 64.
     NodeCount,
     /// The step of this number, from 0, can't be done.
     Step {
         fault: WorldFault,
         step: usize,
     },
-    /// A worker of a node couldn't be started, or it found its way to the node closed.
+    /// A worker of a node couldn't be started, or its queue to the node was closed.
     Worker,
     /// Two nodes couldn't be connected.
     Net,
@@ -120,7 +124,7 @@ impl<T: Drop> From<AllocFailed<T>> for RunFault {
     }
 }
 
-/// The line for standard error, with its line feed.
+/// The line for standard error, with its line feed. Fails with `AllocError` when memory is refused.
 pub fn fault_line(alloc: Global, fault: &RunFault) -> Result<String, AllocError>
     ensures { IfOk result (λ line. string_bytes line ≡ fault_line_of fault.now) }
 {
@@ -188,7 +192,7 @@ impl fmt::Display for RunFault {
     }
 }
 
-/// What a line calls a rule of layouts that is broken.
+/// The name of a broken rule of layouts, as a fault line has it.
 pub fn name_of_layout(fault: LayoutFault) -> &'static str
     ensures { result.now ≡ layout_fault_name fault }
 {

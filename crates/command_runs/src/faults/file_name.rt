@@ -5,8 +5,8 @@ ghost use Rattle.command_runs.specs.FileNames.{shown_char, shown_name};
 
 use std::fmt;
 
-/// A file's name as a line shows it: as it stands, but for control characters, which are written as
-/// Rust escapes them. So a name is part of one line, and nothing of it is an order to a terminal.
+/// A file's name as a line shows it: unchanged, except that control characters are escaped as in Rust. So a name stays
+/// on one line and can't control a terminal.
 #[derive(Clone, Copy, Debug)]
 pub struct FileName<'a> {
     name: &'a str,
@@ -15,6 +15,7 @@ pub struct FileName<'a> {
 impl<'a> FileName<'a> {
     ghost use Rattle.std.specs.Prelude.{◌≡◌};
 
+    /// The file of this name, as the command line or a manifest spells it.
     pub fn new(name: &'a str) -> Self
         ensures { result.name.now ≡ name.now }
     {

@@ -1,4 +1,4 @@
-//! What is found out of a file once it was refused.
+//! What is found out about a file after it was refused.
 
 ghost use Rattle.std.specs.Prelude.{◌≡◌, None};
 ghost use Rattle.command_runs.specs.Advice.{IsFound};
@@ -26,7 +26,7 @@ pub struct Found {
     pub value: Option<Vec<u8>>,
 }
 
-/// No file was looked at.
+/// The result when no file was looked at.
 pub const NOTHING: Found = Found {
     reason: None,
     start: None,
@@ -96,8 +96,8 @@ fn value_found<O: Opener>(
     }
 }
 
-/// What is found out of the file that the fault names. One that can't be read isn't looked at, nor one of another kind than
-/// a text, a layout or a manifest.
+/// What is found out of the file that the fault names. One that can't be read isn't looked at, nor one of another kind
+/// than a text, a layout or a manifest.
 pub fn found_of<O: Opener>(alloc: Global, fault: &RunFault, files: &O) -> Found
     ensures told { IsFound (O.file files.now) fault.now result }
 {

@@ -12,8 +12,8 @@ use std::alloc::{AllocError, AllocFailed, Global};
 use std::fmt;
 use text_layouts::MadeFault;
 
-/// Why nothing is made of the texts of all ranks, or why what was made isn't kept. Each names its files as the words
-/// spell them.
+/// Why no layout is made of the texts of all ranks, or why it isn't written. Each fault names its files as the command
+/// line spells them.
 #[derive(Drop)]
 pub(crate) enum InitFault {
     Memory,
@@ -21,7 +21,7 @@ pub(crate) enum InitFault {
     Text(RunFault),
     /// The text has lines, and no call among them.
     NoCall { path: String },
-    /// The text is no file that can be read twice, as a verb reads each.
+    /// The text can't be read twice, as a verb over texts needs to.
     Piped { path: String },
     /// More texts than a layout can have ranks.
     TooMany,

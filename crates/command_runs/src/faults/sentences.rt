@@ -70,7 +70,7 @@ fn is_absolute(path: &str) -> bool
     }
 }
 
-/// From where the name of a file is looked up.
+/// The words for the folder from which the name of a file is looked up.
 pub(crate) fn folder_text(path: &str) -> &'static str
     ensures { result.now ≡ folder_text path.now }
 {

@@ -12,8 +12,8 @@ pub const LONGEST_SHOWN: usize = 100;
 
 const CUT_OFF: &str = ", cut off: the value has ";
 
-/// Bytes as a line shows them: ASCII as it stands, but for control characters, which are written as in a file's name, and any
-/// other byte by its number, as Rust escapes it. So they are part of one line, and nothing of them is an order to a terminal.
+/// Bytes as a line shows them: ASCII as it stands, but for control characters, which are written as in a file's name,
+/// and any other byte by its number, as Rust escapes it. So they stay on one line and can't control a terminal.
 #[derive(Clone, Copy, Debug)]
 pub(crate) struct ShownBytes<'a> {
     bytes: &'a [u8],
@@ -92,8 +92,8 @@ fn put_whole<W: fmt::Write>(f: &mut fmt::Formatter<W>, name: &str, value: &[u8])
     f.write_str("\n")
 }
 
-/// What a text has for a parameter of this name. A long value is cut off behind its first bytes, and the line says how many
-/// it has.
+/// What a text has for a parameter of this name. A long value is cut off behind its first bytes, and the line says how
+/// many it has.
 pub(crate) fn put_value<W: fmt::Write>(
     f: &mut fmt::Formatter<W>,
     name: &str,

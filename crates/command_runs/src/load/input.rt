@@ -15,8 +15,8 @@ use mpi_model::Layout;
 use run_files::{InputFault, LONGEST_FILE, Manifest, RunInput, layout_of, manifest_of};
 use std::alloc::{AllocError, Global};
 
-/// The layout and the manifest of these files. The rank that is asked for, where one is, is looked for in the layout before
-/// the manifest is read.
+/// The layout and the manifest of these files. The rank that is asked for, where one is, is looked for in the layout
+/// before the manifest is read. [`RunFault`] is the first cause in the order in which the files are read.
 pub fn input_at<O: Opener>(
     alloc: Global,
     rank: Option<u32>,
@@ -83,7 +83,7 @@ pub(crate) fn opened<O: Opener>(alloc: Global, path: &str, files: &O) -> Result<
     }
 }
 
-/// The bytes of a file, where they are at most so many.
+/// The bytes of a file, which may be at most this many.
 pub(crate) fn file_at<O: Opener>(
     alloc: Global,
     path: &str,

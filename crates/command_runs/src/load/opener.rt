@@ -8,39 +8,41 @@ use mpi_model::{Device, Read};
 use std::fs::Files;
 use std::io;
 
-/// Why a file gives no reader.
+/// Why a file couldn't be opened.
 #[derive(Clone, Copy, Debug, PartialEq, Eq)]
 pub enum OpenFault {
     /// The file can't be opened.
     File,
+    /// Memory was refused.
     Memory,
 }
 
 /// What opens the files of a run.
 ///
-/// It tells the bytes of its files, or it doesn't (a disk can't: other programs write to it). A file
-/// whose bytes it tells can be opened.
+/// A contract knows the bytes of the files of some openers; of others (a disk, which other programs write to) it
+/// doesn't. A file whose bytes it knows can be opened.
 pub trait Opener: Drop {
     /// A file that was opened.
     type R: Read;
 
-    /// The bytes of the file of a name, where the opener tells them.
+    /// The bytes of the file of a name; `None` if no contract can know them.
     ghost file: { Self → List ℕ → Option (List ℕ) } = { λ _ _. None };
 
-    /// Opens the file of a name, taken as it stands, at its first byte.
+    /// Opens the file of a name, taken as it stands, at its first byte. Fails with `File` if it can't be opened, and
+    /// with `Memory` when memory is refused.
     fn open(&self, path: &str) -> Result<Self::R, OpenFault>
         ensures told { IfOk result (λ reader. StandsAtFirst (file self.now path.now) (Self.R.left reader)) }
         ensures absent { result ≡ Err OpenFault.File → file self.now path.now ≡ None };
 
-    /// How many bytes the file of a name has now, where that can be told: a pipe has no length, and can't be read twice. It is
-    /// for who watches a run, for the room that a piece's events get, for which files are read twice, and for which words name
-    /// texts; nothing else that a run answers hangs on it.
+    /// How many bytes the file of a name has now; `None` if that can't be known: a pipe has no length, and can't be
+    /// read twice. It decides what a watcher shows, how much room a piece's events get, which files are read twice, and
+    /// which words name texts; no other output of a run depends on it.
     fn length(&self, path: &str) -> Option<u64>
         ensures some { IfSome result (IsLength (file self.now path.now)) }
         ensures none { result ≡ None → file self.now path.now ≡ None };
 
-    /// Why no file of a name can be read now, where the system says so. It is for a person who reads why a run was refused, and
-    /// nothing else that a run answers hangs on it.
+    /// Why no file of a name can be read now; `None` if the system doesn't say it. It is shown to a person who reads
+    /// why a run was refused; no other output of a run depends on it.
     fn reason(&self, _path: &str) -> Option<Reason> {
         None
     }
@@ -53,6 +55,7 @@ pub struct Disk<'a, F: Files> {
 }
 
 impl<'a, F: Files> Disk<'a, F> {
+    /// The files of the system.
     pub fn new(rt: &'a F) -> Self {
         Disk { rt }
     }

@@ -20,7 +20,7 @@ pub(crate) struct Prepared {
     pub(crate) made: Made,
     /// The names of the texts' files, by rank.
     pub(crate) texts: Vec<String>,
-    /// What was found in the texts, and what is left out, for a person.
+    /// What was found in the texts and what is left out, in words for a person.
     pub(crate) notes: Vec<u8>,
 }
 
@@ -79,8 +79,8 @@ fn notes_of(alloc: Global, by_digits: bool, calls: u64, made: &Made) -> Result<V
     out.into_bytes()
 }
 
-/// The input of the run of these texts, rank 0 first, or by the digits at the ends of their names where those are 0 to n - 1.
-/// Each text is read once.
+/// The input of the run of these texts, rank 0 first, or by the digits at the ends of their names where those are 0 to
+/// n - 1. Each text is read once.
 pub(crate) fn prepare<O: Opener>(
     alloc: Global,
     sends: Sends,

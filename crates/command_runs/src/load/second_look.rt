@@ -34,7 +34,8 @@ pub(crate) fn start_at<O: Opener>(path: &str, files: &O) -> Option<Start>
     }
 }
 
-/// The value that a text has for a parameter of this name in its call that begins at this line, where it can be looked at.
+/// The value that a text has for a parameter of this name in its call that begins at this line, where it can be looked
+/// at.
 #[tactic(auto, using(crate::proofs::Notes::value_told))]
 pub(crate) fn value_again<O: Opener>(
     alloc: Global,

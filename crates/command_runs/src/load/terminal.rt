@@ -10,9 +10,9 @@ use std::time::{Clock, Instant};
 /// lines.
 const PATIENCE: u64 = 2;
 
-/// Shows on standard error how many pieces and bytes were read, where that takes long, each text that has
-/// lines and no call, as a file in another encoding looks, and that a check pairs by the rules. Where standard error is no terminal
-/// it shows nothing. That a line can't be shown changes nothing.
+/// Shows on standard error how many pieces and bytes were read, if reading takes long; each text that has lines but no
+/// call, as a file in another encoding would; and that a check pairs by the rules. If standard error is no terminal, it
+/// shows nothing. If a line can't be shown, nothing else changes.
 #[derive(Drop)]
 pub struct Terminal<'a, R: Eprint + Clock> {
     rt: &'a R,
@@ -27,6 +27,7 @@ pub struct Terminal<'a, R: Eprint + Clock> {
 }
 
 impl<'a, R: Eprint + Clock> Terminal<'a, R> {
+    /// A watcher of a run that hasn't begun. `is_terminal` says whether standard error is a terminal.
     pub fn new(rt: &'a R, is_terminal: bool) -> Self {
         Terminal {
             rt,

@@ -1,26 +1,24 @@
-//! Who is told how a run comes along.
+//! What observes how far a run has come.
 
 use crate::load::opener::Opener;
 use dumpi_calls::Walked;
 use run_files::Piece;
 
-/// Is told how the reading of a run's pieces comes along. Nothing that a run answers or writes
-/// hangs on it.
+/// Observes how far the reading of a run's pieces has come. No output of a run depends on it.
 pub trait Watcher: Drop {
-    /// Whether what is told is shown to anyone. Else the files' lengths are not added up before they are read.
+    /// Whether anything is shown to anyone. If not, the files' lengths are not added up before they are read.
     fn is_watching(&self) -> bool;
 
-    /// So many pieces are read from here on, of so many bytes together, where each file tells its
-    /// length.
+    /// From here on this many pieces are read, with this many bytes in all; `None` if a file doesn't have a length.
     fn begin(&mut self, pieces: usize, bytes: Option<u64>);
 
-    /// So many bytes more were read.
+    /// This many more bytes were read.
     fn has_taken(&mut self, bytes: usize);
 
     /// The text of one more piece was read to its end.
     fn has_read(&mut self, path: &str, walked: &Walked);
 
-    /// So many messages and receives are paired by the rules from here on.
+    /// From here on this many messages and receives are paired by the rules.
     fn begin_check(&mut self, calls: usize);
 }
 

@@ -16,6 +16,7 @@ pub(crate) struct Watched<'w, R: Read, V: Watcher> {
 }
 
 impl<'w, R: Read, V: Watcher> Watched<'w, R, V> {
+    /// A reader over `inner` that tells the watcher of the bytes from here on.
     pub(crate) fn new(inner: R, watcher: &'w mut V) -> Self
         ensures { result.inner ≡ inner }
     {

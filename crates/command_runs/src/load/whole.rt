@@ -7,12 +7,13 @@ ghost use Rattle.command_runs.specs.Whole.{IsRefusedFor};
 use mpi_model::{Read, ReadFault, read_exactly};
 use std::alloc::{AllocError, AllocFailed, Global};
 
-/// The most bytes of a piece that is read whole.
+/// The largest size of a piece that is read whole, in bytes.
 pub const LONGEST_PIECE: usize = 1_073_741_824;
 
 /// Why a file is not read whole.
 #[derive(Clone, Copy, Debug, PartialEq, Eq)]
 pub enum WholeFault {
+    /// Memory was refused.
     Memory,
     /// The reader failed.
     Failed,
@@ -42,7 +43,8 @@ impl From<AllocError> for WholeFault {
     }
 }
 
-/// All bytes that the reader has, up to its end, where they are at most so many.
+/// All bytes that the reader has, up to its end. Fails with [`WholeFault`] if the reader fails or has more than `most`
+/// bytes, or when memory is refused.
 pub fn read_whole<R: Read>(
     alloc: Global,
     reader: &mut R,

@@ -1,5 +1,5 @@
 //! The answer to what texts tell that are listed in any order, made rank by rank too: of copies of their pieces by
-//! rising rank. Which fault is told hangs on the manifest's order, so where they are refused some are read once more.
+//! rising rank. Which fault is reported depends on the manifest's order, so if one is refused some are read once more.
 
 ghost use Rattle.std.specs.Prelude.{◌≡◌, ◌⊎◌, IfErr, IfOk, IsPermutation, IsTrue, OnOk};
 ghost use Rattle.std.specs.List.{All};
@@ -63,8 +63,8 @@ fn blames_file(fault: &RunFault, file: &str) -> bool
     }
 }
 
-/// Whether the pieces before the first that this fault refuses are whole: else the first of those is refused. (Nobody is
-/// shown again what is read here.)
+/// Whether the pieces before the first that this fault refuses are whole: else the first of those is refused. (Nobody
+/// is shown again what is read here.)
 fn look_for_refused<O: Opener>(
     alloc: Global,
     pieces: &[Piece],
@@ -108,8 +108,8 @@ fn look_for_strangers<O: Opener>(run: &Run<'_, O>, pieces: &[Piece]) -> Result<(
     Ok(())
 }
 
-/// Why pieces are refused that this fault refuses in another order: the first of their own. Where a device failed once, it
-/// is this fault.
+/// Why pieces are refused that this fault refuses in another order: the first of their own. Where a device failed once,
+/// it is this fault.
 fn fault_in_order<O: Opener>(run: &Run<'_, O>, pieces: &[Piece], fault: RunFault) -> RunFault
     requires refused { RefusesInSomeOrder (O.file run.now.files.now) run.now.layout.now.ranks pieces.now fault }
     requires failed { NamesFailed (Fails O.R.failures) fault }

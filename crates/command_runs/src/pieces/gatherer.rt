@@ -1,4 +1,4 @@
-//! Who gathers what pieces tell, piece by piece.
+//! What gathers the pieces of a run, one by one.
 
 ghost use Rattle.std.specs.Prelude.{◌≡◌, IfOk};
 ghost use Rattle.std.specs.FinMap.{empty};
@@ -11,8 +11,8 @@ use std::alloc::{AllocError, Global};
 use trace_check::Checker;
 use trace_know::{Gathering, ReadyPiece};
 
-/// One who reads the pieces of a run: for a report they are joined, and for a check an index of the
-/// pairs follows each of them too.
+/// Reads the pieces of a run: for a report they are joined, and for a check an index of the pairs follows each of them
+/// too.
 pub(crate) trait Gatherer: Drop {
     /// The layout of the run.
     ghost layout: { Self → Parts };
@@ -20,7 +20,7 @@ pub(crate) trait Gatherer: Drop {
     /// All that is known.
     ghost known: { Self → View };
 
-    /// The gatherer once it has read one piece more.
+    /// The gatherer with one more piece. On an error it is lost.
     fn reading(self, piece: ReadyPiece) -> Result<Self, AllocError>
         ensures known { IfOk result (λ g. known g ≡ join (known self) (view_of (facts_of piece))) }
         ensures layout { IfOk result (λ g. layout g ≡ layout self) };
@@ -34,7 +34,7 @@ pub(crate) struct Gathered<'a> {
 }
 
 impl<'a> Gathered<'a> {
-    /// Nothing is known.
+    /// A gatherer that has read nothing. It knows nothing of the run of this layout.
     pub(crate) fn new(alloc: Global, layout: &'a Layout) -> Gathered<'a>
         ensures layout { result.layout.now ≡ layout.now }
         ensures know { result.know ≡ empty }

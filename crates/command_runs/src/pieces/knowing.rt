@@ -23,8 +23,8 @@ use run_files::Piece;
 use std::alloc::{AllocError, Global};
 use trace_know::{ReadyPiece, join_laws, view_laws};
 
-/// What the pieces tell together, of a run of this layout, by who gathers it. All of them are read before
-/// a piece is refused for its rank. The buffer is one for all texts.
+/// What the pieces of a run of this layout say together, collected by `gatherer`. All of them are read before a piece
+/// is refused for its rank. The buffer is one for all texts.
 pub(crate) fn know_of<G: Gatherer, O: Opener, V: Watcher>(
     run: &Run<'_, O>,
     pieces: &[Piece],

@@ -17,8 +17,8 @@ use crate::run::Run;
 use std::alloc::Global;
 use trace_know::Knowledge;
 
-/// All that the pieces tell that a manifest lists, of ranks of the layout. Packed files are read first; what texts tell is
-/// gathered while they are read, and joined to that once.
+/// All that the pieces tell that a manifest lists, of ranks of the layout. Packed files are read first; what texts tell
+/// is gathered while they are read, and joined to that once.
 pub(crate) fn known_of<O: Opener, V: Watcher>(
     run: &Run<'_, O>,
     watcher: &mut V,

@@ -4,7 +4,7 @@ ghost use Rattle.command_runs.specs.Packed.{OrderDoesNotShow, TwiceDoesNotShow};
 
 use trace_know::join_laws;
 
-/// The order of packed files doesn't show, nor whether one comes twice.
+/// The order of packed files makes no difference, nor does a file that comes twice.
 pub fn packed_laws()
     ensures swapped { OrderDoesNotShow }
     ensures again { TwiceDoesNotShow }

@@ -18,7 +18,7 @@ use std::alloc::{AllocError, Global};
 use trace_cluster::{Side, Workload};
 use trace_crew::{TextPiece, Worker};
 
-/// The texts of two nodes, of each by the worker who reads them, and what each is told besides.
+/// The texts of two nodes, for each by the worker that reads them, and what else each node knows.
 #[derive(Drop)]
 pub struct AllTexts {
     pub first: Workload,
@@ -78,7 +78,8 @@ pub fn worker_of(piece: &Piece) -> Worker
     }
 }
 
-/// The bytes of all pieces, which are read in the order of the pieces, beside what packed files tell.
+/// The bytes of all pieces, which are read in the order of the pieces, beside what packed files tell. [`RunFault`]
+/// names the first file that can't be read whole.
 pub fn texts_of_all<O: Opener>(
     alloc: Global,
     pieces: &[Piece],

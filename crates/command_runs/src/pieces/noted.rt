@@ -102,8 +102,8 @@ fn noted_piece<O: Opener, V: Watcher>(
     Ok(NotedPiece { whole, note })
 }
 
-/// What the pieces tell together, as [`know_of`](crate::pieces::knowing::know_of) gathers it, and what is noted of their texts,
-/// in the order of the pieces.
+/// What the pieces tell together, as [`know_of`](crate::pieces::knowing::know_of) gathers it, and what is noted of
+/// their texts, in the order of the pieces.
 pub(crate) fn noted_of<G: Gatherer, O: Opener, V: Watcher>(
     run: &Run<'_, O>,
     pieces: &[Piece],

@@ -48,6 +48,7 @@ fn events_of<O: Opener, V: Watcher>(
 }
 
 /// The events of a piece whole, ready to be joined, none of a text without calls. The buffer is one for all pieces.
+/// [`RunFault`] comes where the file can't be read, its text is refused or memory is.
 #[tactic(auto, using(crate::proofs::Told::piece_told, crate::proofs::Told::places_told))]
 pub fn ready_piece_of<O: Opener, V: Watcher>(
     alloc: Global,
@@ -71,7 +72,7 @@ pub fn ready_piece_of<O: Opener, V: Watcher>(
 }
 
 /// The segments of a piece, ready to be joined, none of a text without calls: its events, cut after each 65,536. The
-/// buffer is one for all pieces.
+/// buffer is one for all pieces. [`RunFault`] comes where the file can't be read, its text is refused or memory is.
 #[tactic(auto, using(crate::proofs::Told::facts_told, crate::proofs::Told::segments_told, crate::proofs::Told::places_told))]
 pub fn segments_of<O: Opener, V: Watcher>(
     alloc: Global,

@@ -16,7 +16,8 @@ use std::alloc::{AllocError, Global};
 use trace_know::ReadySegment;
 use trace_world::SharedSegment;
 
-/// The segments of each piece, in the order of the pieces, for all steps that post them.
+/// The segments of each piece, in the order of the pieces, for all steps that post them. [`RunFault`] is that of the
+/// first piece that is refused, or want of memory.
 pub fn segments_of_all<O: Opener, V: Watcher>(
     alloc: Global,
     pieces: &[Piece],

@@ -74,8 +74,8 @@ impl SoFar {
     }
 }
 
-/// What the packed files of each node tell together, of ranks of the layout. They are read in the order of the list, each frame
-/// by frame.
+/// What the packed files of each node tell together, of ranks of the layout. They are read in the order of the list,
+/// each frame by frame.
 pub(crate) fn shares_of<O: Opener>(
     run: &Run<'_, O>,
     packed: &[PackedPiece],

@@ -1,4 +1,4 @@
-//! A node as those know it who write what it tells.
+//! A node, as the functions see it that write its answer.
 
 ghost use Rattle.std.specs.Prelude.{◌≡◌, ◌↔◌, IsTrue, IfOk, IsErr};
 ghost use Rattle.trace_node.specs.Answer.{IsAnswer};
@@ -7,9 +7,8 @@ ghost use Rattle.trace_node.specs.Node.{Held};
 use trace_know::Knowledge;
 use trace_node::{Answer, Node, Stale};
 
-/// One who may have an answer. Whoever lets go of a node once its answer is written knows it by this
-/// trait alone: a function that owns nodes is proved over all that a node holds, at each of its ways
-/// out.
+/// Something that may have an answer. Functions that drop a node after they have written its answer know it by this
+/// trait alone: a function that owns a node is proved over all that the node holds, at each of its ways out.
 pub(crate) trait Answerer: Drop {
     /// What its node holds.
     ghost held: { Self → Held };

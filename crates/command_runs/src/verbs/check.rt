@@ -47,8 +47,8 @@ fn outcome_of(held: bool) -> Outcome
     }
 }
 
-/// The checker of the layout that holds all that the pieces tell. Its index follows the texts, and is made once more where
-/// there are packed files too.
+/// The checker of the layout that holds all that the pieces tell. Its index follows the texts, and is made once more
+/// where there are packed files too.
 fn checker_of<'a, O: Opener, V: Watcher>(
     run: &Run<'a, O>,
     watcher: &mut V,

@@ -32,10 +32,10 @@ use trace_crew::{PieceAt, PieceFault, Worker};
 use trace_node::{Answer, Node, NodeFault};
 use trace_wire::WireFault;
 
-/// Gives each piece of a manifest to the node and the worker that it names, lets both nodes exchange
-/// what they know over a socket of this machine, and writes the line and the report of each, and then
-/// whether both say the same. Nothing is written before the whole run is good. It waits for threads
-/// and for the socket.
+/// Gives each piece of a manifest to the node and the worker that it names, lets both nodes exchange what they know
+/// over a socket of this machine, and writes the line and the report of each, and then whether both say the same.
+/// Nothing is written before all else has succeeded. The call waits for threads and for the socket. [`RunFault`] says
+/// why a run was refused.
 pub fn cluster<
     R: Net<Listener = TcpListener, Stream = TcpStream> + Threads + Wait + Sync,
     O: Opener,
@@ -177,7 +177,7 @@ fn of_wire(fault: WireFault) -> RunFault
     }
 }
 
-/// Writes what two nodes with their answers say, and lets go of them.
+/// Writes what two nodes with their answers say, and drops them.
 fn write_nodes<N: Answerer, W: Write>(nodes: (N, N), out: &mut W) -> Result<(), Failed>
     requires one { (N.held nodes.0).is_stale ≡ false }
     requires other { (N.held nodes.1).is_stale ≡ false }

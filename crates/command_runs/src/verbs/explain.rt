@@ -100,7 +100,7 @@ fn noted_node<'a, O: Opener, V: Watcher>(
     Ok((node, notes))
 }
 
-/// What holds up the run by what a node knows, printed so, with what is noted of the texts. It lets go of the node.
+/// What holds up the run by what a node knows, printed so, with what is noted of the texts. It drops the node.
 fn diagnosed<N: Answerer, O: Opener>(
     printing: Printing,
     alloc: Global,

@@ -7,7 +7,8 @@ use run_files::PlannedStep;
 use std::alloc::{AllocError, Global};
 use trace_world::{SharedSegment, Step};
 
-/// The steps that a schedule stands for, over the segments of each piece, which each post shares.
+/// The steps that a schedule stands for, over the segments of each piece, which each post shares. Fails with
+/// `AllocError` when memory is refused.
 pub fn world_steps(
     alloc: Global,
     schedule: &[PlannedStep],

@@ -9,7 +9,7 @@ use crate::faults::fault::RunFault;
 use crate::run::Outcome;
 use mpi_model::{Failed, Write, write_all};
 
-/// Writes the whole piece; a failure doesn't tell how much of it was written.
+/// Writes the whole piece. A failure doesn't say how much of it was written.
 pub(crate) fn write_piece<W: Write>(piece: &[u8], out: &mut W) -> Result<(), Failed>
     ensures ok { OnOk result (Appends (W.written out.old) (W.written out.new) piece.now) }
     ensures err { OnErr result (AppendsFront (W.written out.old) (W.written out.new) piece.now) }

@@ -9,8 +9,8 @@ use trace_diagnosis::{Doubts, Foreign};
 const MOST_NAMED: usize = 10;
 
 impl<'a> Writer<'a> {
-    /// Who would be stuck under the other kind of sends. The kind also says how early a collective call may return (MPI 4.0, 3.4
-    /// and 6.1).
+    /// Writes which ranks would be stuck under the other kind of sends. The kind also says how early a collective call
+    /// may return (MPI 4.0, 3.4 and 6.1).
     pub fn put_other_sends(&mut self, ranks: &[u32]) {
         let diagnosis = self.source.diagnosis;
         let do_wait = matches!(diagnosis.sends, Sends::Wait);
@@ -40,8 +40,8 @@ impl<'a> Writer<'a> {
         }
     }
 
-    /// What stands before an element of a list on one line, by its place: nothing where the list is cut before it, of which it
-    /// says how many more there are.
+    /// What stands before an element of a list on one line, by its place: nothing where the list is cut before it, of
+    /// which it says how many more there are.
     fn put_next(&mut self, i: usize, count: usize) -> bool {
         if i == MOST_NAMED && !self.all {
             self.put(b" and ");

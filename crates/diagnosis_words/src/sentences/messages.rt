@@ -8,7 +8,8 @@ use trace_diagnosis::{LeftOver, NearMessage, NearReceive, Starving, Why};
 const MOST_NEAR: usize = 2;
 
 impl<'a> Writer<'a> {
-    /// A receive that a message misses by little: `rank 0 receives another tag: MPI_Irecv from rank 1, tag 9 (call 2, ..)`.
+    /// A receive that a message misses by little:
+    /// `rank 0 receives another tag: MPI_Irecv from rank 1, tag 9 (call 2, ..)`.
     fn put_near_receive(&mut self, near: &NearReceive) {
         let receive = &near.receive;
         self.put(b"; rank ");

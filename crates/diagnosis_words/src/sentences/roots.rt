@@ -32,8 +32,8 @@ fn is_late(root: &Root) -> bool {
     root.kind == RootKind::Ended && root.ranks.len() > root.holds_up.len()
 }
 
-/// The ranks of a root that are told below it: of a cycle one by one where there are few, and else those that stand alike
-/// together, where not all do.
+/// The ranks of a root that are told below it: of a cycle one by one where there are few, and else those that stand
+/// alike together, where not all do.
 fn members_of(source: Source<'_>, root: &Root, one_by_one: bool) -> Result<Vec<Group>, AllocError> {
     let ranks = root.ranks.as_slice();
     if root.kind == RootKind::Cycle {
@@ -107,7 +107,8 @@ impl<'a> Writer<'a> {
         }
     }
 
-    /// Who waits for a root: `; 3 ranks wait for it: ranks 0 to 1, 3, in MPI_Allreduce on MPI_COMM_WORLD (round 5, ..)`.
+    /// Who waits for a root:
+    /// `; 3 ranks wait for it: ranks 0 to 1, 3, in MPI_Allreduce on MPI_COMM_WORLD (round 5, ..)`.
     fn put_waiters(&mut self, root: &Root, own: usize) {
         let waiters = root.holds_up.as_slice();
         if waiters.is_empty() {
@@ -123,8 +124,8 @@ impl<'a> Writer<'a> {
         }
     }
 
-    /// What the ranks stand in that wait for a root: all of them, where they stand alike and wait for no request; else the
-    /// first that waits for the root itself.
+    /// What the ranks stand in that wait for a root: all of them, where they stand alike and wait for no request; else
+    /// the first that waits for the root itself.
     fn put_waiting_groups(&mut self, root: &Root, groups: &[Group]) {
         if let [group] = groups {
             if let Some(last) = self.source.last_call(group.first()) {
@@ -158,7 +159,8 @@ impl<'a> Writer<'a> {
         }
     }
 
-    /// The first rank that waits for a root itself, with its open requests: those first that name the ranks of the root.
+    /// The first rank that waits for a root itself, with its open requests: those first that name the ranks of the
+    /// root.
     fn put_first(&mut self, rank: u32, asked: &[u32]) {
         self.put(b"; first rank ");
         self.put_number(rank as u64);
@@ -422,8 +424,8 @@ impl<'a> Writer<'a> {
         self.put(b"\n");
     }
 
-    /// The ranks of a root on lines of their own, where so many lines of this sort were told before: how many are told then.
-    /// At most so many are told.
+    /// The ranks of a root on lines of their own, where so many lines of this sort were told before: how many are told
+    /// then. At most so many are told. On `AllocError`, when memory is refused, its contents are unspecified.
     pub fn put_root_members(
         &mut self,
         root: &Root,

@@ -8,7 +8,7 @@ use trace_diagnosis::{Beyond, LastCall, Polling, RootKind, Stand, Standing};
 const MOST_POLLED: usize = 2;
 
 impl<'a> Writer<'a> {
-    /// What ends what is known of a rank.
+    /// Writes what ends the readable calls of a rank.
     pub fn put_beyond(&mut self, beyond: Option<Beyond>) {
         match beyond {
             None => {}
@@ -63,7 +63,8 @@ impl<'a> Writer<'a> {
         self.put_site(rank, last.number);
     }
 
-    /// What ranks that stand alike stand in: `MPI_Barrier on MPI_COMM_WORLD (round 0, call 5, main.c:10 in main, from 0.052 s on)`.
+    /// What ranks that stand alike stand in:
+    /// `MPI_Barrier on MPI_COMM_WORLD (round 0, call 5, main.c:10 in main, from 0.052 s on)`.
     pub fn put_together(&mut self, rank: u32, last: &LastCall, group: &Group) {
         self.put_common(rank, last);
         self.put(b" (");
@@ -128,7 +129,8 @@ impl<'a> Writer<'a> {
         }
     }
 
-    /// What one rank does: `stands in MPI_Recv from rank 1, tag 3 (call 4, ..)`, `is behind ..`, `has ended ..`, `polls ..`.
+    /// What one rank does: `stands in MPI_Recv from rank 1, tag 3 (call 4, ..)`, `is behind ..`, `has ended ..`,
+    /// `polls ..`.
     pub fn put_doing(&mut self, standing: &Standing) {
         let rank = standing.rank;
         if let Some(polling) = self.source.polling(rank) {

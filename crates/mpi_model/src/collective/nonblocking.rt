@@ -30,6 +30,7 @@ impl Model for NonblockingCollective {
 }
 
 impl NonblockingCollective {
+    /// The call as one that doesn't block; `None` where its kind has no nonblocking function.
     pub(crate) fn new(call: Collective) -> Option<NonblockingCollective>
         ensures { SomeIff result (has_nonblocking call.kind ≡ true) call }
     {
@@ -54,12 +55,14 @@ impl NonblockingCollective {
         self.call
     }
 
+    /// Its kind, which its blocking function shares.
     pub fn kind(self) -> Kind
         ensures { result ≡ self.kind }
     {
         self.call.kind()
     }
 
+    /// The communicator, or the number of the file.
     pub fn comm(self) -> CommRef
         ensures { result ≡ self.comm }
     {

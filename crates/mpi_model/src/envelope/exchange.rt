@@ -28,8 +28,8 @@ impl Model for Both {
     ghost inverse = { λ e. record { send = e.send; receive = e.receive } };
 }
 
-/// The two envelopes of an `MPI_Sendrecv`, which name one communicator (MPI 4.0, 3.10). They stand in memory of their own,
-/// since no other call is as long.
+/// The two envelopes of an `MPI_Sendrecv`, which name one communicator (MPI 4.0, 3.10). They stand in memory of their
+/// own, since no other call is as long.
 #[derive(Debug, Drop)]
 pub struct Exchange {
     both: Box<Both>,
@@ -47,7 +47,7 @@ impl Model for Exchange {
 }
 
 impl Exchange {
-    /// The two envelopes, or none where they name two communicators.
+    /// The two envelopes; `None` if they name two communicators. Fails with `AllocError` when memory is refused.
     pub fn new(
         alloc: Global,
         send: SendEnvelope,
@@ -69,6 +69,7 @@ impl Exchange {
         }))
     }
 
+    /// An equal pair of envelopes in memory of its own. Fails with `AllocError` when memory is refused.
     pub fn try_clone(&self) -> Result<Exchange, AllocError>
         ensures { IfOk result (λ e. e ≡ self.now) }
     {
@@ -86,6 +87,7 @@ impl Exchange {
         let _receive = self.both.receive.unpack();
     }
 
+    /// The envelope of the message that is sent: its peer is the destination.
     pub fn send(&self) -> Envelope
         ensures value { result ≡ self.now.send }
         ensures range { IsSend result }
@@ -93,6 +95,7 @@ impl Exchange {
         self.both.send.unpack()
     }
 
+    /// The envelope of the message that is received: its peer is the source.
     pub fn receive(&self) -> Envelope
         ensures value { result ≡ self.now.receive }
         ensures range { IsReceive result }

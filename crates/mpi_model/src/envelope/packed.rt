@@ -43,6 +43,7 @@ impl Model for Packed {
 }
 
 impl Packed {
+    /// The envelope of a send or a receive, packed: no number in it is above 2^31 - 1.
     pub fn pack(envelope: Envelope) -> Packed
         requires { IsReceive envelope }
         ensures { result ≡ envelope }
@@ -56,6 +57,7 @@ impl Packed {
         }
     }
 
+    /// The envelope that was packed.
     pub fn unpack(self) -> Envelope
         ensures value { result ≡ self }
         ensures signed { IsSigned result.datatype }

@@ -28,7 +28,7 @@ impl Model for ProbeEnvelope {
 }
 
 impl ProbeEnvelope {
-    /// The envelope, or none where no probe can have it.
+    /// The envelope; `None` if a probe can't have it, because a value is out of its range.
     pub fn new(source: Peer, tag: Option<u32>, comm: CommRef) -> Option<ProbeEnvelope>
         ensures { SomeIff result (IsSource source × IsAskedTag tag × IsComm comm)
             (record { source = source; tag = tag; comm = comm }) }
@@ -47,6 +47,7 @@ impl ProbeEnvelope {
         let _comm = self.comm;
     }
 
+    /// The rank in the group from which it looks for a message, or any rank, or the null process.
     pub fn source(self) -> Peer
         ensures value { result ≡ self.source }
         ensures range { IsSource result }
@@ -54,7 +55,7 @@ impl ProbeEnvelope {
         self.source
     }
 
-    /// The tag, where one is named: none is any tag.
+    /// The tag; `None` is `MPI_ANY_TAG`.
     pub fn tag(self) -> Option<u32>
         ensures value { result ≡ self.tag }
         ensures range { IsAskedTag result }
@@ -62,6 +63,7 @@ impl ProbeEnvelope {
         self.tag
     }
 
+    /// The communicator in which it looks for a message.
     pub fn comm(self) -> CommRef
         ensures value { result ≡ self.comm }
         ensures range { IsComm result }

@@ -28,7 +28,7 @@ impl Model for ReceiveEnvelope {
 }
 
 impl ReceiveEnvelope {
-    /// The envelope, or none where no receive can have it.
+    /// The envelope; `None` if a receive can't have it, because a value is out of its range.
     pub fn new(inner: Envelope) -> Option<ReceiveEnvelope>
         ensures { SomeIff result (IsReceive inner) inner }
     {
@@ -48,6 +48,7 @@ impl ReceiveEnvelope {
         let _inner = self.inner.unpack();
     }
 
+    /// The envelope with its fields, as [`new`](Self::new) took it.
     pub fn envelope(self) -> Envelope
         ensures value { result ≡ self }
         ensures range { IsReceive result }

@@ -28,7 +28,7 @@ impl Model for SendEnvelope {
 }
 
 impl SendEnvelope {
-    /// The envelope, or none where no send can have it.
+    /// The envelope; `None` if a send can't have it: it names any source or any tag, or a value is out of its range.
     pub fn new(inner: Envelope) -> Option<SendEnvelope>
         ensures { SomeIff result (IsSend inner) inner }
     {
@@ -48,6 +48,7 @@ impl SendEnvelope {
         let _inner = self.inner.unpack();
     }
 
+    /// The envelope with its fields, as [`new`](Self::new) took it.
     pub fn envelope(self) -> Envelope
         ensures value { result ≡ self }
         ensures range { IsSend result }

@@ -9,12 +9,14 @@ use crate::object::Object;
 use std::alloc::{AllocError, Global};
 use std::marker::Model;
 
-/// A number over a stretch of a rank's calls: from call `first` on and before call `end`, or
-/// without end.
+/// The number by which a rank names an object in some of its calls: from call `first` on and before call `end`, or to
+/// the end if that is `None`. Calls count from 0.
 #[derive(Clone, Copy, Debug, PartialEq, Eq)]
 pub struct Stretch {
     pub number: u32,
+    /// The first call in which it does, from 0.
     pub first: u64,
+    /// The first call after these; `None` if there is none.
     pub end: Option<u64>,
 }
 
@@ -24,9 +26,10 @@ pub struct Stretch {
 pub struct Comm {
     pub id: u32,
     pub object: Object,
+    /// Ranks of the run, in the order of their ranks in the group.
     pub members: Vec<u32>,
-    /// For each member, by which number its own calls name the object, where they do. With no
-    /// entry at all each member names it by its id.
+    /// For each member the number by which its calls name the object; `None` if they don't. If the list is empty, each
+    /// member names the object by its id.
     pub numbers: Vec<Option<Stretch>>,
 }
 
@@ -39,6 +42,7 @@ impl Model for Comm {
 }
 
 impl Comm {
+    /// An object of an id, with the ranks of its group and the numbers that these give to it.
     pub(crate) fn new(
         id: u32,
         object: Object,
@@ -55,24 +59,28 @@ impl Comm {
         }
     }
 
+    /// Its number in the layout.
     pub(crate) fn id(&self) -> u32
         ensures { result ≡ self.now.comm }
     {
         self.id
     }
 
+    /// Whether it is a communicator, a window or a file.
     pub(crate) fn object(&self) -> Object
         ensures { result ≡ self.now.object }
     {
         self.object
     }
 
+    /// The ranks of its group, in the group's order.
     pub(crate) fn members(&self) -> &[u32]
         ensures { result.now ≡ self.now.members }
     {
         &self.members
     }
 
+    /// For each member the number by which its calls name the object. The list is empty if all name it by its id.
     pub(crate) fn numbers(&self) -> &[Option<Stretch>]
         ensures { result.now ≡ self.now.numbers }
     {
@@ -152,8 +160,7 @@ pub(crate) fn members_among(comms: &[Comm], comm: u32) -> Option<&[u32]>
     None
 }
 
-/// The place of the communicator of this id, found by halves; where it is absent, one behind
-/// the last.
+/// The place of the communicator of this id, found by binary search; one past the last if it is absent.
 fn place_in(comms: &[Comm], comm: u32) -> usize
     requires { IsStrictlyIncreasing (ids comms.now) }
     ensures { slice_get comms.now result ≡ one_of comms.now comm }
@@ -164,7 +171,7 @@ fn place_in(comms: &[Comm], comm: u32) -> usize
     }
 }
 
-/// The members of the communicator of this id, found by halves.
+/// The members of the communicator of this id, found by binary search.
 pub(crate) fn members_in(comms: &[Comm], comm: u32) -> Option<&[u32]>
     requires { IsStrictlyIncreasing (ids comms.now) }
     ensures { option_map (λ m. m.now) result ≡ members_of comms.now comm }
@@ -184,7 +191,7 @@ pub(crate) fn object_among(comms: &[Comm], comm: u32) -> Option<Object>
     None
 }
 
-/// The sort of the object of this id, found by halves.
+/// The sort of the object of this id, found by binary search.
 pub(crate) fn object_in(comms: &[Comm], comm: u32) -> Option<Object>
     requires { IsStrictlyIncreasing (ids comms.now) }
     ensures { result ≡ object_of_comm comms.now comm }

@@ -5,7 +5,8 @@ ghost use Rattle.std.specs.Prelude.{◌≡◌};
 use std::alloc::{AllocError, AllocFailed};
 use thiserror::Error;
 
-/// Why there is no layout. But for `Memory`, the first of the faults in the order of their numbers.
+/// Why there is no layout: the first of these faults in their order, except that `Memory` comes whenever memory is
+/// refused.
 #[derive(Clone, Copy, Debug, PartialEq, Eq, Error)]
 pub enum LayoutFault {
     /// No rank, or more than [`MOST_RANKS`](crate::MOST_RANKS).

@@ -216,7 +216,7 @@ pub(crate) fn has_clash(names: &[Name]) -> bool
     false
 }
 
-/// How many names are of lower ranks, found by halves.
+/// How many names are of lower ranks, found by binary search.
 fn start_of(names: &[Name], rank: u32) -> usize
     requires { AreOrdered names.now }
     ensures { IsStart names.now rank result }
@@ -252,7 +252,7 @@ fn range_of(names: &[Name], starts: &[usize], rank: u32) -> (usize, usize)
     }
 }
 
-/// How many of these names are not behind this place, found by halves.
+/// How many of these names are not behind this place, found by binary search.
 fn place_among(names: &[Name], rank: u32, number: u32, call: u64) -> usize
     requires { IsPartitionedBy (precedes rank number call) names.now }
     ensures bound { result ≤ length names.now }
@@ -261,7 +261,7 @@ fn place_among(names: &[Name], rank: u32, number: u32, call: u64) -> usize
     names.partition_point(|name| precedes(rank, number, call, *name))
 }
 
-/// How many names are not behind this place, found by halves among those of its rank.
+/// How many names are not behind this place, found by binary search among those of its rank.
 fn place_of(names: &[Name], starts: &[usize], rank: u32, number: u32, call: u64) -> usize
     requires order { AreOrdered names.now }
     requires starts { AreStarts names.now starts.now }
@@ -272,7 +272,7 @@ fn place_of(names: &[Name], starts: &[usize], rank: u32, number: u32, call: u64)
     low + place_among(&names[low..high], rank, number, call)
 }
 
-/// The object that a number names in a call of a rank, found by halves.
+/// The object that a number names in a call of a rank, found by binary search.
 pub(crate) fn numbered_in(
     names: &[Name],
     starts: &[usize],

@@ -17,6 +17,7 @@ pub(crate) struct Numbering {
 }
 
 impl Numbering {
+    /// The numbering of these names, in their order, with the place where those of each rank begin.
     pub(crate) fn of_names(
         alloc: Global,
         names: Vec<Name>,
@@ -31,7 +32,7 @@ impl Numbering {
         Ok(Numbering { names, starts })
     }
 
-    /// What a number names in a call of a rank, found by halves.
+    /// What a number names in a call of a rank, found by binary search.
     pub(crate) fn named(&self, rank: u32, call: u64, number: u32) -> Option<u32>
         requires order { AreOrdered self.now.names.items }
         requires starts { AreStarts self.now.names.items self.now.starts.items }
@@ -41,6 +42,7 @@ impl Numbering {
         numbered_in(&self.names, &self.starts, rank, call, number)
     }
 
+    /// An equal numbering in memory of its own.
     pub(crate) fn copied(&self, alloc: Global) -> Result<Numbering, AllocError>
         ensures names { IfOk result (λ n. n.names.items ≡ self.now.names.items) }
         ensures starts { IfOk result (λ n. n.starts.items ≡ self.now.starts.items) }

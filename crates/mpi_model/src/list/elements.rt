@@ -40,18 +40,21 @@ impl Model for Elements {
 }
 
 impl Elements {
+    /// The list of these elements. It takes no memory.
     pub fn from_vec(items: Vec<Element>) -> Self
         ensures { result ≡ items.items }
     {
         Elements { items }
     }
 
+    /// The elements, in the order of the call's `indices`.
     pub fn as_slice(&self) -> &[Element]
         ensures { result.now ≡ self.now }
     {
         &self.items
     }
 
+    /// An equal list in memory of its own. Fails with `AllocError` when memory is refused.
     pub fn try_clone(&self) -> Result<Self, AllocError>
         ensures { IfOk result (λ r. r ≡ self.now) }
     {

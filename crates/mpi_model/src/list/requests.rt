@@ -24,18 +24,21 @@ impl Model for Requests {
 }
 
 impl Requests {
+    /// The list of these numbers. It takes no memory.
     pub fn from_vec(items: Vec<i64>) -> Self
         ensures { result ≡ items.items }
     {
         Requests { items }
     }
 
+    /// The request numbers, in the order of the call; [`NULL_REQUEST`] stands for `MPI_REQUEST_NULL`.
     pub fn as_slice(&self) -> &[i64]
         ensures { result.now ≡ self.now }
     {
         &self.items
     }
 
+    /// An equal list in memory of its own. Fails with `AllocError` when memory is refused.
     pub fn try_clone(&self) -> Result<Self, AllocError>
         ensures { IfOk result (λ r. r ≡ self.now) }
     {

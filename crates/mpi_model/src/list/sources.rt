@@ -23,18 +23,21 @@ impl Model for Sources {
 }
 
 impl Sources {
+    /// The list of these entries. It takes no memory.
     pub fn from_vec(items: Vec<Told>) -> Self
         ensures { result ≡ items.items }
     {
         Sources { items }
     }
 
+    /// What the status of each request tells, in the order of the call's requests.
     pub fn as_slice(&self) -> &[Told]
         ensures { result.now ≡ self.now }
     {
         &self.items
     }
 
+    /// An equal list in memory of its own. Fails with `AllocError` when memory is refused.
     pub fn try_clone(&self) -> Result<Self, AllocError>
         ensures { IfOk result (λ r. r ≡ self.now) }
     {

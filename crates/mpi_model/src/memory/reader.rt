@@ -8,7 +8,7 @@ ghost use Rattle.mpi_model.specs.Side.{LeavesSide, untold};
 
 use crate::device::{Failed, Read};
 
-/// A reader of bytes in memory. It tells them.
+/// A reader of bytes in memory, which a contract knows.
 #[derive(Debug, Drop)]
 pub struct MemoryReader<'a> {
     bytes: &'a [u8],
@@ -21,7 +21,7 @@ pub struct MemoryReader<'a> {
 impl<'a> MemoryReader<'a> {
     ghost use Rattle.mpi_model.specs.Devices.{bytes_left, most_read, until_failure};
 
-    /// It gives all that a buffer takes, and never fails.
+    /// A reader that gives all that a buffer takes, and never fails.
     pub fn new(bytes: &'a [u8]) -> Self
         ensures bytes { bytes_left result ≡ bytes.now }
         ensures limits { (most_read result ≡ usize.MAX) × (until_failure result ≡ None) }
@@ -34,7 +34,7 @@ impl<'a> MemoryReader<'a> {
         }
     }
 
-    /// It gives at most this many bytes a call.
+    /// A reader that gives at most this many bytes a call.
     pub fn at_most(mut self, most: usize) -> Self
         requires { 0 < most }
         ensures bytes { bytes_left result ≡ bytes_left self.entry }
@@ -44,7 +44,7 @@ impl<'a> MemoryReader<'a> {
         self
     }
 
-    /// It gives this many bytes more, and fails in each call after them, at the end too.
+    /// A reader that gives this many bytes and fails in each call after them, at the end too.
     pub fn failing_after(mut self, count: usize) -> Self
         ensures bytes { bytes_left result ≡ bytes_left self.entry }
         ensures limits { (most_read result ≡ most_read self.entry) × (until_failure result ≡ Some count) }
@@ -89,7 +89,7 @@ impl<'a> Read for MemoryReader<'a> {
     }
 }
 
-/// A reader that gives one byte for ever. It doesn't tell its bytes.
+/// A reader that gives one byte for ever. No contract knows its bytes.
 #[derive(Debug, Drop)]
 pub struct EndlessReader {
     byte: u8,
@@ -98,6 +98,7 @@ pub struct EndlessReader {
 impl EndlessReader {
     ghost use Rattle.mpi_model.specs.Devices.{repeated};
 
+    /// A reader that gives this byte for ever.
     pub fn new(byte: u8) -> Self
         ensures { repeated result ≡ byte }
     {

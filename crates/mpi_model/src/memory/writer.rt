@@ -9,7 +9,7 @@ use crate::device::{Failed, Write};
 use std::alloc::Global;
 use std::io;
 
-/// A writer into memory. It tells what it took. It fails where no memory is left.
+/// A writer into memory. A contract knows what it took. It fails if memory is refused.
 #[derive(Debug, Drop)]
 pub struct MemoryWriter {
     bytes: Vec<u8>,
@@ -22,7 +22,7 @@ pub struct MemoryWriter {
 impl MemoryWriter {
     ghost use Rattle.mpi_model.specs.Devices.{bytes_written, most_written, room_of};
 
-    /// It takes all of a piece, and fails only for want of memory.
+    /// A writer that takes all of a piece, and fails only if memory is refused.
     pub fn new(alloc: Global) -> Self
         ensures bytes { bytes_written result ≡ [] }
         ensures limits { (most_written result ≡ usize.MAX) × (room_of result ≡ usize.MAX) }
@@ -35,7 +35,7 @@ impl MemoryWriter {
         }
     }
 
-    /// It takes at most this many bytes a call.
+    /// A writer that takes at most this many bytes a call.
     pub fn at_most(mut self, most: usize) -> Self
         requires { 0 < most }
         ensures bytes { bytes_written result ≡ bytes_written self }
@@ -45,7 +45,7 @@ impl MemoryWriter {
         self
     }
 
-    /// It takes this many bytes more, and refuses each byte after them.
+    /// A writer that takes this many bytes and refuses each byte after them.
     pub fn failing_after(mut self, count: usize) -> Self
         ensures bytes { bytes_written result ≡ bytes_written self }
         ensures limits { (most_written result ≡ most_written self) × (room_of result ≡ count) }

@@ -13,7 +13,7 @@ use crate::fault::InputFault;
 use serde_json::Value;
 use std::alloc::{AllocError, Global};
 
-/// The value of a text. No other function reads JSON.
+/// The JSON value of a text. No other function reads JSON.
 pub(crate) fn value_of(alloc: Global, text: &[u8]) -> Result<Value, InputFault>
     ensures ok { IfOk result (λ v. IsJson text.now (view v)) }
     ensures err { IfErr result (HasNoValue text.now) }
@@ -42,7 +42,7 @@ pub(crate) fn u32_at(value: &Value, name: &str) -> Option<u32>
     u32_of(value.get(name)?)
 }
 
-/// A number that may be absent.
+/// A number of a field that may be absent.
 pub(crate) fn usize_or(value: &Value, name: &str, absent: usize) -> Option<usize>
     ensures { result ≡ or_absent absent u64_in (get name.now (view value.now)) }
 {
@@ -52,7 +52,7 @@ pub(crate) fn usize_or(value: &Value, name: &str, absent: usize) -> Option<usize
     }
 }
 
-/// 0 or 1, and 0 where it is absent.
+/// The number 0 or 1 that a field holds; 0 if it is absent.
 pub(crate) fn bit_or_0(value: &Value, name: &str) -> Option<u8>
     ensures { result ≡ or_absent 0 bit_in (get name.now (view value.now)) }
 {

@@ -14,7 +14,8 @@ use serde_json::Value;
 use std::alloc::{AllocError, Global};
 use std::marker::Model;
 
-/// What a manifest lists: its texts, its packed files, and the number of each piece among the texts, none of a packed one.
+/// What a manifest lists: its texts, its packed files, and the number of each piece among the texts, none of a packed
+/// one.
 #[derive(Drop)]
 struct Listed {
     pieces: Vec<Piece>,

@@ -64,7 +64,7 @@ fn is_packed(step: &PlannedStep, numbers: &[Option<usize>]) -> bool
     }
 }
 
-/// The same steps, where each piece has its number among the texts.
+/// The same steps, with each piece by its number among the texts.
 pub(crate) fn renumbered_by(
     alloc: Global,
     steps: &[PlannedStep],

@@ -11,9 +11,9 @@ use json::Writer;
 use mpi_model::{Comm, Object, Sends};
 use std::alloc::{AllocError, Global};
 
-/// The file of a layout with these parts: its communicators in this order, each without the field `numbers` where it
-/// has none, and a plain number for a stretch that holds all calls. It asks nothing of the parts: whether they break a
-/// rule of layouts is for [`mpi_model::Layout`] to say.
+/// The bytes of the file of a layout with these parts: its communicators in this order, without the field `numbers` if
+/// there are none, and with a plain number for a stretch of all calls. The parts aren't checked: [`mpi_model::Layout`]
+/// says whether they break a rule. Fails with `AllocError` when memory is refused.
 pub fn layout_bytes(
     alloc: Global,
     ranks: u32,

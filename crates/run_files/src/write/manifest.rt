@@ -9,8 +9,8 @@ use crate::write::values::{line_of, put_number_field, put_string_field};
 use json::Writer;
 use std::alloc::{AllocError, Global};
 
-/// The file of a manifest with one piece for each of these files, which are the whole texts of the ranks 0, 1 and so
-/// on.
+/// The bytes of the file of a manifest with one piece for each of these files, which are the whole texts of the ranks
+/// 0, 1 and so on. Fails with `AllocError` when memory is refused.
 pub fn manifest_bytes(alloc: Global, files: &[String]) -> Result<Vec<u8>, AllocError>
     ensures { IfOk result (λ text. text.items ≡ line_of (manifest_value (map string_bytes files.now))) }
 {

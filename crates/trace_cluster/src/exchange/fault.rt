@@ -4,10 +4,10 @@ use thiserror::Error;
 use trace_node::NodeFault;
 use trace_wire::WireFault;
 
-/// Which step of an exchange was refused, and why. Its text is that of the cause alone.
+/// Which step of an exchange failed, and why. It is displayed as its cause alone.
 #[derive(Clone, Copy, Debug, PartialEq, Eq, Error)]
 pub enum ExchangeFault {
-    /// The node's frame was not written, or not whole.
+    /// The node's frame was not written, or only in part.
     #[error(transparent)]
     Write(WireFault),
     /// No frame was read, and the node is as it was.

@@ -15,8 +15,8 @@ use trace_wire::write_frame;
 
 /// Reads one frame and merges it, then writes the frame of all that the node knows by then.
 ///
-/// Where the read or the merge is refused, nothing is written; the node is as it was, or as a refused
-/// [`Node::merge`] leaves it. Where the write is refused, the node keeps what it merged.
+/// If the read or the merge fails, nothing is written; the node is as it was, or as a refused [`Node::merge`] leaves
+/// it. If the write fails, the node keeps what it merged.
 pub fn follow<'a, S: Read + Write>(
     alloc: Global,
     stream: &mut S,

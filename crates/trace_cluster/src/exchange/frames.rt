@@ -13,7 +13,7 @@ use std::alloc::Global;
 use trace_know::Knowledge;
 use trace_wire::{read_frame, write_frame};
 
-/// Reads one frame: what it tells.
+/// Reads one frame and returns what it says.
 pub(crate) fn heard_frame<R: Read>(
     alloc: Global,
     reader: &mut R,
@@ -28,8 +28,8 @@ pub(crate) fn heard_frame<R: Read>(
     }
 }
 
-/// Writes the frame of all that is known, then reads one frame: what [`lead`](crate::lead) does before
-/// it merges. Where the write is refused, nothing is read; where the read is refused, the frame is out.
+/// Writes the frame of all that is known, then reads one frame: what [`lead`](crate::lead) does before it merges. If
+/// the write fails, nothing is read; if the read fails, the frame has been sent.
 pub fn exchange_frames<S: Read + Write>(
     alloc: Global,
     stream: &mut S,

@@ -11,7 +11,7 @@ use std::alloc::Global;
 use trace_know::Knowledge;
 use trace_node::Node;
 
-/// Merges what a frame told: what both sides of an exchange do with it.
+/// Merges what a frame said, as both sides of an exchange do.
 pub(crate) fn merge_heard<'a>(node: &mut Node<'a>, heard: &Knowledge) -> Result<(), ExchangeFault>
     ensures { Merges node.old heard.now node.new result }
 {

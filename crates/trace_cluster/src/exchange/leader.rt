@@ -15,8 +15,8 @@ use trace_node::Node;
 
 /// Writes the frame of all that the node knows, then reads one frame and merges it.
 ///
-/// Where the write is refused, nothing is read and the node is as it was. Where the read is refused,
-/// the frame is out and the node is as it was; a refused merge leaves what [`Node::merge`] says.
+/// If the write fails, nothing is read and the node is as it was. If the read fails, the frame has been sent and the
+/// node is as it was. A refused merge leaves what [`Node::merge`] says.
 pub fn lead<'a, S: Read + Write>(
     alloc: Global,
     stream: &mut S,

@@ -39,7 +39,7 @@ impl<'a> Model for Shown<'a> {
 }
 
 impl<'a> Shown<'a> {
-    /// What is shown of the run of a layout of which nothing is known.
+    /// What is shown of the run of a layout of which nothing is known. Fails with `AllocError` when memory is refused.
     pub fn nothing(alloc: Global, layout: &'a Layout) -> Result<Shown<'a>, AllocError>
         ensures layout { IfOk result (λ s. s.layout ≡ layout.now) }
         ensures know { IfOk result (λ s. s.know ≡ empty) }
@@ -53,7 +53,8 @@ impl<'a> Shown<'a> {
         }
     }
 
-    /// What a node knows, with its answer, shared with the node until it knows more.
+    /// What a node knows, with its answer, shared with the node until it knows more. `Stale` comes exactly where the
+    /// node is stale, `Memory` where answer or knowledge has as many owners as can be counted.
     pub fn of(node: &Node<'a>) -> Result<Shown<'a>, PutFault>
         ensures ok { IfOk result (λ s. IsOf node.now s) }
         ensures stale { IsErrOf result PutFault.Stale ↔ IsTrue node.now.is_stale }
@@ -74,8 +75,7 @@ impl<'a> Shown<'a> {
         })
     }
 
-    /// Puts a node's layout, knowledge and answer in the place of what is shown. A refusal changes
-    /// nothing.
+    /// Replaces what is shown by a node's layout, knowledge and answer. If that is refused, nothing changes.
     pub fn put(&mut self, node: &Node<'a>) -> Result<(), PutFault>
         ensures ok { OnOk result (IsOf node.now self.new) }
         ensures stale { IsErrOf result PutFault.Stale ↔ IsTrue node.now.is_stale }
@@ -85,7 +85,8 @@ impl<'a> Shown<'a> {
         Ok(())
     }
 
-    /// The same once more: knowledge and answer are shared, and neither ever changes what another sees.
+    /// Another owner of the same knowledge and answer. No owner changes what another sees. Fails with `AllocError` when
+    /// one of them already has as many owners as can be counted.
     pub fn try_clone(&self) -> Result<Shown<'a>, AllocError>
         ensures { IfOk result (λ copy. copy ≡ self.now) }
     {

@@ -12,7 +12,9 @@ pub enum Worker {
 /// What is posted: a segment, or that its worker posts no more.
 #[derive(Debug, Drop)]
 pub enum Post {
+    /// The next segment of the worker's texts.
     Segment(ReadySegment),
+    /// The worker posts nothing more.
     End,
 }
 

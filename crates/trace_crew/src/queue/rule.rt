@@ -5,7 +5,7 @@ use crossbeam_channel::protocol::{Join, Lesson, Outcome, Protocol, Split};
 use crossbeam_channel::{Pass, RuledReceiver, RuledSender};
 use std::collections::LinkedList;
 
-/// How a worker stands with the owner. It exists in proofs alone, as [`Desk`] and [`SeatView`] do.
+/// How a worker stands with the owner. Like [`Desk`] and [`SeatView`], it exists in proofs only.
 pub enum WorkerStanding {
     /// It has no seat yet.
     Unmade,
@@ -61,8 +61,7 @@ impl Lesson<WorkerPost, SeatView> for Posts {
     ghost fact = { λ v items. Unit {0} };
 }
 
-/// The owner takes. Of each worker that was joined it learns that taken and held are all that the
-/// worker posted.
+/// The owner takes. For each worker that was joined it learns that taken and held are all that the worker posted.
 pub struct Takes;
 
 impl Outcome<WorkerPost, SeatView> for Takes {

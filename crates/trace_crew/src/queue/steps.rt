@@ -23,11 +23,11 @@ use std::sync::Wait;
 /// How many items a queue holds at most.
 pub const MOST_ITEMS: usize = 8;
 
-/// The owner has left: nothing is taken any more.
+/// The owner has left the queue, so nothing is taken any more.
 #[derive(Clone, Copy, Debug, PartialEq, Eq)]
 pub struct Closed;
 
-/// An empty queue, with the owner's seat. No worker is made yet.
+/// An empty queue, with the owner's seat. No worker is made yet. Fails with `AllocError` when memory is refused.
 pub fn open(alloc: Global) -> Result<(PostSender, PostReceiver, Seat), AllocError>
     ensures channel { IfOk result (λ r. receives_on r.1 ≡ sends_on r.0) }
     ensures places { IfOk result (λ r. ruled_capacity (sends_on r.0) ≡ MOST_ITEMS) }
@@ -80,7 +80,7 @@ pub fn post<R: Wait>(
     }
 }
 
-/// Takes the oldest item, once there is one. `None`: the queue was empty at a moment of the call.
+/// Takes the oldest item, and waits until there is one. `None` says that the queue was empty at a moment of the call.
 pub fn take<R: Wait>(rt: &R, queue: &PostReceiver, owner: &mut Seat) -> Option<WorkerPost>
     requires seat { IsSeatAt (receives_on queue.now) owner.old }
     requires owner { IsOwner (view owner.old) }
@@ -94,7 +94,7 @@ pub fn take<R: Wait>(rt: &R, queue: &PostReceiver, owner: &mut Seat) -> Option<W
     }
 }
 
-/// Takes the oldest item, if there is one. `None`: the queue was empty at a moment of the call.
+/// Takes the oldest item, if there is one. `None` says that the queue was empty at a moment of the call.
 pub fn take_now<R: Wait>(rt: &R, queue: &PostReceiver, owner: &mut Seat) -> Option<WorkerPost>
     requires seat { IsSeatAt (receives_on queue.now) owner.old }
     requires owner { IsOwner (view owner.old) }

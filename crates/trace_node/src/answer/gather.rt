@@ -35,7 +35,7 @@ fn prefixes_of(alloc: Global, layout: &Layout, know: &Knowledge) -> Result<Vec<u
     Ok(prefixes)
 }
 
-/// Of each rank, whether something is known past its readable prefix.
+/// For each rank, whether something is known at or past the end of its readable prefix.
 fn beyond_of(alloc: Global, layout: &Layout, know: &Knowledge) -> Result<Vec<bool>, AllocError>
     ensures { IfOk result (λ v. v.items ≡ beyond_of layout.now know.now) }
 {
@@ -46,7 +46,7 @@ fn beyond_of(alloc: Global, layout: &Layout, know: &Knowledge) -> Result<Vec<boo
     Ok(beyond)
 }
 
-/// Of each rank, whether its readable prefix ends at the Enter of an unread call.
+/// For each rank, whether its readable prefix ends at the Enter of an unread call.
 fn unread_of(alloc: Global, layout: &Layout, know: &Knowledge) -> Result<Vec<bool>, AllocError>
     ensures { IfOk result (λ v. v.items ≡ unread_of layout.now know.now) }
 {
@@ -254,8 +254,8 @@ fn waiting_of(
     })
 }
 
-/// What is told of the ranks of a layout: by how far they can be read, when each entered the call in which it waits, what
-/// they did, and their pairs.
+/// What is told of the ranks of a layout: by how far they can be read, when each entered the call in which it waits,
+/// what they did, and their pairs.
 pub(crate) fn answer_of(
     alloc: Global,
     layout: &Layout,

@@ -1,7 +1,7 @@
 //! The parts of an answer.
 //!
-//! A function that makes or copies an answer lets go, at each of its ways out, of all that it has made
-//! until then, and is proved over that: so an answer is made, copied and kept in parts.
+//! At each of its ways out, a function that makes or copies an answer drops all that it has made so far, and is proved
+//! over that. So an answer is made, copied and kept in parts.
 
 ghost use Rattle.std.specs.Prelude.{◌≡◌, IfOk, map};
 ghost use Rattle.std.specs.FinMap.{empty};
@@ -26,7 +26,7 @@ pub(crate) struct Reading {
 }
 
 impl Reading {
-    /// Of no rank.
+    /// The reading before the first rank. Takes no memory.
     pub(crate) fn none(alloc: Global) -> Reading
         ensures { IsReading 0 empty result }
     {
@@ -39,7 +39,7 @@ impl Reading {
         }
     }
 
-    /// The same with the next rank, of which this is known.
+    /// Adds the next rank, by what is known of it.
     pub(crate) fn with(
         self,
         alloc: Global,
@@ -57,6 +57,7 @@ impl Reading {
         Ok(more)
     }
 
+    /// The same in memory of its own. Fails with `AllocError` when memory is refused.
     pub(crate) fn try_clone(&self) -> Result<Reading, AllocError>
         ensures prefixes { IfOk result (λ copy. copy.prefixes.items ≡ self.now.prefixes.items) }
         ensures beyond { IfOk result (λ copy. copy.beyond.items ≡ self.now.beyond.items) }
@@ -80,6 +81,7 @@ pub(crate) struct Matching {
 }
 
 impl Matching {
+    /// The same in memory of its own. Fails with `AllocError` when memory is refused.
     pub(crate) fn try_clone(&self) -> Result<Matching, AllocError>
         ensures pairs { IfOk result (λ copy. copy.pairs.items ≡ self.now.pairs.items) }
         ensures postponed { IfOk result (λ copy. copy.postponed.items ≡ self.now.postponed.items) }
@@ -100,6 +102,8 @@ pub(crate) struct Waiting {
 }
 
 impl Waiting {
+    /// The same in memory of its own, the conditions of stuck ranks among it. Fails with `AllocError` when memory is
+    /// refused.
     pub(crate) fn try_clone(&self) -> Result<Waiting, AllocError>
         ensures rounds { IfOk result (λ copy. copy.rounds.items ≡ self.now.rounds.items) }
         ensures states { IfOk result (λ copy. copy.states.items ≡ self.now.states.items) }

@@ -318,9 +318,9 @@ impl Gathered {
     }
 }
 
-/// What a rank with these calls did, where none of them is an init or starts what one describes; nothing where the first
-/// of these is met. They are gone through once, from the last to the first, so that what the steps behind a post tell of
-/// its request is known when it is met. The lists are turned round at the end.
+/// What a rank with these calls did, where none of them is an init or starts what one describes; nothing where the
+/// first of these is met. They are gone through once, from the last to the first, so that what the steps behind a post
+/// tell of its request is known when it is met. The lists are turned round at the end.
 fn gather_without_inits(
     alloc: Global,
     layout: &Layout,
@@ -395,7 +395,7 @@ fn gather(
     }
 }
 
-/// What a rank of the layout did, by its readable events.
+/// The ops of a rank of the layout, by its readable events. Fails with `AllocError` when memory is refused.
 #[tactic(auto, unfolding(crate::specs::RankOps::ops_by))]
 pub fn ops_of(
     alloc: Global,
@@ -410,7 +410,7 @@ pub fn ops_of(
     gather(alloc, layout, rank, know.beyond(rank), &calls)
 }
 
-/// What all ranks of the layout did, each at its own place.
+/// The ops of all ranks of the layout, those of rank r at place r. Fails with `AllocError` when memory is refused.
 pub fn all_ops(alloc: Global, layout: &Layout, know: &Knowledge) -> Result<Vec<RankOps>, AllocError>
     ensures { IfOk result (λ all. all.items ≡ all_ops layout.now know.now) }
 {

@@ -6,10 +6,10 @@ use thiserror::Error;
 /// Why a frame of packed knowledge is refused.
 #[derive(Clone, Copy, Debug, PartialEq, Eq, Error)]
 pub enum PackedCause {
-    /// There is no frame, or none of it was read.
+    /// The input has no frame, or none of this frame was read.
     #[error(transparent)]
     Wire(WireFault),
-    /// It tells something of a rank that has no place.
+    /// It says something of a rank that the layout doesn't have.
     #[error("N1 Rank")]
     Rank,
 }
@@ -18,6 +18,7 @@ pub enum PackedCause {
 #[derive(Clone, Copy, Debug, PartialEq, Eq, Error)]
 #[error("{cause} at frame {frame}")]
 pub struct PackedFault {
+    /// The number of the frame, from 0.
     pub frame: u64,
     pub cause: PackedCause,
 }

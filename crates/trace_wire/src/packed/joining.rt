@@ -54,7 +54,7 @@ impl Model for Joining {
 }
 
 impl Joining {
-    /// Nothing came. Takes no memory.
+    /// A joining that got no part yet. Takes no memory.
     pub fn new(alloc: Global) -> Joining
         ensures { result ≡ empty }
     {
@@ -64,7 +64,7 @@ impl Joining {
         }
     }
 
-    /// The same once one part more has come.
+    /// Joins one more part. Fails with `AllocError` when memory is refused, and then all parts are lost.
     pub fn taking(self, know: Knowledge) -> Result<Joining, AllocError>
         ensures { IfOk result (λ all. all ≡ join self know) }
     {
@@ -81,7 +81,7 @@ impl Joining {
         })
     }
 
-    /// All that came, joined.
+    /// The join of all parts. Fails with `AllocError` when memory is refused.
     pub fn into_knowledge(self) -> Result<Knowledge, AllocError>
         ensures { IfOk result (λ know. know ≡ self) }
     {

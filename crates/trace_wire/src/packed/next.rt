@@ -47,7 +47,7 @@ fn behind_head<R: Read>(alloc: Global, reader: &mut R, head: &[u8]) -> Result<Kn
     Ok(knowledge)
 }
 
-/// Reads one frame more, or answers that no byte is left.
+/// Reads one more frame, or says that no byte is left.
 pub(crate) fn next_frame<R: Read>(
     alloc: Global,
     reader: &mut R,

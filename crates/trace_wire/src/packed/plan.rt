@@ -35,8 +35,8 @@ impl PartSize {
         }
     }
 
-    /// That of one cell more, of so many bytes, which goes on with the run before or begins one; none where that doesn't
-    /// go into a frame.
+    /// That of one cell more, of so many bytes, which goes on with the run before or begins one; none where that
+    /// doesn't go into a frame.
     fn with(self, goes_on: bool, known: u64) -> Option<PartSize>
         requires cells { self.cells ≤ self.len }
         requires runs { self.runs ≤ self.len }

@@ -55,10 +55,10 @@ fn next_of_ranks<R: Read>(
     Ok(Some(know))
 }
 
-/// Reads frames up to the end of the device, one by one, and joins what they tell: at least one, all of ranks below a
-/// number. The first that is refused ends it, and nothing is kept then.
+/// Reads frames up to the end of the device, one by one, and joins what they say. There has to be at least one, and all
+/// have to be of ranks below a number. At the first frame that is refused the reading ends, and nothing is kept.
 ///
-/// Frames may be of either version, in any order, and tell a place again.
+/// Frames may be of either version, in any order, and may repeat a place.
 pub fn read_frames<R: Read>(
     alloc: Global,
     reader: &mut R,

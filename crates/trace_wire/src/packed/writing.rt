@@ -38,11 +38,11 @@ fn send_part<W: Write>(part: PartSize, cells: &mut Walk<'_>, writer: &mut W) -> 
     out.direct.failed
 }
 
-/// Writes all that is known as frames of version 2, one after another: each of the longest front of what is left that
-/// goes into a frame, at least one. [`read_frames`](crate::read_frames) gives it back.
+/// Writes all that is known as frames of version 2, one after another, at least one. Each frame holds as much of what
+/// is left as fits into a frame. [`read_frames`](crate::read_frames) gives it back.
 ///
-/// A place that goes into no frame by itself is `W4 Length`, before any byte is written, and so comes `Memory`. Where the
-/// device fails a front of the frames was written, and nothing is tried after that.
+/// If one place alone doesn't fit into a frame, the fault is `W4 Length`. That and `Memory` come before any byte is
+/// written. If the device fails, a front of the frames was written, and nothing more is tried.
 pub fn write_frames<W: Write>(
     alloc: Global,
     knowledge: &Knowledge,

@@ -110,7 +110,7 @@ fn put_cell<'a>(
     }
 }
 
-/// So many cells, put into knowledge as they are read.
+/// Reads this many cells into knowledge.
 #[tactic(auto, using(crate::proofs::PartLoop::ends))]
 pub(crate) fn cells_of(
     alloc: Global,

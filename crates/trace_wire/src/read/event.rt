@@ -66,8 +66,8 @@ fn exchange_field(alloc: Global, bytes: &[u8]) -> Result<(Exchange, &[u8]), Fiel
     }
 }
 
-/// A collective call, with a root only where its kind has one, and the mark of `MPI_COMM_WORLD` only where its object is a
-/// communicator.
+/// A collective call, with a root only where its kind has one, and the mark of `MPI_COMM_WORLD` only where its object
+/// is a communicator.
 #[inline(always)]
 fn collective_field(bytes: &[u8]) -> Result<(Collective, &[u8]), FieldFault>
     ensures { Reads (λ x. (x.0, x.1.now)) result (gathering.read bytes.now) }

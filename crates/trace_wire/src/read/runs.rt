@@ -41,9 +41,9 @@ const LEAST_EVENT: usize = 18;
 /// How many times the cells that came may come at once more.
 const MORE_CELLS: usize = 8;
 
-/// Room for further cells of a run, where there is none: for some times as many as came, but for no more than are left or
-/// than the payload can hold. So a list is seldom moved, and memory follows the bytes that came. Without memory for so
-/// many there is room for none, and the list grows by itself.
+/// Room for further cells of a run, where there is none: for some times as many as came, but for no more than are left
+/// or than the payload can hold. So a list is seldom moved, and memory follows the bytes that came. Without memory for
+/// so many there is room for none, and the list grows by itself.
 #[inline(always)]
 fn make_room(cells: &mut Vec<Known>, left: u32, window: &Window)
     ensures { cells.new.items ≡ cells.old.items }
@@ -136,7 +136,7 @@ fn put_run<R: Read>(
     }
 }
 
-/// So many runs, put into knowledge as they are read.
+/// Reads this many runs into knowledge.
 pub(crate) fn runs_of<R: Read>(
     alloc: Global,
     reader: &mut R,

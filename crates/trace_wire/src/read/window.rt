@@ -1,4 +1,4 @@
-//! A payload, read through a window: the device is read piece by piece, and what was read of the payload is let go.
+//! A payload, read through a window: the device is read piece by piece, and bytes that were read are dropped.
 
 ghost use Rattle.std.specs.Prelude.{◌≡◌, ◌≤◌, ◌<◌, ◌+◌, ◌-◌, ◌^◌, [], length, drop, IfErr, OnOk};
 ghost use Rattle.mpi_model.specs.Side.{LeavesSide};
@@ -33,7 +33,7 @@ impl Model for Window {
     ghost invariant = { λ w. (w.start ≤ length w.bytes.items) × (length w.bytes.items + w.coming < w.start + 2 ^ 32) };
 }
 
-/// Lets go of the first bytes. Where there are none to let go of, none is moved: so a long cell isn't moved at each piece.
+/// Drops the first bytes. If there are none to drop, none is moved: so a long cell isn't moved at each piece.
 fn let_go(bytes: &mut Vec<u8>, count: usize)
     requires { count ≤ length bytes.old.items }
     ensures { bytes.new.items ≡ drop count bytes.old.items }
@@ -78,7 +78,7 @@ impl Window {
         self.coming
     }
 
-    /// Lets go of all that is held but the last bytes.
+    /// Drops all held bytes but the last ones.
     #[inline(always)]
     pub(crate) fn keep(&mut self, left: usize)
         requires { left ≤ length self.old.bytes }
