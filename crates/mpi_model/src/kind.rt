@@ -113,6 +113,8 @@ pub enum Kind {
     CommSetInfo,
     WinSetInfo,
     FileSetInfo,
+    // of an intercommunicator alone (MPI 4.0, 7.6.2)
+    IntercommMerge,
 }
 
 /// Which parameters may name the object of a call: the first of them that the call has does.
@@ -126,6 +128,8 @@ pub enum ObjectParameter {
     CommOld,
     /// `local_comm`
     LocalComm,
+    /// `intercomm`
+    Intercomm,
     /// `win`
     Win,
     /// `fh`, `file`
