@@ -42,6 +42,8 @@ pub enum MadeBy {
     GraphCreate,
     DistGraphCreate,
     DistGraphCreateAdjacent,
+    IntercommCreate,
+    IntercommMerge,
     /// Another function, from which nothing is derived.
     Other,
 }
@@ -58,7 +60,7 @@ pub enum Why {
     /// Its parent is left out.
     Parent,
     /// A member of the parent has no such call, or no call tells the ranks of one that is reordered, or the parent has no
-    /// known dimensions.
+    /// known dimensions; or no leader of another group answers a MPI_Intercomm_create.
     Untold,
     /// The members' calls differ where they have to agree, or a parameter is unknown.
     Unsound,
