@@ -97,7 +97,7 @@ IsMemberBy members rank handle = (place : ℕ) × (slice_get members place ≡ S
 
 -- the rank in the run of a rank of these members
 abbrev pub rank_of : List Member → ℕ → Option ℕ
-rank_of members rank = option_and_then (λ (m : Member). Some m.rank) (slice_get members rank)
+rank_of members rank = slice_get (map (λ (m : Member). m.rank) members) rank
 
 -- ---- joins
 

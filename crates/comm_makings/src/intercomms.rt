@@ -676,8 +676,8 @@ fn places_from(alloc: Global, first: u32, count: u32) -> Result<Vec<u32>, AllocE
     ensures { IfOk result (λ v. v.items ≡ range_with_len first count) }
 {
     let mut places = Vec::new(alloc);
-    for place in first..first + count {
-        places.push(place)?;
+    for i in 0..count {
+        places.push(first + i)?;
     }
     Ok(places)
 }

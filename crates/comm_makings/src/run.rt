@@ -230,6 +230,7 @@ pub(crate) fn made_of(
     ensures ranks { IfOk result (λ c. c.ranks.items ≡ map (λ m. m.rank) c.members.items) }
     ensures dims { IfOk result (λ c. list_in c.dims ≡ part.now.dims) }
     ensures order { IfOk result (λ c. IsMakingOrder part.now.places all.now c.order) }
+    ensures one_group { IfOk result (λ c. c.remote_size ≡ 0) }
 {
     let chosen = members_at(alloc, members, all, &part.places)?;
     Ok(Made {
@@ -819,7 +820,7 @@ impl Run {
     }
 
     /// Takes what calls of an intercommunicator's members make of it. Says whether more may be made so.
-    #[tactic(auto, using(crate::proofs::Right::right_left, crate::proofs::Sides::one_derives))]
+    #[tactic(auto, using(crate::proofs::Right::right_left, crate::proofs::Sides::inter_made, crate::proofs::Sides::comm_made))]
     fn take_of_inter(
         &mut self,
         alloc: Global,
@@ -1333,6 +1334,7 @@ fn begin(alloc: Global, calls: &RankCalls, view: &RankView, run: &mut Run) -> Re
     ensures values { OnOk result (NoneListedAt run.new.values.items) }
     ensures comms { run.new.comms ≡ run.old.comms }
     ensures next { run.new.next ≡ run.old.next }
+    ensures inters { run.new.inters ≡ run.old.inters }
 {
     run.standings
         .push(first_standings(alloc, &calls.calls, view)?)?;
@@ -1357,6 +1359,7 @@ fn begin_ranks(
     ensures values { OnOk result (NoneListedAt run.new.values.items) }
     ensures comms { OnOk result (run.new.comms ≡ run.old.comms) }
     ensures next { OnOk result (run.new.next ≡ run.old.next) }
+    ensures inters { OnOk result (run.new.inters ≡ run.old.inters) }
 {
     for (at, calls) in ranks.iter().enumerate() {
         if let Some(view) = views.get(at) {
@@ -1373,6 +1376,7 @@ fn begin_all(alloc: Global, ranks: &[RankCalls], views: &[RankView]) -> Result<R
     ensures values { IfOk result (λ run. NoneListedAt run.values.items) }
     ensures comms { IfOk result (λ run. run.comms.items ≡ []) }
     ensures next { IfOk result (λ run. run.next.items ≡ []) }
+    ensures inters { IfOk result (λ run. run.inters.items ≡ []) }
 {
     let mut run = Run {
         standings: Vec::new(alloc),
