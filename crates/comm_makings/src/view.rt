@@ -167,10 +167,10 @@ fn calls_on(
     for (at, call) in calls.iter().enumerate() {
         let counts = if joins { is_join(call) } else { is_merge(call) };
         if counts {
-            match comm_at(meant, at) {
-                None => return Ok(lists),
-                Some(handle) => add_to(&mut lists, handle, at)?,
-            }
+            let Some(handle) = comm_at(meant, at) else {
+                return Ok(lists);
+            };
+            add_to(&mut lists, handle, at)?;
         }
     }
     Ok(lists)

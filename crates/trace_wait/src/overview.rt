@@ -93,7 +93,7 @@ impl<'a> Overview<'a> {
         ensures { result.now ≡ peers_on self.now comm rank }
     {
         match self.layout.peers(comm, rank) {
-            Some(ranks) => ranks,
+            Some(peers) => peers,
             None => &[],
         }
     }
