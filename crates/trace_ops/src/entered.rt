@@ -31,8 +31,8 @@ impl Entered {
             && !self.inter
     }
 
-    /// Whether it is a collective communication within one group, blocking or not: only of these it is sure that each member's trace has
-    /// them, since all others are read where their parameters are there (MPI 4.0, 6).
+    /// Whether it is a collective communication within one group, blocking or not: only of these it is sure that each
+    /// member's trace has them, since all others are read where their parameters are there (MPI 4.0, 6).
     pub fn is_communication(&self) -> bool
         ensures { result ≡ is_communication self.now }
     {
