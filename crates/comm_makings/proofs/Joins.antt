@@ -1,5 +1,5 @@
 -- Intercommunicators that derive: of the offers of two leaders, of another one; and what is merged of one.
-use Rattle.std.proofs.Common.{◌≡◌, ℕ, ℤ, Bool, true, ◌++◌, List, [], ◌∷◌, Option, Some, None, IfSome, All, Vec, length, map, take, drop, is_some, option_and_then, ap, ◌∙◌, sym, subst, refl}
+use Rattle.std.proofs.Common.{◌≡◌, ℕ, ℤ, Bool, true, false, ◌++◌, List, [], ◌∷◌, Option, Some, None, IfSome, All, Vec, length, take, drop, is_some, option_and_then, ap, ◌∙◌, sym, subst, refl}
 use Rattle.std.specs.List.{slice_get}
 use Rattle.std.specs.declared.alloc.Global.{Global}
 use Rattle.std.proofs.lemmas.Option.{same_Some}
@@ -26,7 +26,6 @@ use Rattle.comm_makings.specs.declared.state.HandleState.{HandleState}
 use Rattle.comm_makings.specs.declared.state.HandleState.TheVariants as standings
 use Rattle.comm_makings.specs.declared.state.Made.{Made}
 use Rattle.comm_makings.specs.declared.state.Member.{Member}
-use Rattle.comm_makings.specs.declared.state.Order.{Order}
 use Rattle.comm_makings.specs.declared.view.RankView.{RankView}
 use Rattle.comm_makings.proofs.Derivations.{comm_is}
 use Rattle.comm_makings.proofs.Lists.{get_more}

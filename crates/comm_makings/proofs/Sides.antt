@@ -1,10 +1,10 @@
 -- Intercommunicators among what is derived: which handles name them, and of whose groups.
-use Rattle.std.proofs.Common.{◌≡◌, ◌⊎◌, ℕ, Bool, ◌++◌, List, [], ◌∷◌, Some, Vec, length, nat_le, ap, ◌∙◌, sym, subst, inl, inr, refl}
+use Rattle.std.proofs.Common.{◌≡◌, ℕ, Bool, ◌++◌, List, [], ◌∷◌, Some, Vec, length, nat_le, ap, ◌∙◌, sym, subst, inl, inr}
 use Rattle.std.specs.List.{slice_get}
 use Rattle.std.specs.declared.alloc.Global.{Global}
 use Rattle.comm_makings.specs.Intercomms.{first_size}
-use Rattle.comm_makings.specs.Offering.{Answer, IsOffer, MakesOfInter}
-use Rattle.comm_makings.specs.State.{AreInters, BindsInter, IsDerivedComm, IsDerivedInter, IsRight, IsSideOf, NamesInter, SetsStanding}
+use Rattle.comm_makings.specs.Offering.{Answer, MakesOfInter}
+use Rattle.comm_makings.specs.State.{BindsInter, IsDerivedComm, IsDerivedInter, IsRight, IsSideOf, NamesInter, SetsStanding}
 use Rattle.comm_makings.specs.declared.calls.RankCalls.{RankCalls}
 use Rattle.comm_makings.specs.declared.group_value.GroupValue.{GroupValue}
 use Rattle.comm_makings.specs.declared.intercomms.OfInter.{OfInter}

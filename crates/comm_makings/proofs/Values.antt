@@ -5,7 +5,7 @@ use Rattle.std.specs.declared.alloc.Global.{Global}
 use Rattle.std.proofs.lemmas.List.{length-map}
 use Rattle.std.proofs.lemmas.Option.{same_Some, slice_get-get_or}
 use Rattle.comm_makings.specs.Derives.{Derives, comm_meant, empty, group_call_at, is_of_comm, is_of_remote, of_comm, of_one, of_remote, of_side, of_two, ranks_in, ranks_of}
-use Rattle.comm_makings.specs.Groups.{IsGroupOf, IsListed, IsMadeOfOne, IsMadeOfTwo, IsValueOf, group_of_side, made_of_one, made_of_two, ranks_at, side_asked, side_ranks, unlisted}
+use Rattle.comm_makings.specs.Groups.{IsGroupOf, IsListed, IsMadeOfOne, IsMadeOfTwo, IsValueOf, group_of_side, made_of_one, made_of_two, ranks_at, side_ranks, unlisted}
 use Rattle.comm_makings.specs.Groups as found
 use Rattle.comm_makings.specs.Here.{meant_at}
 use Rattle.comm_makings.specs.Offers.{group_of}

@@ -5,9 +5,9 @@ ghost use Rattle.std.specs.List.{range_with_len, slice_get};
 ghost use Rattle.std.specs.Option.{option_and_then};
 ghost use Rattle.comm_groups.specs.Groups.{intersection_of};
 ghost use Rattle.comm_makings.specs.Derives.{comm_meant};
-ghost use Rattle.comm_makings.specs.Intercomms.{Answer, AreOwnCalls, IsMergedOf, IsOwnCall, SaysHigh, SaysLeader, first_size, high_at, high_of, inter_function, inter_here_at, is_copy, leaders_at, leaders_of, own_here};
+ghost use Rattle.comm_makings.specs.Intercomms.{AreOwnCalls, IsMergedOf, IsOwnCall, SaysHigh, SaysLeader, first_size, high_at, high_of, inter_function, inter_here_at, is_copy, leaders_at, leaders_of, own_here};
 ghost use Rattle.comm_makings.specs.Makes.{IsOneMaking};
-ghost use Rattle.comm_makings.specs.Offering.{IfJoined, IfMerged, IsInterOf, IsMadeByMerge, IsOffer, IsOffered, IsPlace, MakesOfInter, rank_at};
+ghost use Rattle.comm_makings.specs.Offering.{Answer, IfJoined, IfMerged, IsInterOf, IsMadeByMerge, IsOffer, IsOffered, IsPlace, MakesOfInter, rank_at};
 ghost use Rattle.comm_makings.specs.Parts.{IsOne};
 ghost use Rattle.comm_makings.specs.State.{AreDerived, AreMembers, IfParts, IsDerivedInter, standing_at};
 
@@ -537,7 +537,7 @@ fn calls_at(
 }
 
 /// What two offers make that answer each other: an intercommunicator of the two local groups.
-pub(crate) fn joined(
+pub(crate) fn join_groups(
     alloc: Global,
     ranks: &[RankCalls],
     views: &[RankView],

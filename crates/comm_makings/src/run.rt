@@ -18,8 +18,8 @@ use crate::group_value::{GroupValue, value_of};
 use crate::handle::{Gives, Meant};
 use crate::here::{Here, all_kth, call_at, gives_some, handle_of, meant_at};
 use crate::intercomms::{
-    Joined, OfInter, Offer, Offered, OpenOffers, answer, answered, copied_of, joined, merged_of,
-    most_merges, offer_at, own_calls,
+    Joined, OfInter, Offer, Offered, OpenOffers, answer, answered, copied_of, join_groups,
+    merged_of, most_merges, offer_at, own_calls,
 };
 use crate::outcomes::outcome_in;
 use crate::part::Part;
@@ -1013,7 +1013,7 @@ impl Run {
             (kept, offer)
         };
         let first = self.inters.len();
-        match joined(
+        match join_groups(
             alloc,
             ranks,
             views,

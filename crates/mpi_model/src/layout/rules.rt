@@ -3,7 +3,7 @@
 ghost use Rattle.std.specs.Prelude.{◌≡◌, ◌==◌, IfOk, false, option_map};
 ghost use Rattle.std.specs.List.{list_any};
 ghost use Rattle.std.specs.List.Sorted.{IsNonDecreasing, IsPermutation};
-ghost use Rattle.mpi_model.specs.Communicators.{has_double, ids, is_intercomm};
+ghost use Rattle.mpi_model.specs.Communicators.{has_double, ids};
 ghost use Rattle.mpi_model.specs.Layouts.{comm_fault, ends_before, has_double_member, has_stranger, has_world, has_wrong_numbers, is_some_communicator, is_backward, is_empty_group, is_some_whole, is_whole, number_fault};
 ghost use Rattle.mpi_model.specs.Names.{AreOrdered, has_clash, has_clash_of, names_of};
 ghost use Rattle.mpi_model.specs.declared.object.Object.TheVariants.{Communicator, Window, File};
