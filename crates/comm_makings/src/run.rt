@@ -98,7 +98,23 @@ pub(crate) fn leave(standings: &mut Vec<Vec<HandleState>>, all: &[Option<Here>],
     }
 }
 
-/// What these members make from the k-th making on is left out.
+/// The k-th calls of the members that make communicators of all of them, or that merge two groups.
+fn calls_kth(
+    alloc: Global,
+    ranks: &[RankCalls],
+    views: &[RankView],
+    members: &[Member],
+    k: usize,
+    merges: bool,
+) -> Result<Vec<Option<Here>>, AllocError> {
+    if merges {
+        own_calls(alloc, ranks, views, members, k, true)
+    } else {
+        all_kth(alloc, ranks, views, members, k)
+    }
+}
+
+/// What these members make from the k-th making on is left out, or what they merge.
 #[tactic(auto, using(crate::proofs::Standings::keeps_all, crate::proofs::Standings::keeps_more))]
 fn leave_behind(
     alloc: Global,
@@ -107,12 +123,13 @@ fn leave_behind(
     members: &[Member],
     k: usize,
     end: usize,
+    merges: bool,
     standings: &mut Vec<Vec<HandleState>>,
 ) -> Result<(), AllocError>
     ensures { KeepsDerived standings.old.items standings.new.items }
 {
     for later in k..end {
-        let all = all_kth(alloc, ranks, views, members, later)?;
+        let all = calls_kth(alloc, ranks, views, members, later, merges)?;
         leave(standings, &all, Why::Behind);
     }
     Ok(())
@@ -543,6 +560,7 @@ impl Run {
             &parent.members,
             k,
             end,
+            false,
             &mut self.standings,
         )
     }
@@ -895,9 +913,9 @@ impl Run {
         self.take_of_inter(alloc, ranks, views, &all, made)
     }
 
-    /// What the members make of an intercommunicator from the k-th making on is left out.
+    /// What the members make of an intercommunicator from the k-th making on is left out, or what they merge of it.
     #[tactic(auto, using(crate::proofs::Right::right_left))]
-    fn leave_copies(
+    fn leave_of_inter(
         &mut self,
         alloc: Global,
         ranks: &[RankCalls],
@@ -905,6 +923,7 @@ impl Run {
         at: usize,
         k: usize,
         end: usize,
+        merges: bool,
     ) -> Result<(), AllocError>
         requires { IsRun ranks.now views.now self.old }
         ensures { OnOk result (IsRun ranks.now views.now self.new) }
@@ -919,6 +938,7 @@ impl Run {
             &inter.members,
             k,
             end,
+            merges,
             &mut self.standings,
         )
     }
@@ -940,7 +960,7 @@ impl Run {
         };
         for k in 0..end {
             if !self.copy_kth(alloc, ranks, views, at, k)? {
-                return self.leave_copies(alloc, ranks, views, at, k + 1, end);
+                return self.leave_of_inter(alloc, ranks, views, at, k + 1, end, false);
             }
         }
         Ok(())
@@ -963,7 +983,7 @@ impl Run {
         };
         for k in 0..end {
             if !self.merge_kth(alloc, ranks, views, at, k)? {
-                return Ok(());
+                return self.leave_of_inter(alloc, ranks, views, at, k + 1, end, true);
             }
         }
         Ok(())
