@@ -1,0 +1,139 @@
+-- The first lines of a text, counted chunk by chunk.
+use Rattle.std.proofs.Common.{◌≡◌, ◌≢◌, ◌∙◌, ◌<◌, ◌≤◌, ◌+◌, ◌-◌, ◌^◌, ◌++◌, ◌==◌, ℕ, zero, suc, Bool, true, false, List, [], ◌∷◌, Option, Some, None, cond, eqb, ap, arith, length, min, refl, sym, subst}
+use Rattle.std.proofs.lemmas.List.{length-append}
+use Rattle.std.specs.Io.KnownBytes.{Consumes, IsAtEnd}
+use Rattle.dumpi_text.specs.Bytes.{line_feed}
+use Rattle.text_cuts.specs.Lines.{TellsLines, bytes_of_lines, missing_lines}
+use Rattle.text_cuts.specs.declared.lines.FirstLines.{FirstLines}
+
+-- no line more is counted
+pub no_bytes : (bytes : List ℕ) → bytes_of_lines 0 bytes ≡ 0
+no_bytes [] = refl
+no_bytes (byte ∷ bytes) = refl
+
+pub none_missing : (bytes : List ℕ) → missing_lines 0 bytes ≡ 0
+none_missing [] = refl
+none_missing (byte ∷ bytes) = refl
+
+-- one byte more
+pub byte_more : (missing byte : ℕ) (rest : List ℕ) → 0 < missing
+    → bytes_of_lines missing (byte ∷ rest) ≡ suc (cond (eqb byte line_feed) (bytes_of_lines (missing - 1) rest) (bytes_of_lines missing rest))
+byte_more zero byte rest some = absurd (omega (arith, some))
+byte_more (suc missing) byte rest some = refl
+
+pub missing_more : (missing byte : ℕ) (rest : List ℕ) → 0 < missing
+    → missing_lines missing (byte ∷ rest) ≡ cond (eqb byte line_feed) (missing_lines (missing - 1) rest) (missing_lines missing rest)
+missing_more zero byte rest some = absurd (omega (arith, some))
+missing_more (suc missing) byte rest some = refl
+
+-- the lines of two parts, one after the other
+bytes_by : (count : ℕ) (byte : ℕ) (front back : List ℕ) (is : Bool)
+    → ((n : ℕ) → bytes_of_lines n (front ++ back) ≡ bytes_of_lines n front + bytes_of_lines (missing_lines n front) back)
+    → suc (cond is (bytes_of_lines count (front ++ back)) (bytes_of_lines (suc count) (front ++ back)))
+    ≡ suc (cond is (bytes_of_lines count front) (bytes_of_lines (suc count) front)) + bytes_of_lines (cond is (missing_lines count front) (missing_lines (suc count) front)) back
+bytes_by count byte front back true both = ap suc (both count)
+bytes_by count byte front back false both = ap suc (both (suc count))
+
+pub bytes_both : (front back : List ℕ) (count : ℕ) → bytes_of_lines count (front ++ back) ≡ bytes_of_lines count front + bytes_of_lines (missing_lines count front) back
+bytes_both [] back count = refl
+bytes_both (byte ∷ front) back zero = sym (no_bytes back)
+bytes_both (byte ∷ front) back (suc count) = bytes_by count byte front back (eqb byte line_feed) (bytes_both front back)
+
+missing_by : (count : ℕ) (front back : List ℕ) (is : Bool)
+    → ((n : ℕ) → missing_lines n (front ++ back) ≡ missing_lines (missing_lines n front) back)
+    → cond is (missing_lines count (front ++ back)) (missing_lines (suc count) (front ++ back)) ≡ missing_lines (cond is (missing_lines count front) (missing_lines (suc count) front)) back
+missing_by count front back true both = both count
+missing_by count front back false both = both (suc count)
+
+pub missing_both : (front back : List ℕ) (count : ℕ) → missing_lines count (front ++ back) ≡ missing_lines (missing_lines count front) back
+missing_both [] back count = refl
+missing_both (byte ∷ front) back zero = sym (none_missing back)
+missing_both (byte ∷ front) back (suc count) = missing_by count front back (eqb byte line_feed) (missing_both front back)
+
+-- no more bytes than there are
+within_by : (count : ℕ) (bytes : List ℕ) (is : Bool) → ((n : ℕ) → bytes_of_lines n bytes ≤ length bytes)
+    → suc (cond is (bytes_of_lines count bytes) (bytes_of_lines (suc count) bytes)) ≤ suc (length bytes)
+within_by count bytes true within = let h = within count in omega (arith, h)
+within_by count bytes false within = let h = within (suc count) in omega (arith, h)
+
+pub lines_within : (bytes : List ℕ) (count : ℕ) → bytes_of_lines count bytes ≤ length bytes
+lines_within [] count = omega arith
+lines_within (byte ∷ bytes) zero = omega arith
+lines_within (byte ∷ bytes) (suc count) = within_by count bytes (eqb byte line_feed) (lines_within bytes)
+
+-- ---- a reader's text
+
+-- So many of the lines of a text are counted, of which this is left.
+pub record Counts (count : ℕ) (text rest : List ℕ) (bytes missing : ℕ) : Type 0 where
+  pub exact : ℕ
+  pub capped : bytes ≡ min exact (2 ^ 64 - 1)
+  pub all : exact + bytes_of_lines missing rest ≡ bytes_of_lines count text
+  pub missed : missing_lines missing rest ≡ missing_lines count text
+
+abbrev pub Counted : ℕ → Option (List ℕ) → Option (List ℕ) → ℕ → ℕ → Type 0
+Counted count None rest bytes missing = Unit {0}
+Counted count (Some text) None bytes missing = ⊥
+Counted count (Some text) (Some rest) bytes missing = Counts count text rest bytes missing
+
+pub counts_none : (count : ℕ) (text : Option (List ℕ)) → Counted count text text 0 count
+counts_none count None = tt
+counts_none count (Some text) = record { exact = 0; capped = omega arith; all = refl; missed = refl }
+
+capped_more : (exact bytes more most : ℕ) → bytes ≡ min exact most → min (bytes + more) most ≡ min (exact + more) most
+capped_more exact bytes more most is = grind (arith, is)
+
+pub counts_more : (count : ℕ) (text rest left : Option (List ℕ)) (chunk : List ℕ) (old new : FirstLines) → Counted count text rest old.bytes old.missing → Consumes rest left chunk
+    → new.bytes ≡ min (old.bytes + bytes_of_lines old.missing chunk) (2 ^ 64 - 1) → new.missing ≡ missing_lines old.missing chunk
+    → Counted count text left new.bytes new.missing
+counts_more count None rest left chunk old new counted consumes bytes missing = tt
+counts_more count (Some text) None left chunk old new counted consumes bytes missing = absurd counted
+counts_more count (Some text) (Some rest) None chunk old new counted consumes bytes missing = absurd consumes
+counts_more count (Some text) (Some rest) (Some left) chunk old new counted consumes bytes missing =
+    let more = bytes_of_lines old.missing chunk in
+    let split : bytes_of_lines old.missing rest ≡ more + bytes_of_lines new.missing left =
+    ap (bytes_of_lines old.missing) consumes ∙ bytes_both chunk left old.missing ∙ ap (λ (n : ℕ). more + bytes_of_lines n left) (sym missing) in
+    let whole = counted.all in
+    record {
+      exact = counted.exact + more;
+      capped = bytes ∙ capped_more counted.exact old.bytes more (2 ^ 64 - 1) counted.capped;
+      all = omega (arith, split, whole);
+      missed = ap (λ (n : ℕ). missing_lines n left) missing ∙ sym (missing_both chunk left old.missing) ∙ ap (missing_lines old.missing) (sym consumes) ∙ counted.missed;
+    }
+
+-- the text is over
+pub counts_end : (most count : ℕ) (text rest : Option (List ℕ)) (lines : FirstLines) → most < 2 ^ 64 → Counted count text rest lines.bytes lines.missing → IsAtEnd rest → TellsLines most count text lines
+counts_end most count None rest lines few counted end = tt
+counts_end most count (Some text) None lines few counted end = absurd counted
+counts_end most count (Some text) (Some rest) lines few counted end short =
+    let nothing : bytes_of_lines lines.missing rest ≡ 0 = ap (bytes_of_lines lines.missing) end in
+    let whole = counted.all in
+    let within = lines_within text count in
+    let capped = counted.capped in
+    (grind (arith, nothing, whole, within, capped, short, few), sym (ap (missing_lines lines.missing) end) ∙ counted.missed)
+
+-- all lines are there
+pub counts_all : (most count : ℕ) (text rest : Option (List ℕ)) (lines : FirstLines) → most < 2 ^ 64 → Counted count text rest lines.bytes lines.missing → lines.missing ≡ 0 → TellsLines most count text lines
+counts_all most count None rest lines few counted none = tt
+counts_all most count (Some text) None lines few counted none = absurd counted
+counts_all most count (Some text) (Some rest) lines few counted none short =
+    let nothing : bytes_of_lines lines.missing rest ≡ 0 = ap (λ (n : ℕ). bytes_of_lines n rest) none ∙ no_bytes rest in
+    let whole = counted.all in
+    let within = lines_within text count in
+    let capped = counted.capped in
+    (grind (arith, nothing, whole, within, capped, short, few), none ∙ sym (none_missing rest) ∙ sym (ap (λ (n : ℕ). missing_lines n rest) none) ∙ counted.missed)
+
+nothing_left : (missing : ℕ) (rest : List ℕ) → bytes_of_lines missing rest ≡ 0 → missing_lines missing rest ≡ missing
+nothing_left missing [] none = refl
+nothing_left zero (byte ∷ bytes) none = refl
+nothing_left (suc missing) (byte ∷ bytes) none = absurd (omega (arith, none))
+
+-- as many bytes were counted as there can be
+pub counts_most : (most count : ℕ) (text rest : Option (List ℕ)) (lines : FirstLines) → most < 2 ^ 64 → Counted count text rest lines.bytes lines.missing → most ≤ lines.bytes → TellsLines most count text lines
+counts_most most count None rest lines few counted full = tt
+counts_most most count (Some text) None lines few counted full = absurd counted
+counts_most most count (Some text) (Some rest) lines few counted full short =
+    let whole = counted.all in
+    let within = lines_within text count in
+    let capped = counted.capped in
+    let nothing : bytes_of_lines lines.missing rest ≡ 0 = grind (arith, whole, within, capped, short, few, full) in
+    (grind (arith, nothing, whole, within, capped, short, few), sym (nothing_left lines.missing rest nothing) ∙ counted.missed)
