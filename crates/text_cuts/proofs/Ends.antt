@@ -1,6 +1,9 @@
 -- A text that is read call by call, and how it ends.
-use Rattle.std.proofs.Common.{◌≡◌, ◌∙◌, ◌++◌, ℕ, Bool, List, [], ◌∷◌, Option, Some, None, refl}
+use Rattle.std.proofs.Common.{◌≡◌, ◌∙◌, ◌++◌, ℕ, Bool, List, [], ◌∷◌, Option, Some, None, refl, subst, sym}
 use Rattle.dumpi_text.specs.Call.{TextCall}
+use Rattle.dumpi_text.specs.Grammar.{Stopped}
+use Rattle.dumpi_text.specs.Reading.{MeansAll}
+use Rattle.dumpi_text.specs.declared.fault.LineFault.{LineFault}
 use Rattle.dumpi_calls.specs.Lacking.{lacking_line}
 use Rattle.dumpi_calls.specs.Walks.{RefusesNext}
 use Rattle.dumpi_text.specs.declared.fault.TextCause.TheVariants as causes
@@ -27,4 +30,4 @@ ends_refused dropped text calls (faults.At at_line causes.Read) line (Refused wh
 ends_refused dropped text calls (faults.At at_line (causes.Line broken)) line (Refused why at) refuses is =
     let same_line : at ≡ at_line = cc is in
     let same_fault : why ≡ broken = cc is in
-    rw same_fault (calls, refuses.1.0, refuses.1.1, same_line ∙ refuses.0 ∙ refuses.1.2)
+    (calls, refuses.1.0, subst (λ (f : LineFault). MeansAll text calls (Stopped f refuses.1.0)) (sym same_fault) refuses.1.1, same_line ∙ refuses.0 ∙ refuses.1.2)

@@ -5,14 +5,14 @@ use Rattle.text_cuts.specs.declared.lines.FirstLines.{FirstLines}
 
 -- how many bytes so many lines have from the front on, with their line feeds; all bytes, where there are fewer lines
 abbrev pub bytes_of_lines : ℕ → List ℕ → ℕ
-bytes_of_lines count [] = 0
-bytes_of_lines zero (byte ∷ bytes) = 0
+bytes_of_lines zero bytes = 0
+bytes_of_lines (suc count) [] = 0
 bytes_of_lines (suc count) (byte ∷ bytes) = suc (if byte == line_feed then bytes_of_lines count bytes else bytes_of_lines (suc count) bytes)
 
 -- how many of so many lines aren't there, each with its line feed
 abbrev pub missing_lines : ℕ → List ℕ → ℕ
-missing_lines count [] = count
-missing_lines zero (byte ∷ bytes) = 0
+missing_lines zero bytes = 0
+missing_lines (suc count) [] = suc count
 missing_lines (suc count) (byte ∷ bytes) = if byte == line_feed then missing_lines count bytes else missing_lines (suc count) bytes
 
 -- the first lines of a text

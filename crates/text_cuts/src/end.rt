@@ -62,6 +62,7 @@ fn end_at(fault: TextFault) -> Result<TextEnd, EndFault>
 
 /// How a text ends. Where a line of its last call was dropped, those parameters count as entry parameters too without
 /// which the call would be local. The text is read in one pass, and memory is in proportion to one call.
+#[tactic(auto, using(crate::proofs::Ends::lacking_more, crate::proofs::Ends::ends_refused))]
 pub fn end_of<R: Read>(alloc: Global, reader: R, dropped: bool) -> Result<TextEnd, EndFault>
     ensures ok { IfOk result (EndsSo dropped (R.left reader)) }
     ensures err { result ≡ Err EndFault.Failed → Fails R.failures }

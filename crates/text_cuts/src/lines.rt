@@ -19,6 +19,7 @@ pub struct FirstLines {
 }
 
 /// The first lines with those of a chunk that follows.
+#[tactic(auto, using(crate::proofs::Counting::byte_more, crate::proofs::Counting::missing_more))]
 fn counted(chunk: &[u8], before: FirstLines) -> FirstLines
     ensures bytes { result.bytes ≡ min (before.bytes + bytes_of_lines before.missing chunk.now) (2 ^ 64 - 1) }
     ensures missing { result.missing ≡ missing_lines before.missing chunk.now }
@@ -38,6 +39,7 @@ fn counted(chunk: &[u8], before: FirstLines) -> FirstLines
 }
 
 /// The first lines of a text, so many, of which at most so many bytes are read.
+#[tactic(auto, using(crate::proofs::Counting::counts_none, crate::proofs::Counting::counts_more, crate::proofs::Counting::counts_end, crate::proofs::Counting::counts_all, crate::proofs::Counting::counts_most))]
 pub fn lines_of<R: Read>(reader: R, count: u64, most: u64) -> Result<FirstLines, Failed>
     ensures ok { IfOk result (TellsLines most count (R.left reader)) }
     ensures err { OnErr result (Fails R.failures) }

@@ -205,6 +205,7 @@ fn push_cut(cut: Option<CutText>, cuts: &mut Vec<CutText>) -> Result<(), AllocEr
 }
 
 /// Those of these files that are texts which were cut off.
+#[tactic(auto, using(crate::proofs::Seen::cuts_none, crate::proofs::Seen::cuts_more))]
 pub(crate) fn cuts_of<O: Opener>(
     alloc: Global,
     names: &[&str],

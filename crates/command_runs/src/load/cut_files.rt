@@ -22,8 +22,8 @@ pub(crate) struct CutText {
 /// Opens the files of a run. Of the texts that were cut off it gives what is kept.
 #[derive(Drop)]
 pub(crate) struct CutFiles<'a, O: Opener> {
-    files: &'a O,
-    cuts: Vec<CutText>,
+    pub(crate) files: &'a O,
+    pub(crate) cuts: Vec<CutText>,
 }
 
 /// The text of this name among those that were cut off.

@@ -44,20 +44,20 @@ fn put_pieces(out: &mut Writer, texts: &[ListedText<'_>]) -> Result<(), AllocErr
 {
     out.begin_array()?;
     for (rank, text) in texts.iter().enumerate() {
-        put_piece(out, rank as u64, text.file, text.cut)?;
+        put_piece(out, rank as u64, text)?;
     }
     out.end_array()
 }
 
 /// Puts a piece: the text of a rank.
-fn put_piece(out: &mut Writer, rank: u64, file: &str, cut: bool) -> Result<(), AllocError>
-    ensures { Puts result out.old out.new (json_tokens (piece_value rank (file.now, cut))) }
+fn put_piece(out: &mut Writer, rank: u64, text: &ListedText<'_>) -> Result<(), AllocError>
+    ensures { Puts result out.old out.new (json_tokens (piece_value rank (text.now.file.now, text.now.cut))) }
 {
     out.begin_object()?;
     put_number_field(out, "rank", rank)?;
     put_number_field(out, "first", 0)?;
-    put_string_field(out, "file", file)?;
-    put_cut(out, cut)?;
+    put_string_field(out, "file", text.file)?;
+    put_cut(out, text.cut)?;
     out.end_object()
 }
 

@@ -1,5 +1,5 @@
 use Rattle.std.proofs.Common.{◌≡◌, ◌-◌}
-use Rattle.text_cuts.proofs.Lines.{Counted}
+use Rattle.text_cuts.proofs.Counting.{Counted}
 use Rattle.text_cuts.proofs.lines.lines_of.Given as goal
 
 abbrev pub invariant-loop-lines : goal.invariant-loop-lines

@@ -12,4 +12,4 @@ returns c =
     (then c.in_ok-put_number_field-2.ensures
     (then c.in_ok-put_string_field.ensures
     (then c.in_ok-put_cut.ensures (one c.end_object.ensures))))))
-    (ap (λ (ts : List Token). begin_object ∷ key (codes "rank") ∷ json_tokens (number_of c.args.rank) ++ (key (codes "first") ∷ json_tokens (number_of 0) ++ (key (codes "file") ∷ string c.args.file.now ∷ ts))) (sym (cut_last c.args.cut)))
+    (ap (λ (ts : List Token). begin_object ∷ key (codes "rank") ∷ json_tokens (number_of c.args.rank) ++ (key (codes "first") ∷ json_tokens (number_of 0) ++ (key (codes "file") ∷ string c.args.text.now.file.now ∷ ts))) (sym (cut_last c.args.text.now.cut)))

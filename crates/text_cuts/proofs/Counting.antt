@@ -6,14 +6,14 @@ use Rattle.dumpi_text.specs.Bytes.{line_feed}
 use Rattle.text_cuts.specs.Lines.{TellsLines, bytes_of_lines, missing_lines}
 use Rattle.text_cuts.specs.declared.lines.FirstLines.{FirstLines}
 
--- no line more is counted
-pub no_bytes : (bytes : List ℕ) → bytes_of_lines 0 bytes ≡ 0
-no_bytes [] = refl
-no_bytes (byte ∷ bytes) = refl
+-- the text is over
+pub no_bytes : (count : ℕ) → bytes_of_lines count [] ≡ 0
+no_bytes zero = refl
+no_bytes (suc count) = refl
 
-pub none_missing : (bytes : List ℕ) → missing_lines 0 bytes ≡ 0
-none_missing [] = refl
-none_missing (byte ∷ bytes) = refl
+pub all_missing : (count : ℕ) → missing_lines count [] ≡ count
+all_missing zero = refl
+all_missing (suc count) = refl
 
 -- one byte more
 pub byte_more : (missing byte : ℕ) (rest : List ℕ) → 0 < missing
@@ -35,8 +35,9 @@ bytes_by count byte front back true both = ap suc (both count)
 bytes_by count byte front back false both = ap suc (both (suc count))
 
 pub bytes_both : (front back : List ℕ) (count : ℕ) → bytes_of_lines count (front ++ back) ≡ bytes_of_lines count front + bytes_of_lines (missing_lines count front) back
-bytes_both [] back count = refl
-bytes_both (byte ∷ front) back zero = sym (no_bytes back)
+bytes_both [] back zero = refl
+bytes_both [] back (suc count) = refl
+bytes_both (byte ∷ front) back zero = refl
 bytes_both (byte ∷ front) back (suc count) = bytes_by count byte front back (eqb byte line_feed) (bytes_both front back)
 
 missing_by : (count : ℕ) (front back : List ℕ) (is : Bool)
@@ -46,8 +47,9 @@ missing_by count front back true both = both count
 missing_by count front back false both = both (suc count)
 
 pub missing_both : (front back : List ℕ) (count : ℕ) → missing_lines count (front ++ back) ≡ missing_lines (missing_lines count front) back
-missing_both [] back count = refl
-missing_both (byte ∷ front) back zero = sym (none_missing back)
+missing_both [] back zero = refl
+missing_both [] back (suc count) = refl
+missing_both (byte ∷ front) back zero = refl
 missing_both (byte ∷ front) back (suc count) = missing_by count front back (eqb byte line_feed) (missing_both front back)
 
 -- no more bytes than there are
@@ -57,8 +59,8 @@ within_by count bytes true within = let h = within count in omega (arith, h)
 within_by count bytes false within = let h = within (suc count) in omega (arith, h)
 
 pub lines_within : (bytes : List ℕ) (count : ℕ) → bytes_of_lines count bytes ≤ length bytes
-lines_within [] count = omega arith
-lines_within (byte ∷ bytes) zero = omega arith
+lines_within bytes zero = omega arith
+lines_within [] (suc count) = omega arith
 lines_within (byte ∷ bytes) (suc count) = within_by count bytes (eqb byte line_feed) (lines_within bytes)
 
 -- ---- a reader's text
@@ -105,26 +107,26 @@ pub counts_end : (most count : ℕ) (text rest : Option (List ℕ)) (lines : Fir
 counts_end most count None rest lines few counted end = tt
 counts_end most count (Some text) None lines few counted end = absurd counted
 counts_end most count (Some text) (Some rest) lines few counted end short =
-    let nothing : bytes_of_lines lines.missing rest ≡ 0 = ap (bytes_of_lines lines.missing) end in
+    let nothing : bytes_of_lines lines.missing rest ≡ 0 = ap (bytes_of_lines lines.missing) end ∙ no_bytes lines.missing in
     let whole = counted.all in
     let within = lines_within text count in
     let capped = counted.capped in
-    (grind (arith, nothing, whole, within, capped, short, few), sym (ap (missing_lines lines.missing) end) ∙ counted.missed)
+    (grind (arith, nothing, whole, within, capped, short, few), sym (ap (missing_lines lines.missing) end ∙ all_missing lines.missing) ∙ counted.missed)
 
 -- all lines are there
 pub counts_all : (most count : ℕ) (text rest : Option (List ℕ)) (lines : FirstLines) → most < 2 ^ 64 → Counted count text rest lines.bytes lines.missing → lines.missing ≡ 0 → TellsLines most count text lines
 counts_all most count None rest lines few counted none = tt
 counts_all most count (Some text) None lines few counted none = absurd counted
 counts_all most count (Some text) (Some rest) lines few counted none short =
-    let nothing : bytes_of_lines lines.missing rest ≡ 0 = ap (λ (n : ℕ). bytes_of_lines n rest) none ∙ no_bytes rest in
+    let nothing : bytes_of_lines lines.missing rest ≡ 0 = ap (λ (n : ℕ). bytes_of_lines n rest) none in
     let whole = counted.all in
     let within = lines_within text count in
     let capped = counted.capped in
-    (grind (arith, nothing, whole, within, capped, short, few), none ∙ sym (none_missing rest) ∙ sym (ap (λ (n : ℕ). missing_lines n rest) none) ∙ counted.missed)
+    (grind (arith, nothing, whole, within, capped, short, few), none ∙ sym (ap (λ (n : ℕ). missing_lines n rest) none) ∙ counted.missed)
 
 nothing_left : (missing : ℕ) (rest : List ℕ) → bytes_of_lines missing rest ≡ 0 → missing_lines missing rest ≡ missing
-nothing_left missing [] none = refl
-nothing_left zero (byte ∷ bytes) none = refl
+nothing_left zero bytes none = refl
+nothing_left (suc missing) [] none = refl
 nothing_left (suc missing) (byte ∷ bytes) none = absurd (omega (arith, none))
 
 -- as many bytes were counted as there can be
