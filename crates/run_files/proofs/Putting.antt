@@ -2,6 +2,7 @@
 use Rattle.std.proofs.Common.{◌≡◌, ◌<◌, ◌≤◌, ◌+◌, ℕ, zero, suc, Bool, true, false, List, [], ◌∷◌, ◌++◌, Result, Ok, Err, OnOk, take, get_or, length, map, refl, sym, subst, ◌∙◌, ap, arith, append_assoc, append-nil}
 use Rattle.std.specs.List.{flat_map}
 use Rattle.std.proofs.lemmas.Grind.{flat_map-append}
+use Rattle.std.proofs.lemmas.List.{get_or_default}
 use Rattle.json.specs.Json.{Json}
 use Rattle.json.specs.Token.{Token, begin_array, end_array, end_object}
 use Rattle.json.specs.Tree.{items_tokens, json_tokens, members_tokens}
@@ -112,6 +113,11 @@ piece_more f files i x file h is named =
     let here : 0 + i ≡ i = omega arith in
     ap (λ (ts : List Token). begin_array ∷ pieces_tokens 0 (take i (map f files)) ++ ts) (sym (ap (λ (k : ℕ). json_tokens (piece_value k (get_or (map f files) i ([], false)))) here ∙ ap (λ (t : List ℕ × Bool). json_tokens (piece_value i t)) same))
     ∙ ap (λ (ts : List Token). begin_array ∷ ts) (sym next)
+
+-- one piece more, whose text stands there
+pub piece_at : {X : Type 0} (f : X → List ℕ × Bool) (files : List X) (i : ℕ) (d : X) → i < length files
+    → begin_array ∷ pieces_tokens 0 (take i (map f files)) ++ json_tokens (piece_value i (f (get_or files i d))) ≡ begin_array ∷ pieces_tokens 0 (take (i + 1) (map f files))
+piece_at f files i d h = piece_more f files i (get_or files i d) (f (get_or files i d)) h (get_or_default files i d (get_or files i d) h) refl
 
 -- all pieces
 pub all_pieces : {X : Type 0} (f : X → List ℕ × Bool) (files : List X) (i : ℕ) → length files ≤ i → begin_array ∷ pieces_tokens 0 (take i (map f files)) ++ end_array ∷ [] ≡ begin_array ∷ items_tokens (pieces_from 0 (map f files))

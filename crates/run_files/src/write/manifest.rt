@@ -10,7 +10,7 @@ use json::Writer;
 use std::alloc::{AllocError, Global};
 
 /// A text that a manifest lists.
-#[derive(Clone, Copy, Debug)]
+#[derive(Debug, Drop)]
 pub struct ListedText<'a> {
     /// The name of its file.
     pub file: &'a str,
