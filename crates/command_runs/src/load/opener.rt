@@ -7,6 +7,7 @@ use crate::load::reason::Reason;
 use mpi_model::{Device, Read};
 use std::fs::Files;
 use std::io;
+use std::thread::{Threads, available_parallelism};
 
 /// Why a file gives no reader.
 #[derive(Clone, Copy, Debug, PartialEq, Eq)]
@@ -19,10 +20,13 @@ pub enum OpenFault {
 /// What opens the files of a run.
 ///
 /// It tells the bytes of its files, or it doesn't (a disk can't: other programs write to it). A file
-/// whose bytes it tells can be opened.
-pub trait Opener: Drop {
+/// whose bytes it tells can be opened. It opens files from any thread.
+pub trait Opener: Drop + Sync {
     /// A file that was opened.
-    type R: Read;
+    type R: Read + Send;
+
+    /// What starts the threads that read files.
+    type Handle: Threads + Sync;
 
     /// The bytes of the file of a name, where the opener tells them.
     ghost file: { Self → List ℕ → Option (List ℕ) } = { λ _ _. None };
@@ -44,6 +48,14 @@ pub trait Opener: Drop {
     fn reason(&self, _path: &str) -> Option<Reason> {
         None
     }
+
+    /// What starts the threads that read files.
+    fn handle(&self) -> &Self::Handle;
+
+    /// How many threads read files side by side, at least 1. Nothing that a run answers hangs on it.
+    fn threads(&self) -> usize {
+        1
+    }
 }
 
 /// The files of the system.
@@ -58,8 +70,13 @@ impl<'a, F: Files> Disk<'a, F> {
     }
 }
 
-impl<'a, F: Files> Opener for Disk<'a, F> {
+impl<'a, F: Files + Threads + Sync> Opener for Disk<'a, F>
+where
+    F::File: Send,
+{
     type R = Device<F::File>;
+
+    type Handle = F;
 
     fn open(&self, path: &str) -> Result<Device<F::File>, OpenFault> {
         match std::fs::open(self.rt, path) {
@@ -88,6 +105,18 @@ impl<'a, F: Files> Opener for Disk<'a, F> {
             },
             Ok(_) => None,
             Err(error) => reason_of(error.kind()),
+        }
+    }
+
+    fn handle(&self) -> &F {
+        self.rt
+    }
+
+    /// As many as there are processors for the program.
+    fn threads(&self) -> usize {
+        match available_parallelism(self.rt) {
+            Ok(count) => count.get(),
+            Err(_) => 1,
         }
     }
 }
