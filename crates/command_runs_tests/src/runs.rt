@@ -188,8 +188,19 @@ fn runs_over_files_that_tell_their_bytes(rt: HostRuntime) {
         let (name, replays, until_failure, room, want) = *row;
         let input = (LAYOUT, MANIFEST);
         for threads in [1, 3] {
-            let found = told(&rt, rt.alloc(), replays, input, threads, until_failure, room);
-            assert!(rt; found.as_str() == want, "{name} by {threads} threads: {found}");
+            let found = told(
+                &rt,
+                rt.alloc(),
+                replays,
+                input,
+                threads,
+                until_failure,
+                room,
+            );
+            assert!(rt;
+                found.as_str() == want,
+                "{name} by {threads} threads: {found}"
+            );
         }
     }
 }
@@ -204,7 +215,8 @@ static SIDE_BY_SIDE: [(usize, usize, &str); 6] = [
     (3, 80, "mpimatch: F1 Read at r0.txt:2\n"),
 ];
 
-const OF_THREE: &str = "mpimatch report 1\nranks 3 sends wait\nrank 0 prefix 2 free\nrank 1 prefix 2 free\nrank 2 prefix 2 free\nround 2:0 barrier complete\nstuck none\nforeign 0\nend\n";
+const OF_THREE: &str =
+    "mpimatch report 1\nranks 3 sends wait\nrank 0 prefix 2 free\nrank 1 prefix 2 free\nrank 2 prefix 2 free\nround 2:0 barrier complete\nstuck none\nforeign 0\nend\n";
 
 #[test]
 fn ranks_that_are_read_side_by_side(rt: HostRuntime) {

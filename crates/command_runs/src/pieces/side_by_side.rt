@@ -1,7 +1,7 @@
 //! Ranks that are read side by side: a thread for each, which reads all pieces of its rank. What they tell is told in the
 //! order of the ranks, and so is the first fault, so nothing shows which thread was done first.
 
-ghost use Rattle.std.specs.Prelude.{◌≡◌, ◌⊎◌, ◌+◌, ◌<◌, ◌≤◌, IfErr, IfOk, length, slice_range, take, vec_len};
+ghost use Rattle.std.specs.Prelude.{◌≡◌, ◌⊎◌, ◌+◌, ◌^◌, ◌<◌, ◌≤◌, IfErr, IfOk, length, slice_range, take, vec_len};
 ghost use Rattle.std.specs.List.{AllWithin, HoldsAt};
 ghost use Rattle.std.specs.List.Sorted.{IsNonDecreasingBy};
 ghost use Rattle.dumpi_text.specs.Failing.{Fails};
@@ -92,15 +92,17 @@ fn read_ranks<O: Opener>(
     requires from { from ≤ length pieces.now }
     requires before { AllWithin (λ p. p.rank < first) pieces.now 0 from }
     requires ranks { first + count ≤ run.now.layout.now.ranks }
+    requires fits { first + count < 2 ^ 32 }
     ensures len { IfOk result (λ reads. vec_len reads ≡ count) }
     ensures each { IfOk result (λ reads. AreRead (O.file run.now.files.now) (Fails O.R.failures) pieces.now first reads.items) }
 {
     let read = |i: usize| -> RankRead
         requires { IsNonDecreasingBy (λ p. p.rank) pieces.now × (from ≤ length pieces.now) × AllWithin (λ p. p.rank < first + i) pieces.now 0 from
-            × (first + i < run.now.layout.now.ranks) }
+            × (first + i < run.now.layout.now.ranks) × (first + i < 2 ^ 32) }
         ensures { IsRead (O.file run.entry.now.files.now) (Fails O.R.failures) pieces.entry.now (first + i) result }
     { read_rank(run, pieces, from, first + i as u32) };
-    thread::map_indices(run.files.handle(), run.alloc, count as usize, &read)
+    let reads = thread::map_indices(run.files.handle(), run.alloc, count as usize, &read)?;
+    Ok(reads)
 }
 
 /// What was told of the ranks before, and what was read of the next one.
@@ -117,7 +119,13 @@ fn with_read<O: Opener>(
     ensures failed { IfErr result (NamesFailed (Fails O.R.failures)) }
 {
     let _ = pieces;
-    match read.know {
+    let RankRead {
+        start: _,
+        end: _,
+        know,
+        tally: _tally,
+    } = read;
+    match know {
         Ok(know) => {
             let more = told.telling(run.alloc, run.layout, rank, &know)?;
             Ok(more)

@@ -1,4 +1,4 @@
-use Rattle.std.proofs.Common.{◌≡◌, ◌+◌, ◌≤◌, ◌×◌, ◌∷◌, ℕ, List, inl, inr, arith, length, refl, subst, sym, take, vec_len}
+use Rattle.std.proofs.Common.{◌≡◌, ◌+◌, ◌≤◌, ◌∷◌, ℕ, List, inl, inr, arith, length, refl, subst, sym, take, vec_len}
 use Rattle.std.specs.List.{AllWithin}
 use Rattle.std.specs.Vec.Iter.{into_iter_items, into_iter_len}
 use Rattle.dumpi_text.specs.Failing.{Fails}
