@@ -1,4 +1,5 @@
 pub mod AllTold
+pub mod Folders
 pub mod AnyOrder
 pub mod ByPlace
 pub mod ByRank

@@ -6,10 +6,11 @@ use Rattle.run_files.specs.declared.store.Which.{Which}
 use Rattle.run_files.specs.declared.store.Which.TheVariants as which
 use Rattle.command_runs.specs.FaultLines.{fault_text, layout_fault_name}
 use Rattle.command_runs.specs.FileNames.{shown_name}
+use Rattle.command_runs.specs.Sentences.{strange_text}
 use Rattle.text_layouts.specs.declared.fault.MadeFault.{MadeFault}
 use Rattle.text_layouts.specs.declared.fault.MadeFault.TheVariants as mades
 use Rattle.command_runs.specs.declared.faults.init_fault.InitFault.{InitFault}
-use Rattle.command_runs.specs.declared.faults.init_fault.InitFault.TheVariants.{Memory, Text, NoCall, Piped, TooMany, Twice, Made, There, SpareThere, NotWritten, Half, OneName, Write}
+use Rattle.command_runs.specs.declared.faults.init_fault.InitFault.TheVariants.{Memory, Text, NoCall, Piped, Strange, NoTexts, TooMany, Twice, Made, There, SpareThere, NotWritten, Half, OneName, Write}
 
 -- two ranks, and what is said of them
 abbrev pub ranks_text : ℕ → ℕ → List ℕ → List ℕ
@@ -34,6 +35,8 @@ init_fault_text Memory = codes "Memory"
 init_fault_text (Text fault) = fault_text fault
 init_fault_text (NoCall path) = shown_name (string_bytes path) ++ codes " has lines and no MPI call: it is no trace text"
 init_fault_text (Piped path) = shown_name (string_bytes path) ++ codes " is a pipe or a device, and each text is read twice: keep it in a file"
+init_fault_text (Strange path start) = shown_name (string_bytes path) ++ strange_text start
+init_fault_text (NoTexts path) = shown_name (string_bytes path) ++ codes " is a folder without a file whose name ends in .txt"
 init_fault_text TooMany = codes "more than 1024 texts, which are more ranks than a layout can have"
 init_fault_text (Twice path) = shown_name (string_bytes path) ++ codes " is of the rank of a text before it, by the digits of its name"
 init_fault_text (Made fault) = made_fault_text fault

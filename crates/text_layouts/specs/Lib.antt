@@ -3,3 +3,4 @@ pub mod Names
 pub mod Sizes
 pub mod Making
 pub mod Words
+pub mod Summary

@@ -6,7 +6,7 @@
 //! - [`size`]: whether the texts are those of all ranks, by the size of the world that they tell
 //! - [`made`]: from what all texts say to the input of a run; [`fault`]: why there is none
 //! - [`files`]: the bytes of its two files
-//! - [`words`]: what is said of them to a person
+//! - [`words`], [`summary`]: what is said of them to a person, and on one line
 #![tactic(auto)]
 
 mod fault;
@@ -14,6 +14,7 @@ mod files;
 mod made;
 mod order;
 mod size;
+mod summary;
 mod text;
 mod words;
 
@@ -21,5 +22,6 @@ pub use fault::MadeFault;
 pub use files::{layout_file_of, manifest_file_of};
 pub use made::{Made, made_of};
 pub use order::{Order, order_of};
+pub use summary::put_summary;
 pub use text::rank_calls_of;
 pub use words::{MOST_SHOWN, put_notes};

@@ -7,10 +7,12 @@ ghost use Rattle.command_runs.specs.FileNames.{shown_name};
 
 use crate::faults::fault::{RunFault, name_of_layout};
 use crate::faults::file_name::FileName;
+use crate::faults::sentences::strange_text;
 use run_files::{PutFault, Which};
 use std::alloc::{AllocError, AllocFailed, Global};
 use std::fmt;
 use text_layouts::MadeFault;
+use text_notes::Start;
 
 /// Why nothing is made of the texts of all ranks, or why what was made isn't kept. Each names its files as the words
 /// spell them.
@@ -23,6 +25,10 @@ pub(crate) enum InitFault {
     NoCall { path: String },
     /// The text is no file that can be read twice, as a verb reads each.
     Piped { path: String },
+    /// The file has to be unpacked or written anew before it can be read as a text.
+    Strange { path: String, start: Start },
+    /// The folder has no file whose name is that of a text.
+    NoTexts { path: String },
     /// More texts than a layout can have ranks.
     TooMany,
     /// A text before this one is of the same rank, by the digits at the ends of their names.
@@ -68,6 +74,8 @@ impl<T: Drop> From<AllocFailed<T>> for InitFault {
 const NO_CALL: &str = " has lines and no MPI call: it is no trace text";
 
 const PIPED: &str = " is a pipe or a device, and each text is read twice: keep it in a file";
+
+const NO_TEXTS: &str = " is a folder without a file whose name ends in .txt";
 
 const TWICE: &str = " is of the rank of a text before it, by the digits of its name";
 
@@ -144,6 +152,8 @@ impl fmt::Display for InitFault {
             InitFault::Text(fault) => write!(f, "{fault}"),
             InitFault::NoCall { path } => put_file(f, path, NO_CALL),
             InitFault::Piped { path } => put_file(f, path, PIPED),
+            InitFault::Strange { path, start } => put_file(f, path, strange_text(*start)),
+            InitFault::NoTexts { path } => put_file(f, path, NO_TEXTS),
             InitFault::TooMany => write!(
                 f,
                 "more than 1024 texts, which are more ranks than a layout can have"

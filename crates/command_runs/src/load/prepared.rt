@@ -22,6 +22,8 @@ pub(crate) struct Prepared {
     pub(crate) texts: Vec<String>,
     /// What was found in the texts, and what is left out, for a person.
     pub(crate) notes: Vec<u8>,
+    /// How many calls the texts have, up to 2^64 - 1.
+    pub(crate) calls: u64,
 }
 
 /// Copies of the words, as names that faults may keep.
@@ -97,5 +99,10 @@ pub(crate) fn prepare<O: Opener>(
         Err(fault) => return Err(InitFault::Made(fault)),
     };
     let notes = notes_of(alloc, by_digits, all.calls, &made)?;
-    Ok(Prepared { made, texts, notes })
+    Ok(Prepared {
+        made,
+        texts,
+        notes,
+        calls: all.calls,
+    })
 }

@@ -7,6 +7,9 @@ use run_files::Piece;
 /// Is told how the reading of a run's pieces comes along. Nothing that a run answers or writes
 /// hangs on it.
 pub trait Watcher: Drop {
+    /// Shows nothing from here on.
+    fn hush(&mut self);
+
     /// Whether what is told is shown to anyone. Else the files' lengths are not added up before they are read.
     fn is_watching(&self) -> bool;
 
@@ -29,6 +32,8 @@ pub trait Watcher: Drop {
 pub struct Unwatched;
 
 impl Watcher for Unwatched {
+    fn hush(&mut self) {}
+
     fn is_watching(&self) -> bool {
         false
     }
