@@ -26,8 +26,9 @@ use Rattle.command_runs.specs.Prepared.{IsMadeOf, RefusesWords}
 use Rattle.command_runs.specs.Verbs.{Ran, RanCluster}
 use Rattle.command_runs.specs.declared.ending.Ending.{Ending}
 use Rattle.command_runs.specs.declared.faults.fault.RunFault.{RunFault}
-use Rattle.command_runs.specs.declared.faults.fault.RunFault.TheVariants.{Memory, Outside, Write}
+use Rattle.command_runs.specs.declared.faults.fault.RunFault.TheVariants.{Memory, Write}
 use Rattle.command_runs.specs.declared.faults.init_fault.InitFault.{InitFault}
+use Rattle.command_runs.specs.declared.faults.init_fault.InitFault.TheVariants.{Outside as NoRank}
 use Rattle.command_runs.specs.declared.run.Outcome.{Outcome}
 use Rattle.command_runs.specs.declared.run.Outcome.TheVariants.{Good, CheckFailed}
 
@@ -67,7 +68,8 @@ abbrev pub EndsTexts : {W : Type 0} → Type 0 → (List ℕ → Option (List �
 EndsTexts fails file verb texts written failures old new e = EndsUnmade file verb texts old new e
     ⊎ ((made : Made) × IsMadeOf file Wait texts made
     × (EndsRun fails file verb made.input.layout made.input.manifest written failures old new e
-    ⊎ (LacksRank (asked_rank verb) made.input.layout × EndsShowing (is_in_words verb) file Outside old new e)))
+    ⊎ (LacksRank (asked_rank verb) made.input.layout × (new ≡ old) × (e.status ≡ 1)
+    × IsInitShown file verb (NoRank made.input.layout.ranks) (string_bytes e.errors))))
 
 -- The first of these files that isn't empty begins as the text of a trace.
 abbrev pub BeginsWithText : (List ℕ → Option (List ℕ)) → List Text → Type 0

@@ -210,8 +210,9 @@ fn over_texts<R: Eprint, O: Opener, V: Watcher, W: Write>(
     };
     tell(rt, alloc, verbosity, &prepared)?;
     let input = &prepared.made.input;
-    if let Err(fault) = has_rank(verb.asked_rank(), &input.layout) {
-        return showing(alloc, is_in_words(verb), &fault, files);
+    if let Err(_outside) = has_rank(verb.asked_rank(), &input.layout) {
+        let ranks = input.layout.ranks();
+        return showing_init(alloc, verb, &InitFault::Outside { ranks }, files);
     }
     over_input(alloc, verb, input, files, watcher, out)
 }

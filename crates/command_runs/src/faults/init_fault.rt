@@ -2,7 +2,7 @@
 
 ghost use Rattle.std.specs.Prelude.{◌≡◌, ◌++◌, IfOk, codes, decimal, string_bytes};
 ghost use Rattle.std.specs.Fmt.{WritesOnOk};
-ghost use Rattle.command_runs.specs.InitFaults.{IsPutFault, init_fault_line_of, made_fault_text, name_of, ranks_text, size_text};
+ghost use Rattle.command_runs.specs.InitFaults.{IsPutFault, init_fault_line_of, made_fault_text, name_of, ranks_noun, ranks_text, size_text};
 ghost use Rattle.command_runs.specs.FileNames.{shown_name};
 
 use crate::faults::fault::{RunFault, name_of_layout};
@@ -43,6 +43,8 @@ pub(crate) enum InitFault {
     NotWritten { path: String },
     /// The file couldn't be written, and what was written of the other couldn't be taken away.
     Half { path: String },
+    /// A rank is asked for that isn't among so many.
+    Outside { ranks: u32 },
     /// The layout and the manifest have one name, or one that the other needs while it is written.
     OneName,
     /// The output couldn't be written.
@@ -88,7 +90,7 @@ const NOT_WRITTEN: &str = " can not be written";
 
 const HALF: &str = " can not be written, and a part of what was written is left";
 
-const NOT_EACH_TEXT: &str = " ranks of MPI_COMM_WORLD, and there is not one text for each";
+const NOT_EACH_TEXT: &str = " of MPI_COMM_WORLD, and there is not one text for each";
 
 const NOT_ONE_RUN: &str = " have two numbers for MPI_COMM_WORLD: their texts are not of one run";
 
@@ -121,6 +123,13 @@ fn put_made<W: fmt::Write>(f: &mut fmt::Formatter<W>, fault: &MadeFault) -> fmt:
     }
 }
 
+/// One rank, or several.
+fn ranks_noun(count: u32) -> &'static str
+    ensures { result.now ≡ ranks_noun count }
+{
+    if count == 1 { " rank" } else { " ranks" }
+}
+
 /// A rank, the size of the world that it tells, and what is said of it.
 fn put_size<W: fmt::Write>(
     f: &mut fmt::Formatter<W>,
@@ -130,7 +139,8 @@ fn put_size<W: fmt::Write>(
 ) -> fmt::Result
     ensures { WritesOnOk W.write_str_gives f.old result (size_text rank size text.now) f.new }
 {
-    write!(f, "rank {rank} tells {size}{text}")
+    let noun = ranks_noun(size);
+    write!(f, "rank {rank} tells {size}{noun}{text}")
 }
 
 /// A file's name and what is said of it.
@@ -165,6 +175,7 @@ impl fmt::Display for InitFault {
             InitFault::NotWritten { path } => put_file(f, path, NOT_WRITTEN),
             InitFault::Half { path } => put_file(f, path, HALF),
             InitFault::OneName => write!(f, "the layout and the manifest need names of their own"),
+            InitFault::Outside { .. } => write!(f, "N1 Rank"),
             InitFault::Write => write!(f, "R1 Write"),
         }
     }

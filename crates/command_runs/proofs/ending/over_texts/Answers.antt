@@ -1,11 +1,10 @@
-use Rattle.std.proofs.Common.{inl, inr, refl, string_bytes, subst}
+use Rattle.std.proofs.Common.{ℕ, inl, inr, refl, string_bytes, subst}
 use Rattle.std.proofs.lemmas.Result.{IfOk-weaker}
 use Rattle.command_line.specs.Program.{asked_rank}
-use Rattle.command_runs.specs.Advice.{IsShownIn}
+use Rattle.command_runs.specs.InitAdvice.{IsInitShown}
 use Rattle.command_runs.specs.Inputs.{HasRank, LacksRank}
-use Rattle.command_runs.specs.declared.faults.fault.RunFault.{RunFault}
-use Rattle.command_runs.specs.declared.faults.fault.RunFault.TheVariants.{Outside}
-use Rattle.command_runs.proofs.Endings.{if_both, shown_so}
+use Rattle.command_runs.specs.declared.faults.init_fault.InitFault.TheVariants.{Outside as NoRank}
+use Rattle.command_runs.proofs.Endings.{if_both}
 use Rattle.command_runs.proofs.ending.over_texts.Goals as goal
 
 pub returns-in-Err : goal.returns-in-Err
@@ -15,21 +14,13 @@ returns-in-Err g c =
 
 pub returns-in-Err-has_rank : goal.returns-in-Err-has_rank
 returns-in-Err-has_rank g c =
-    let file = g.O.Opener.file c.args.files.now in
     let made = c.in-Ok.prepared.made in
     let why = c.in-Err-has_rank.ensures.err in
     let lacks : LacksRank (asked_rank c.args.how.0) made.input.layout = rw c.asked_rank.ensures at why.1 in
-    if_both c.showing.result _ _ _
-    (λ e status shown. inr (
-      made,
-      c.in-Ok.ensures.made.0,
-      inr (
-        lacks,
-        shown_so file Outside c.args.out.now _ _ e c.is_in_words.ensures status
-            (subst (λ (f : RunFault). IsShownIn c.is_in_words.result file f (string_bytes e.errors)) why.0 shown),
-      ),
-    ))
-    c.showing.ensures.status c.showing.ensures.errors
+    let ranks = c.ranks-in-Err-has_rank.ensures in
+    if_both c.showing_init-in-Err-has_rank.result _ _ _
+    (λ e status shown. inr (made, c.in-Ok.ensures.made.0, inr (lacks, refl, status, subst (λ (n : ℕ). IsInitShown _ c.args.how.0 (NoRank n) (string_bytes e.errors)) ranks shown)))
+    c.showing_init-in-Err-has_rank.ensures.status c.showing_init-in-Err-has_rank.ensures.errors
 
 pub over_input-requires : goal.over_input-requires
 over_input-requires g c =
