@@ -7,7 +7,7 @@ use Rattle.command_runs.specs.declared.load.prepared.Prepared.{Prepared}
 
 -- what was found in the texts, on one line
 abbrev pub summary_of : Prepared → List ℕ
-summary_of p = summary_text (length p.texts.items) p.calls p.made.derived.comms.items (length p.made.derived.left_out.items)
+summary_of p = summary_text (length p.made.input.manifest.pieces) p.calls p.missing.items p.made.derived.comms.items (length p.made.derived.left_out.items)
 
 -- what is told of the texts: nothing, or what was found on one line, or all of it
 abbrev pub told_of : Verbosity → Prepared → List ℕ

@@ -3,5 +3,5 @@ pub mod Lines
 pub mod Orders
 pub mod Places
 pub mod Refused
-pub mod Texts
+pub mod Seats
 pub mod Told

@@ -1,5 +1,6 @@
 -- What is said of a layout that was made, on one line.
 use Rattle.std.specs.Prelude.{ℕ, ◌+◌, ◌==◌, Bool, true, false, List, [], ◌∷◌, ◌++◌, codes, decimal, nat_lt, if◌then◌else◌}
+use Rattle.text_layouts.specs.Seats.{missing_text}
 use Rattle.mpi_model.specs.Communicators.{Communicator}
 use Rattle.mpi_model.specs.declared.object.Object.{Object}
 use Rattle.mpi_model.specs.declared.object.Object.TheVariants.{Communicator as Comm, Window, File}
@@ -28,9 +29,9 @@ objects_text count one several = if nat_lt 0 count then codes ", " ++ counted_te
 abbrev pub left_count_text : ℕ → List ℕ
 left_count_text count = if nat_lt 0 count then codes "; " ++ decimal count ++ codes " left out (--verbose names them)" else []
 
--- `4 texts, 36 calls, 6 communicators, 1 window; 2 left out (--verbose names them)`
-abbrev pub summary_text : ℕ → ℕ → List Communicator → ℕ → List ℕ
-summary_text texts calls comms left_out = counted_text texts (codes " text, ") (codes " texts, ") ++ counted_text calls (codes " call, ") (codes " calls, ")
+-- `3 texts, 36 calls, 6 communicators, 1 window; no text of rank 1; 2 left out (--verbose names them)`
+abbrev pub summary_text : ℕ → ℕ → List ℕ → List Communicator → ℕ → List ℕ
+summary_text texts calls missing comms left_out = counted_text texts (codes " text, ") (codes " texts, ") ++ counted_text calls (codes " call, ") (codes " calls, ")
     ++ counted_text (sort_count Comm comms) (codes " communicator") (codes " communicators")
     ++ objects_text (sort_count Window comms) (codes " window") (codes " windows") ++ objects_text (sort_count File comms) (codes " file") (codes " files")
-    ++ left_count_text left_out ++ codes "\n"
+    ++ missing_text (codes "; ") missing [] ++ left_count_text left_out ++ codes "\n"

@@ -1,11 +1,13 @@
 //! What is said of a layout that was made, on one line.
 
-ghost use Rattle.std.specs.Prelude.{◌≡◌, length};
+ghost use Rattle.std.specs.Prelude.{◌≡◌, ◌++◌, codes, length};
+ghost use Rattle.call_words.specs.Ranges.{named_ranks_text};
 ghost use Rattle.call_words.specs.Texts.{Adds};
 ghost use Rattle.mpi_model.specs.declared.object.Object.TheVariants.{Communicator as Comm, File, Window};
+ghost use Rattle.text_layouts.specs.Seats.{missing_text};
 ghost use Rattle.text_layouts.specs.Summary.{counted_text, left_count_text, objects_text, same_sort, sort_count, summary_text};
 
-use call_words::Text;
+use call_words::{Text, put_named_ranks};
 use comm_makings::Derived;
 use mpi_model::{Comm, Object};
 
@@ -76,18 +78,39 @@ fn put_left_count(out: &mut Text, count: u64)
     }
 }
 
+/// `no text of ranks 1, 3`, between these words.
+fn put_these(out: &mut Text, front: &[u8], ranks: &[u32], end: &[u8])
+    ensures { Adds out.old out.new (front.now ++ codes "no text of " ++ named_ranks_text ranks.now ++ end.now) }
+{
+    out.put(front);
+    out.put(b"no text of ");
+    put_named_ranks(out, ranks);
+    out.put(end);
+}
+
+/// Of which ranks there is no text, between these words; nothing where each rank has one.
+pub fn put_missing(out: &mut Text, front: &[u8], ranks: &[u32], end: &[u8])
+    ensures { Adds out.old out.new (missing_text front.now ranks.now end.now) }
+{
+    if !ranks.is_empty() {
+        put_these(out, front, ranks, end);
+    }
+}
+
 /// What is said of a layout that was made of so many texts with so many calls, on one line: how many communicators, windows
-/// and files it has, and how many are left out.
-pub fn put_summary(out: &mut Text, texts: u64, calls: u64, derived: &Derived)
-    ensures { Adds out.old out.new (summary_text texts calls derived.now.comms.items (length derived.now.left_out.items)) }
+/// and files it has, which ranks have no text, and how many are left out.
+pub fn put_summary(out: &mut Text, texts: u64, calls: u64, missing: &[u32], derived: &Derived)
+    ensures { Adds out.old out.new (summary_text texts calls missing.now derived.now.comms.items (length derived.now.left_out.items)) }
 {
     let comms = derived.comms.as_slice();
     put_counted(out, texts, b" text, ", b" texts, ");
     put_counted(out, calls, b" call, ", b" calls, ");
-    let (made, windows, files) = counts_of(comms);
-    put_counted(out, made, b" communicator", b" communicators");
-    put_objects(out, windows, b" window", b" windows");
-    put_objects(out, files, b" file", b" files");
-    put_left_count(out, derived.left_out.len() as u64);
+    let counts = counts_of(comms);
+    put_counted(out, counts.0, b" communicator", b" communicators");
+    put_objects(out, counts.1, b" window", b" windows");
+    put_objects(out, counts.2, b" file", b" files");
+    put_missing(out, b"; ", missing, b"");
+    let left_out = derived.left_out.len() as u64;
+    put_left_count(out, left_out);
     out.put(b"\n");
 }

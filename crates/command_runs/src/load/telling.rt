@@ -15,8 +15,10 @@ fn summary_of(alloc: Global, prepared: &Prepared) -> Result<Vec<u8>, AllocError>
     ensures { IfOk result (λ text. text.items ≡ summary_of prepared.now) }
 {
     let mut out = Text::new(alloc);
-    let texts = prepared.texts.len() as u64;
-    put_summary(&mut out, texts, prepared.calls, &prepared.made.derived);
+    let manifest = &prepared.made.input.manifest;
+    let texts = manifest.pieces().len() as u64;
+    let derived = &prepared.made.derived;
+    put_summary(&mut out, texts, prepared.calls, &prepared.missing, derived);
     out.into_bytes()
 }
 
