@@ -51,8 +51,8 @@ pub struct Ending {
 /// help or the version was asked for, 1 for a refused input, with its fault line, and 2 for a
 /// mistake in the words.
 ///
-/// Where a verb takes a layout and a manifest or texts, its words are texts if the first file that isn't
-/// empty begins as one, and else a layout and a manifest if they are two, and else mistaken.
+/// Where a verb takes a layout and a manifest or texts, a folder stands for the texts in it. Then the words are texts if the
+/// first file that isn't empty begins as one, and else a layout and a manifest if they are two, and else mistaken.
 pub fn ending_of<
     R: Net<Listener = TcpListener, Stream = TcpStream> + Threads + Wait + Sync + Eprint,
     O: Opener,
