@@ -13,7 +13,7 @@ use Rattle.command_runs.specs.declared.faults.init_fault.InitFault.TheVariants a
 abbrev pub told_so : Option ℕ → Bool → Bool
 told_so spread by_digits = cond (is_some spread) true by_digits
 
-pub seated_so : (file : List ℕ → Option (List ℕ)) (words names : List (List ℕ)) (by_digits : Bool) (read : List RankCalls) (count : ℕ) (seats : List (Option (List ℕ)))
+abbrev pub seated_so : (file : List ℕ → Option (List ℕ)) (words names : List (List ℕ)) (by_digits : Bool) (read : List RankCalls) (count : ℕ) (seats : List (Option (List ℕ)))
     → IsByRank words by_digits names → AllSay file (in_order names) read count → seats ≡ seats_by (told_size read) names → AreSeated file words seats
 seated_so file words names by_digits read count seats by_rank say are =
     record { by_digits = by_digits; names = names; by_rank = by_rank; read = read; count = count; say = say; are = are }
