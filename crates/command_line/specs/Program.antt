@@ -23,7 +23,7 @@ use Rattle.command_line.specs.declared.Extent.TheVariants.{Cut, Whole}
 use Rattle.command_line.specs.declared.Verb.{Verb}
 use Rattle.command_line.specs.declared.Verbosity.{Verbosity}
 use Rattle.command_line.specs.declared.Verbosity.TheVariants.{Quiet, Brief, Verbose}
-use Rattle.command_line.specs.declared.Verb.TheVariants.{Explain, ExplainJson, ExplainRank, Graph, Report, ReportJson, Replay, Check, Pack}
+use Rattle.command_line.specs.declared.Verb.TheVariants.{Explain, ExplainJson, ExplainRank, Graph, Report, ReportJson, Replay, Check, CheckJson, Pack}
 
 -- the texts behind these references
 abbrev pub texts_of : List (Bor Text) → List Text
@@ -101,9 +101,13 @@ with_report app = with_subcommand app report_app.top
 abbrev pub with_pair : App → Text → App
 with_pair app name = with_subcommand app (pair_app name).top
 
--- the program with a verb over texts or a layout and a manifest
-abbrev pub with_files : App → Text → App
-with_files app name = with_subcommand app (files_app name).top
+-- `check`, over texts or a layout and a manifest, and whether as JSON
+abbrev pub check_app : App
+check_app = with_rule (files_app (codes "check")) json_rule
+
+-- the program with `check`
+abbrev pub with_check : App → App
+with_check app = with_subcommand app check_app.top
 
 -- an option for a value, which it has also without it
 abbrev pub option_rule : Text → Text → Rule
@@ -143,7 +147,7 @@ answering = with_report (with_graph (with_explain bare))
 
 -- all verbs of the program
 abbrev pub program : App
-program = with_init (with_pair (with_files (with_pair (with_pair answering (codes "replay")) (codes "cluster")) (codes "check")) (codes "pack"))
+program = with_init (with_pair (with_check (with_pair (with_pair answering (codes "replay")) (codes "cluster"))) (codes "pack"))
 
 -- the verb of a name
 abbrev pub verb_named : Text → Option Verb
@@ -207,6 +211,10 @@ verbosity_in rows = verbosity_of (first_of (codes "quiet") rows) (first_of (code
 abbrev pub report_in : Text → Verb
 report_in flag = if bytes_eq flag (codes "true") then ReportJson else Report
 
+-- a check, as JSON where the value of the flag says so
+abbrev pub check_in : Text → Verb
+check_in flag = if bytes_eq flag (codes "true") then CheckJson else Check
+
 -- the number that a text writes, where it is one of 32 bits
 abbrev pub rank_in : Text → Option ℕ
 rank_in text = if accepts false rank_parser text then Some (digits_value 10 (without_leading_plus text)) else None
@@ -229,6 +237,7 @@ in_form (Explain extent) json all (Some text) = explain_in text
 in_form (Explain extent) (Some json) (Some all) None = Some (told_in json all)
 in_form (Graph extent) json (Some all) rank = Some (Graph (extent_in all))
 in_form Report (Some flag) all rank = Some (report_in flag)
+in_form Check (Some flag) all rank = Some (check_in flag)
 in_form verb json all rank = Some verb
 
 -- the verb of this name, with its flags

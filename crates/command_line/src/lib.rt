@@ -12,7 +12,7 @@
 ghost use Rattle.std.specs.Prelude.{◌≡◌, [], IfErr, IfOk, OnOk, Some, codes, false, option_and_then, option_map};
 ghost use Rattle.clap.specs.Words.{app_of, fault_of, found_of, new_app, rows_of, rule_of, subcommand_of, subcommand_rows_of};
 ghost use Rattle.clap.specs.declared.builder.command.Command.TheViews.{out-Command};
-ghost use Rattle.command_line.specs.Program.{Refuses, all_rule, answering, bare, cluster_in, cluster_of, explain_app, extent_in, explain_in, file_rule, files_app, files_in, force_rule, form_in, graph_app, in_form, init_app, init_in, json_rule, layout_rule, wanted_of, wish_in, wish_of, manifest_rule, is_set, option_rule, pair_app, pair_in, pair_of, program, quiet_rule, rank_rule, report_app, report_in, request_in, request_of, sends_named, sends_rule, several_rule, shown_status_of, text_of, told_in, verb_in, verbose_rule, verbosity_in, verbosity_of, texts_of, verb_named, with_explain as and_explain, with_files as and_files, with_graph as and_graph, with_init as and_init, with_pair as and_pair, with_report as and_report};
+ghost use Rattle.command_line.specs.Program.{Refuses, all_rule, answering, bare, check_app, check_in, cluster_in, cluster_of, explain_app, extent_in, explain_in, file_rule, files_app, files_in, force_rule, form_in, graph_app, in_form, init_app, init_in, json_rule, layout_rule, wanted_of, wish_in, wish_of, manifest_rule, is_set, option_rule, pair_app, pair_in, pair_of, program, quiet_rule, rank_rule, report_app, report_in, request_in, request_of, sends_named, sends_rule, several_rule, shown_status_of, text_of, told_in, verb_in, verbose_rule, verbosity_in, verbosity_of, texts_of, verb_named, with_check as and_check, with_explain as and_explain, with_graph as and_graph, with_init as and_init, with_pair as and_pair, with_report as and_report};
 
 use clap::builder::ValueParser;
 use clap::error::ErrorKind;
@@ -61,6 +61,8 @@ pub enum Verb {
     Replay,
     /// Make what a report tells once more straight from the rules, and print whether both agree.
     Check,
+    /// Print the same as one JSON object.
+    CheckJson,
     /// Write what the pieces tell together, as bytes that are a piece of another run.
     Pack,
 }
@@ -292,6 +294,7 @@ rank that is named stuck or is let go on is looked at by itself. It prints two l
                                after another; or invalid
 It ends with 0 where they say equal and valid, and else with 1. mpimatch is proved to print nothing else:
 unequal or invalid is a fault of the program, its proof or the machine.
+With --json it prints the four counts, and whether both lines hold, as one JSON object on one line.
 Each piece costs a pass over all calls of its rank, so a rank in many pieces takes long.
 "#;
 
@@ -381,13 +384,7 @@ fn program_command<'a>(alloc: Global) -> Result<Command<'a>, AllocError>
         "Reads the pieces of two nodes, which exchange what they know, and prints the report of each",
         CLUSTER_HELP,
     )?;
-    let command = with_files(
-        command,
-        alloc,
-        "check",
-        "Makes pairs and stuck ranks once more straight from the rules, and prints whether they agree",
-        CHECK_HELP,
-    )?;
+    let command = with_check(command, alloc)?;
     let command = with_pair(
         command,
         alloc,
@@ -429,20 +426,6 @@ fn with_pair<'a>(
     ensures { IfOk result (λ c. app_of c ≡ and_pair (app_of command.entry) name.now) }
 {
     let verb = pair_command(alloc, name, about, more)?;
-    command.subcommand(verb)
-}
-
-/// Adds a verb with its files.
-fn with_files<'a>(
-    command: Command<'a>,
-    alloc: Global,
-    name: &'a str,
-    about: &'a str,
-    more: &'a str,
-) -> Result<Command<'a>, AllocError>
-    ensures { IfOk result (λ c. app_of c ≡ and_files (app_of command.entry) name.now) }
-{
-    let verb = files_command(alloc, name, about, more)?;
     command.subcommand(verb)
 }
 
@@ -534,6 +517,28 @@ fn report_command<'a>(alloc: Global) -> Result<Command<'a>, AllocError>
         REPORT_HELP,
     )?;
     bare.arg(json_argument(alloc, "Prints the report as one JSON object"))
+}
+
+/// Adds `check`, which has a flag.
+fn with_check<'a>(command: Command<'a>, alloc: Global) -> Result<Command<'a>, AllocError>
+    ensures { IfOk result (λ c. app_of c ≡ and_check (app_of command.entry)) }
+{
+    let check = check_command(alloc)?;
+    command.subcommand(check)
+}
+
+/// `check`, over texts or a layout and a manifest, and whether as JSON.
+fn check_command<'a>(alloc: Global) -> Result<Command<'a>, AllocError>
+    ensures shape { IfOk result (λ c. app_of c ≡ check_app) }
+    ensures local { IfOk result (λ c. (out-Command c).has_globals ≡ false) }
+{
+    let bare = files_command(
+        alloc,
+        "check",
+        "Makes pairs and stuck ranks once more straight from the rules, and prints whether they agree",
+        CHECK_HELP,
+    )?;
+    bare.arg(json_argument(alloc, "Prints the same as one JSON object"))
 }
 
 /// The flag for JSON.
@@ -754,6 +759,7 @@ fn in_form(verb: Verb, json: Option<&str>, all: Option<&str>, rank: Option<&str>
         (Verb::Explain(_), Some(json), Some(all), None) => Some(told_in(json, all)),
         (Verb::Graph(_), _, Some(all), _) => Some(Verb::Graph(extent_in(all))),
         (Verb::Report, Some(text), _, _) => Some(report_in(text)),
+        (Verb::Check, Some(text), _, _) => Some(check_in(text)),
         (verb, _, _, _) => Some(verb),
     }
 }
@@ -798,6 +804,17 @@ fn report_in(flag: &str) -> Verb
         Verb::ReportJson
     } else {
         Verb::Report
+    }
+}
+
+/// A check, as JSON where the value of the flag says so.
+fn check_in(flag: &str) -> Verb
+    ensures { result ≡ check_in flag.now }
+{
+    if flag == "true" {
+        Verb::CheckJson
+    } else {
+        Verb::Check
     }
 }
 

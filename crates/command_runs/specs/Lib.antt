@@ -1,4 +1,5 @@
 pub mod Advice
+pub mod CheckJson
 pub mod Clusters
 pub mod Endings
 pub mod Explains

@@ -2,6 +2,7 @@
 
 pub(crate) mod answerer;
 pub(crate) mod check;
+pub(crate) mod check_json;
 pub(crate) mod cluster;
 pub(crate) mod explain;
 pub(crate) mod facts;
