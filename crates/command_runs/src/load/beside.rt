@@ -39,7 +39,10 @@ impl<'f, 'n, O: Opener> Beside<'f, 'n, O> {
             return Ok(None);
         }
         match self.manifest.rsplit_once('/') {
-            Some((folder, _)) => Ok(Some(format!(in self.alloc; "{folder}/{path}")?)),
+            Some((folder, _)) => {
+                let alloc = self.alloc;
+                Ok(Some(format!(in alloc; "{folder}/{path}")?))
+            }
             None => Ok(None),
         }
     }

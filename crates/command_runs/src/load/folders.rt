@@ -86,6 +86,7 @@ fn unread(alloc: Global, path: &str) -> Result<InitFault, AllocError>
 }
 
 /// The names for which a word stands: the texts in a folder of that name, else the word itself.
+#[tactic(auto, using(crate::proofs::Folders::stands_alone, crate::proofs::Folders::stands_for_texts, crate::proofs::Folders::no_folder))]
 fn stand_for<O: Opener>(alloc: Global, word: &str, files: &O) -> Result<Vec<String>, InitFault>
     ensures ok { IfOk result (λ names. StandFor (O.file files.now word.now) word.now names.items) }
     ensures err { IfErr result (IsNoFolder word.now (O.file files.now word.now)) }

@@ -44,6 +44,7 @@ fn without_length<O: Opener>(alloc: Global, path: &str, files: &O) -> Result<Ini
 
 /// Why a file is no text: it can't be read, or not twice, or it has to be unpacked or written anew. `None` where it is another
 /// file.
+#[tactic(auto, using(crate::proofs::Folders::untold_no_text))]
 fn no_text_at<O: Opener>(
     alloc: Global,
     path: &str,
