@@ -3,5 +3,5 @@ pub mod Lines
 pub mod Orders
 pub mod Places
 pub mod Refused
-pub mod Seats
+pub mod Seating
 pub mod Told

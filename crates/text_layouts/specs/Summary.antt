@@ -25,9 +25,13 @@ sort_count sort (g ∷ comms) = (if same_sort g.object sort then 1 else 0) + sor
 abbrev pub objects_text : ℕ → List ℕ → List ℕ → List ℕ
 objects_text count one several = if nat_lt 0 count then codes ", " ++ counted_text count one several else []
 
+-- `; 2 left out (--verbose names them)`
+abbrev pub some_left_text : ℕ → List ℕ
+some_left_text count = codes "; " ++ decimal count ++ codes " left out (--verbose names them)"
+
 -- how many are left out; nothing of none
 abbrev pub left_count_text : ℕ → List ℕ
-left_count_text count = if nat_lt 0 count then codes "; " ++ decimal count ++ codes " left out (--verbose names them)" else []
+left_count_text count = if nat_lt 0 count then some_left_text count else []
 
 -- `3 texts, 36 calls, 6 communicators, 1 window; no text of rank 1; 2 left out (--verbose names them)`
 abbrev pub summary_text : ℕ → ℕ → List ℕ → List Communicator → ℕ → List ℕ

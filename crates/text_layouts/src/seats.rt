@@ -120,13 +120,25 @@ fn name_at(
     ensures { IfOk result (λ seat. option_map string_bytes seat ≡ option_and_then (slice_get (map string_bytes names.now)) place) }
 {
     match place {
-        Some(place) if place < names.len() => Ok(Some(names[place].as_str().to_string(alloc)?)),
-        _ => Ok(None),
+        Some(place) => named(alloc, names, place),
+        None => Ok(None),
+    }
+}
+
+/// The text at a place among the names, where there are so many.
+#[tactic(auto, using(crate::proofs::Seating::name_there, crate::proofs::Seating::name_past))]
+fn named(alloc: Global, names: &[String], place: usize) -> Result<Option<String>, AllocError>
+    ensures { IfOk result (λ seat. option_map string_bytes seat ≡ slice_get (map string_bytes names.now) place) }
+{
+    if place < names.len() {
+        Ok(Some(names[place].as_str().to_string(alloc)?))
+    } else {
+        Ok(None)
     }
 }
 
 /// The text of each of so many ranks: the one whose name has the number of the rank.
-#[tactic(auto, using(crate::proofs::Seats::one_rank_more))]
+#[tactic(auto, using(crate::proofs::Seating::one_rank_more))]
 fn texts_upto(
     alloc: Global,
     numbers: &[Option<u64>],
@@ -193,7 +205,7 @@ fn add_text(
 }
 
 /// The whole texts of the ranks 0, 1 and so on, of those that have one.
-#[tactic(auto, using(crate::proofs::Seats::one_seat_more, crate::proofs::Seats::all_seats))]
+#[tactic(auto, using(crate::proofs::Seating::one_seat_more, crate::proofs::Seating::all_seats))]
 pub fn texts_of(alloc: Global, seats: &[Option<String>]) -> Result<Vec<Piece>, AllocError>
     requires { length seats.now < 2 ^ 32 }
     ensures { IfOk result (λ texts. texts.items ≡ texts_from 0 (kept seats.now)) }
@@ -221,7 +233,7 @@ fn add_missing(ranks: &mut Vec<u32>, rank: u32, seat: &Option<String>) -> Result
 }
 
 /// The ranks that have no text.
-#[tactic(auto, using(crate::proofs::Seats::one_seat_more, crate::proofs::Seats::all_seats))]
+#[tactic(auto, using(crate::proofs::Seating::one_seat_more, crate::proofs::Seating::all_seats))]
 pub fn missing_of(alloc: Global, seats: &[Option<String>]) -> Result<Vec<u32>, AllocError>
     requires { length seats.now < 2 ^ 32 }
     ensures { IfOk result (λ ranks. ranks.items ≡ missing_from 0 (kept seats.now)) }

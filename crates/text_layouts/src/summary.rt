@@ -3,9 +3,9 @@
 ghost use Rattle.std.specs.Prelude.{◌≡◌, ◌++◌, codes, length};
 ghost use Rattle.call_words.specs.Ranges.{named_ranks_text};
 ghost use Rattle.call_words.specs.Texts.{Adds};
-ghost use Rattle.mpi_model.specs.declared.object.Object.TheVariants.{Communicator as Comm, File, Window};
+ghost use Rattle.mpi_model.specs.declared.object.Object.TheVariants.{Communicator as a_communicator, File as a_file, Window as a_window};
 ghost use Rattle.text_layouts.specs.Seats.{missing_text};
-ghost use Rattle.text_layouts.specs.Summary.{counted_text, left_count_text, objects_text, same_sort, sort_count, summary_text};
+ghost use Rattle.text_layouts.specs.Summary.{counted_text, left_count_text, objects_text, same_sort, some_left_text, sort_count, summary_text};
 
 use call_words::{Text, put_named_ranks};
 use comm_makings::Derived;
@@ -49,7 +49,7 @@ fn sort_count(sort: Object, comms: &[Comm]) -> usize
 
 /// How many communicators, windows and files these are.
 fn counts_of(comms: &[Comm]) -> (u64, u64, u64)
-    ensures { (result.0 ≡ sort_count Comm comms.now) × (result.1 ≡ sort_count Window comms.now) × (result.2 ≡ sort_count File comms.now) }
+    ensures { (result.0 ≡ sort_count a_communicator comms.now) × (result.1 ≡ sort_count a_window comms.now) × (result.2 ≡ sort_count a_file comms.now) }
 {
     let made = sort_count(Object::Communicator, comms);
     let windows = sort_count(Object::Window, comms);
@@ -67,14 +67,21 @@ fn put_objects(out: &mut Text, count: u64, one: &[u8], several: &[u8])
     }
 }
 
+/// `; 2 left out (--verbose names them)`.
+fn put_some_left(out: &mut Text, count: u64)
+    ensures { Adds out.old out.new (some_left_text count) }
+{
+    out.put(b"; ");
+    out.put_number(count);
+    out.put(b" left out (--verbose names them)");
+}
+
 /// How many are left out; nothing of none.
 fn put_left_count(out: &mut Text, count: u64)
     ensures { Adds out.old out.new (left_count_text count) }
 {
     if count > 0 {
-        out.put(b"; ");
-        out.put_number(count);
-        out.put(b" left out (--verbose names them)");
+        put_some_left(out, count);
     }
 }
 

@@ -1,7 +1,7 @@
-use Rattle.std.proofs.Common.{◌≡◌, ◌∙◌, ◌<◌, ◌++◌, ◌∷◌, [], ℕ, List, Option, Some, Global, String, ap, ap₂, arith, length, length-append, map, option_map, string_bytes, sym, take}
+use Rattle.std.proofs.Common.{◌≡◌, ◌∙◌, ◌<◌, ◌+◌, ◌++◌, ◌∷◌, [], ℕ, List, Option, Some, Global, String, ap, ap₂, arith, length, length-append, map, option_map, string_bytes, sym, take}
 use Rattle.text_layouts.specs.Seats.{kept}
 use Rattle.text_layouts.proofs.Lines.{all_mapped, take_next}
-use Rattle.text_layouts.proofs.Seats.{map_push}
+use Rattle.text_layouts.proofs.Seating.{map_push}
 use Rattle.text_layouts.proofs.seats.in_order.Goals as goal
 
 pub loop-name-preserved : goal.loop-name-preserved

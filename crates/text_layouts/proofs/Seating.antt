@@ -1,6 +1,8 @@
 -- The text of each rank, one more.
-use Rattle.std.proofs.Common.{◌≡◌, ◌∙◌, ◌<◌, ◌≤◌, ◌+◌, ℕ, zero, suc, List, [], ◌∷◌, ◌++◌, Option, String, Global, append-nil, append_assoc, ap, ap₂, arith, get_or, length, map, option_map, refl, string_bytes, sym, take}
+use Rattle.std.proofs.Common.{◌≡◌, ◌∙◌, ◌<◌, ◌≤◌, ◌+◌, ℕ, zero, suc, List, [], ◌∷◌, ◌++◌, Option, Some, None, String, Global, append-nil, append_assoc, ap, ap₂, arith, get_or, length, map, option_map, refl, string_bytes, sym, take}
 use Rattle.std.proofs.lemmas.List.{take_all}
+use Rattle.std.proofs.lemmas.Option.{slice_get-get_or, slice_get-map}
+use Rattle.std.specs.List.{slice_get}
 use Rattle.text_layouts.specs.Seats.{from_rank, kept, text_of, texts_upto}
 use Rattle.text_layouts.proofs.Lines.{take_next}
 
@@ -42,3 +44,12 @@ one_rank_more numbers names seats seat rank before is =
     map_push (option_map string_bytes) seats seat
     ∙ ap₂ (λ (front : List (Option (List ℕ))) (last : Option (List ℕ)). front ++ last ∷ []) before is
     ∙ ap (texts_upto numbers names) next
+
+-- the name at a place
+pub name_there : (names : List (String Global)) (place : ℕ) (name : String Global) → place < length names → name ≡ get_or names place name → slice_get (map string_bytes names) place ≡ Some (string_bytes name)
+name_there names place name lt is = slice_get-map string_bytes names place ∙ ap (option_map string_bytes) (slice_get-get_or names place name lt ∙ ap Some (sym is))
+
+pub name_past : (names : List (String Global)) (place : ℕ) → length names ≤ place → slice_get (map string_bytes names) place ≡ None
+name_past [] place h = refl
+name_past (n ∷ names) zero h = absurd (omega (arith, h))
+name_past (n ∷ names) (suc place) h = name_past names place (omega (arith, h))
