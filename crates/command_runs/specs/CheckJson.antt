@@ -1,13 +1,13 @@
 -- A check as JSON: the four numbers of its lines, and whether both hold.
-use Rattle.std.specs.Prelude.{ℕ, ◌+◌, ◌-◌, ◌^◌, ◌&&◌, Bool, true, false, List, [], ◌∷◌, ◌++◌, codes, fold, min, nat_le, if◌then◌else◌}
+use Rattle.std.specs.Prelude.{ℕ, ◌+◌, ◌-◌, ◌^◌, ◌==◌, ◌&&◌, Bool, true, false, List, [], ◌∷◌, ◌++◌, codes, fold, min, nat_le, if◌then◌else◌}
 use Rattle.command_runs.specs.declared.verbs.check_json.Scan.{Scan}
 
 -- what stands in front of a number: of the first, the second, the third, and those behind
 abbrev pub key : ℕ → List ℕ
-key 0 = codes "{\"check\":1,\"pairs\":"
-key 1 = codes ",\"postponed\":"
-key 2 = codes ",\"stuck\":"
-key _ = codes ",\"released\":"
+key number = if number == 0 then codes "{\"check\":1,\"pairs\":"
+    else if number == 1 then codes ",\"postponed\":"
+    else if number == 2 then codes ",\"stuck\":"
+    else codes ",\"released\":"
 
 -- what stands behind the last one
 abbrev pub end_text : Bool → List ℕ

@@ -28,11 +28,14 @@ struct Scan {
 fn key(number: usize) -> &'static [u8]
     ensures { result.now ≡ key number }
 {
-    match number {
-        0 => b"{\"check\":1,\"pairs\":",
-        1 => b",\"postponed\":",
-        2 => b",\"stuck\":",
-        _ => b",\"released\":",
+    if number == 0 {
+        b"{\"check\":1,\"pairs\":"
+    } else if number == 1 {
+        b",\"postponed\":"
+    } else if number == 2 {
+        b",\"stuck\":"
+    } else {
+        b",\"released\":"
     }
 }
 
@@ -78,7 +81,7 @@ fn with_digit(scan: Scan, byte: u8) -> Result<Scan, AllocError>
 fn next(scan: Scan, byte: u8) -> Result<Scan, AllocError>
     ensures { IfOk result (λ s. of_scan s ≡ next (of_scan scan) byte) }
 {
-    if byte.is_ascii_digit() {
+    if b'0' <= byte && byte <= b'9' {
         return with_digit(scan, byte);
     }
     Ok(Scan {
