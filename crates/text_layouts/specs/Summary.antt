@@ -33,9 +33,19 @@ some_left_text count = codes "; " ++ decimal count ++ codes " left out (--verbos
 abbrev pub left_count_text : ℕ → List ℕ
 left_count_text count = if nat_lt 0 count then some_left_text count else []
 
+-- how many texts and calls there are
+abbrev pub read_text : ℕ → ℕ → List ℕ
+read_text texts calls = counted_text texts (codes " text, ") (codes " texts, ") ++ counted_text calls (codes " call, ") (codes " calls, ")
+
+-- how many communicators, windows and files these are
+abbrev pub made_text : List Communicator → List ℕ
+made_text comms = counted_text (sort_count Comm comms) (codes " communicator") (codes " communicators")
+    ++ objects_text (sort_count Window comms) (codes " window") (codes " windows") ++ objects_text (sort_count File comms) (codes " file") (codes " files")
+
+-- which ranks have no text, and how many communicators are left out, to the end of the line
+abbrev pub lost_text : List ℕ → ℕ → List ℕ
+lost_text missing left_out = missing_text (codes "; ") missing [] ++ left_count_text left_out ++ codes "\n"
+
 -- `3 texts, 36 calls, 6 communicators, 1 window; no text of rank 1; 2 left out (--verbose names them)`
 abbrev pub summary_text : ℕ → ℕ → List ℕ → List Communicator → ℕ → List ℕ
-summary_text texts calls missing comms left_out = counted_text texts (codes " text, ") (codes " texts, ") ++ counted_text calls (codes " call, ") (codes " calls, ")
-    ++ counted_text (sort_count Comm comms) (codes " communicator") (codes " communicators")
-    ++ objects_text (sort_count Window comms) (codes " window") (codes " windows") ++ objects_text (sort_count File comms) (codes " file") (codes " files")
-    ++ missing_text (codes "; ") missing [] ++ left_count_text left_out ++ codes "\n"
+summary_text texts calls missing comms left_out = read_text texts calls ++ made_text comms ++ lost_text missing left_out

@@ -3,9 +3,8 @@
 ghost use Rattle.std.specs.Prelude.{◌≡◌, ◌++◌, codes, length};
 ghost use Rattle.call_words.specs.Ranges.{named_ranks_text};
 ghost use Rattle.call_words.specs.Texts.{Adds};
-ghost use Rattle.mpi_model.specs.declared.object.Object.TheVariants.{Communicator as a_communicator, File as a_file, Window as a_window};
 ghost use Rattle.text_layouts.specs.Seats.{missing_text};
-ghost use Rattle.text_layouts.specs.Summary.{counted_text, left_count_text, objects_text, same_sort, some_left_text, sort_count, summary_text};
+ghost use Rattle.text_layouts.specs.Summary.{counted_text, left_count_text, lost_text, made_text, objects_text, read_text, same_sort, some_left_text, sort_count, summary_text};
 
 use call_words::{Text, put_named_ranks};
 use comm_makings::Derived;
@@ -45,16 +44,6 @@ fn sort_count(sort: Object, comms: &[Comm]) -> usize
         }
     }
     count
-}
-
-/// How many communicators, windows and files these are.
-fn counts_of(comms: &[Comm]) -> (u64, u64, u64)
-    ensures { (result.0 ≡ sort_count a_communicator comms.now) × (result.1 ≡ sort_count a_window comms.now) × (result.2 ≡ sort_count a_file comms.now) }
-{
-    let made = sort_count(Object::Communicator, comms);
-    let windows = sort_count(Object::Window, comms);
-    let files = sort_count(Object::File, comms);
-    (made as u64, windows as u64, files as u64)
 }
 
 /// So many of a sort that not each run has; nothing of none.
@@ -104,20 +93,42 @@ pub fn put_missing(out: &mut Text, front: &[u8], ranks: &[u32], end: &[u8])
     }
 }
 
+/// How many communicators, windows and files these are.
+fn put_made(out: &mut Text, comms: &[Comm])
+    ensures { Adds out.old out.new (made_text comms.now) }
+{
+    let made = sort_count(Object::Communicator, comms);
+    put_counted(out, made as u64, b" communicator", b" communicators");
+    let windows = sort_count(Object::Window, comms);
+    put_objects(out, windows as u64, b" window", b" windows");
+    let files = sort_count(Object::File, comms);
+    put_objects(out, files as u64, b" file", b" files");
+}
+
+/// How many texts and calls there are.
+fn put_read(out: &mut Text, texts: u64, calls: u64)
+    ensures { Adds out.old out.new (read_text texts calls) }
+{
+    put_counted(out, texts, b" text, ", b" texts, ");
+    put_counted(out, calls, b" call, ", b" calls, ");
+}
+
+/// Which ranks have no text, and how many communicators are left out, to the end of the line.
+fn put_lost(out: &mut Text, missing: &[u32], left_out: u64)
+    ensures { Adds out.old out.new (lost_text missing.now left_out) }
+{
+    put_missing(out, b"; ", missing, b"");
+    put_left_count(out, left_out);
+    out.put(b"\n");
+}
+
 /// What is said of a layout that was made of so many texts with so many calls, on one line: how many communicators, windows
 /// and files it has, which ranks have no text, and how many are left out.
 pub fn put_summary(out: &mut Text, texts: u64, calls: u64, missing: &[u32], derived: &Derived)
     ensures { Adds out.old out.new (summary_text texts calls missing.now derived.now.comms.items (length derived.now.left_out.items)) }
 {
-    let comms = derived.comms.as_slice();
-    put_counted(out, texts, b" text, ", b" texts, ");
-    put_counted(out, calls, b" call, ", b" calls, ");
-    let counts = counts_of(comms);
-    put_counted(out, counts.0, b" communicator", b" communicators");
-    put_objects(out, counts.1, b" window", b" windows");
-    put_objects(out, counts.2, b" file", b" files");
-    put_missing(out, b"; ", missing, b"");
+    put_read(out, texts, calls);
+    put_made(out, &derived.comms);
     let left_out = derived.left_out.len() as u64;
-    put_left_count(out, left_out);
-    out.put(b"\n");
+    put_lost(out, missing, left_out);
 }
