@@ -7,7 +7,7 @@ ghost use Rattle.text_layouts.specs.Seats.{missing_text};
 ghost use Rattle.text_layouts.specs.Summary.{counted_text, left_count_text, lost_text, made_text, objects_text, read_text, same_sort, some_left_text, sort_count, summary_text};
 
 use call_words::{Text, put_named_ranks};
-use comm_makings::Derived;
+use comm_makings::{Derived, LeftOut};
 use mpi_model::{Comm, Object};
 
 /// A number, and what it counts: one, or several of them.
@@ -114,11 +114,11 @@ fn put_read(out: &mut Text, texts: u64, calls: u64)
 }
 
 /// Which ranks have no text, and how many communicators are left out, to the end of the line.
-fn put_lost(out: &mut Text, missing: &[u32], left_out: u64)
-    ensures { Adds out.old out.new (lost_text missing.now left_out) }
+fn put_lost(out: &mut Text, missing: &[u32], left_out: &[LeftOut])
+    ensures { Adds out.old out.new (lost_text missing.now (length left_out.now)) }
 {
     put_missing(out, b"; ", missing, b"");
-    put_left_count(out, left_out);
+    put_left_count(out, left_out.len() as u64);
     out.put(b"\n");
 }
 
@@ -129,6 +129,5 @@ pub fn put_summary(out: &mut Text, texts: u64, calls: u64, missing: &[u32], deri
 {
     put_read(out, texts, calls);
     put_made(out, &derived.comms);
-    let left_out = derived.left_out.len() as u64;
-    put_lost(out, missing, left_out);
+    put_lost(out, missing, &derived.left_out);
 }
