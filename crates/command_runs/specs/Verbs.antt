@@ -1,5 +1,5 @@
 -- What each verb prints, and why it is refused.
-use Rattle.std.specs.Prelude.{◌≡◌, ◌⊎◌, ℕ, List, Option, Result, Ok, Err}
+use Rattle.std.specs.Prelude.{◌≡◌, ◌⊎◌, ℕ, List, Option, Result, Ok, Err, true}
 use Rattle.std.specs.Io.KnownBytes.{Keeps}
 use Rattle.mpi_model.specs.Layouts.{Parts}
 use Rattle.trace_check.specs.Checker.{IsCheckOf}

@@ -45,7 +45,8 @@ pub trait Opener: Drop {
         ensures folder { IfOk result (λ listed. IfSome listed (λ _. file self.now path.now ≡ None)) }
         ensures unread { result ≡ Err OpenFault.File → file self.now path.now ≡ None }
     {
-        let _unasked = (alloc, path);
+        let _ = alloc;
+        let _ = path.is_empty();
         Ok(None)
     }
 

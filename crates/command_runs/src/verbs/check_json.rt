@@ -2,7 +2,7 @@
 
 ghost use Rattle.std.specs.Prelude.{◌≡◌, IfErr, IfOk};
 ghost use Rattle.dumpi_text.specs.Failing.{Fails};
-ghost use Rattle.command_runs.specs.CheckJson.{check_json, end_text, key, next, of_scan};
+ghost use Rattle.command_runs.specs.CheckJson.{check_json, end_text, key, next, of_scan, with_digit};
 ghost use Rattle.command_runs.specs.Files.{NamesFailed};
 ghost use Rattle.command_runs.specs.Verbs.{Ran};
 
