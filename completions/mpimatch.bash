@@ -1,7 +1,7 @@
 # completions of mpimatch for bash, made by tools/words of its help
 _mpimatch() {
     local word=${COMP_WORDS[COMP_CWORD]} before=${COMP_WORDS[COMP_CWORD - 1]} verb= words= files= at
-    local verbs="explain graph report replay cluster check pack init help"
+    local verbs="explain graph page report replay cluster check pack init help"
     for ((at = 1; at < COMP_CWORD; at++)); do
         [[ " $verbs " == *" ${COMP_WORDS[at]} "* ]] && verb=${COMP_WORDS[at]} && break
     done
@@ -17,6 +17,7 @@ _mpimatch() {
                 help) words="$verbs" ;;
                 explain) words="--json --all --rank -h --help" files=yes ;;
                 graph) words="--all -h --help" files=yes ;;
+                page) words="-h --help" files=yes ;;
                 report) words="--json -h --help" files=yes ;;
                 replay) words="-h --help" files=yes ;;
                 cluster) words="-h --help" files=yes ;;

@@ -2,6 +2,7 @@
 complete -c mpimatch -f
 complete -c mpimatch -n __fish_use_subcommand -a explain -d 'Says in words what holds up the run, and where its ranks stand'
 complete -c mpimatch -n __fish_use_subcommand -a graph -d 'Draws what holds up the run, and who waits for it, as a graph for Graphviz'
+complete -c mpimatch -n __fish_use_subcommand -a page -d 'Writes what holds up the run as a page for a browser, in one file'
 complete -c mpimatch -n __fish_use_subcommand -a report -d 'Prints who received what from whom, and which ranks are stuck'
 complete -c mpimatch -n __fish_use_subcommand -a replay -d 'Runs a schedule of nodes that exchange what they know, and prints the report of each'
 complete -c mpimatch -n __fish_use_subcommand -a cluster -d 'Reads the pieces of two nodes, which exchange what they know, and prints the report of each'
@@ -11,7 +12,7 @@ complete -c mpimatch -n __fish_use_subcommand -a init -d 'Writes the layout and 
 complete -c mpimatch -n __fish_use_subcommand -a help -d 'Print this message or the help of the given subcommand(s)'
 complete -c mpimatch -n __fish_use_subcommand -s h -l help -d 'Print help'
 complete -c mpimatch -n __fish_use_subcommand -s V -l version -d 'Print version'
-complete -c mpimatch -n '__fish_seen_subcommand_from help' -a 'explain graph report replay cluster check pack init help'
+complete -c mpimatch -n '__fish_seen_subcommand_from help' -a 'explain graph page report replay cluster check pack init help'
 complete -c mpimatch -n '__fish_seen_subcommand_from explain' -F
 complete -c mpimatch -n '__fish_seen_subcommand_from explain' -l json -d 'Prints the same facts as one JSON object'
 complete -c mpimatch -n '__fish_seen_subcommand_from explain' -l all -d 'Cuts no list'
@@ -20,6 +21,8 @@ complete -c mpimatch -n '__fish_seen_subcommand_from explain' -s h -l help -d 'P
 complete -c mpimatch -n '__fish_seen_subcommand_from graph' -F
 complete -c mpimatch -n '__fish_seen_subcommand_from graph' -l all -d 'Draws all nodes, also more than 200'
 complete -c mpimatch -n '__fish_seen_subcommand_from graph' -s h -l help -d 'Print help'
+complete -c mpimatch -n '__fish_seen_subcommand_from page' -F
+complete -c mpimatch -n '__fish_seen_subcommand_from page' -s h -l help -d 'Print help'
 complete -c mpimatch -n '__fish_seen_subcommand_from report' -F
 complete -c mpimatch -n '__fish_seen_subcommand_from report' -l json -d 'Prints the report as one JSON object'
 complete -c mpimatch -n '__fish_seen_subcommand_from report' -s h -l help -d 'Print help'

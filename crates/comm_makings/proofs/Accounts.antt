@@ -15,6 +15,7 @@ use Rattle.comm_makings.specs.Uses.{AreAllCounted, count_at}
 use Rattle.comm_makings.specs.Views.{AreViews}
 use Rattle.comm_makings.specs.World.{world_of}
 use Rattle.comm_makings.specs.Written.{IsWritten}
+use Rattle.comm_makings.specs.declared.answer.Choice.{Choice}
 use Rattle.comm_makings.specs.declared.answer.Derived.{Derived}
 use Rattle.comm_makings.specs.declared.answer.LeftOut.{LeftOut}
 use Rattle.comm_makings.specs.declared.answer.Why.{Why}
@@ -103,10 +104,10 @@ module _ (ranks : List RankCalls) (views : List RankView) (uses : List HandleUse
         by_standing rank at handle call giver meant called gave means given (standing_at stand rank handle) refl;
   }
 
-pub derives : (ranks : List RankCalls) (views : List RankView) (uses : AllUses) (made objects all : List Made) (stand : List (Vec HandleState Global)) (values : List (Vec GroupValue Global)) (next : List Progress) (derived : Derived)
+pub derives : (choice : Choice) (ranks : List RankCalls) (views : List RankView) (uses : AllUses) (made objects all : List Made) (stand : List (Vec HandleState Global)) (values : List (Vec GroupValue Global)) (next : List Progress) (derived : Derived)
     → derived.world ≡ world_of ranks → AreViews (world_of ranks) ranks views → IsRight ranks views stand values made next → AreObjects ranks views made objects → AreAllCounted ranks views uses
-    → all ≡ made ++ objects → IsWritten (world_of ranks) (length ranks) views uses all derived.comms.items → derived.left_out.items ≡ left_out_of ranks views uses.comms.items stand → IsDerivedFrom ranks derived
-derives ranks views uses made objects all stand values next derived world read right are counted both written left = record {
+    → all ≡ made ++ objects → IsWritten choice (world_of ranks) (length ranks) views uses all derived.comms.items → derived.left_out.items ≡ left_out_of ranks views uses.comms.items stand → IsDerivedFrom choice ranks derived
+derives choice ranks views uses made objects all stand values next derived world read right are counted both written left = record {
   views = views;
   uses = uses;
   made = made;
@@ -118,15 +119,15 @@ derives ranks views uses made objects all stand values next derived world read r
   derive = right.comms_derive;
   derive_objects = are;
   stand = right.handles_named;
-  written = subst (λ (l : List Made). IsWritten (world_of ranks) (length ranks) views uses l derived.comms.items) both written;
+  written = subst (λ (l : List Made). IsWritten choice (world_of ranks) (length ranks) views uses l derived.comms.items) both written;
   left_out = left;
   accounted = subst (AreAccounted ranks views uses.comms.items made) (sym left) (accounted ranks views uses.comms.items made stand right.handles_named);
 }
 
-pub sounds : (ranks : List RankCalls) (views : List RankView) (uses : AllUses) (made objects all : List Made) (stand : List (Vec HandleState Global)) (values : List (Vec GroupValue Global)) (next : List Progress) (comms : List Communicator)
+pub sounds : (choice : Choice) (ranks : List RankCalls) (views : List RankView) (uses : AllUses) (made objects all : List Made) (stand : List (Vec HandleState Global)) (values : List (Vec GroupValue Global)) (next : List Progress) (comms : List Communicator)
     → AreViews (world_of ranks) ranks views → IsRight ranks views stand values made next → AreObjects ranks views made objects → AreAllCounted ranks views uses
-    → all ≡ made ++ objects → IsWritten (world_of ranks) (length ranks) views uses all comms → IsSound (world_of ranks) ranks comms
-sounds ranks views uses made objects all stand values next comms read right are counted both written = record {
+    → all ≡ made ++ objects → IsWritten choice (world_of ranks) (length ranks) views uses all comms → IsSound choice (world_of ranks) ranks comms
+sounds choice ranks views uses made objects all stand values next comms read right are counted both written = record {
   views = views;
   uses = uses;
   made = made;
@@ -135,5 +136,5 @@ sounds ranks views uses made objects all stand values next comms read right are 
   counted = counted;
   derive = right.comms_derive;
   derive_objects = are;
-  written = subst (λ (l : List Made). IsWritten (world_of ranks) (length ranks) views uses l comms) both written;
+  written = subst (λ (l : List Made). IsWritten choice (world_of ranks) (length ranks) views uses l comms) both written;
 }

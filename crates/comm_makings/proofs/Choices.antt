@@ -7,6 +7,7 @@ use Rattle.std.proofs.lemmas.List.Sorted.{All-permutation}
 use Rattle.std.proofs.lemmas.Option.{same_Some, slice_get_within}
 use Rattle.mpi_model.specs.Communicators.{Communicator}
 use Rattle.comm_makings.specs.Written.{AreChosen, AreIn, AreOthers, AreWrittenOf, IsWorld, IsWritten, IsWrittenOf, is_named, named_at, named_with}
+use Rattle.comm_makings.specs.declared.answer.Choice.{Choice}
 use Rattle.comm_makings.specs.declared.state.Made.{Made}
 use Rattle.comm_makings.specs.declared.uses.AllUses.{AllUses}
 use Rattle.comm_makings.specs.declared.view.RankView.{RankView}
@@ -34,25 +35,25 @@ given_by {X} f (suc n) k x e =
       | inr last ↦ (n, omega arith, is ∙ ap Some (sym last.1))
     ]
 
-named_in : (uses : AllUses) (made : List Made) (place : ℕ) (named : Named) → named_at uses made place ≡ Some named → (named.place ≡ place) × (place < length made)
-named_in uses made place named e = of_some (slice_get made place) refl e
+named_in : (choice : Choice) (uses : AllUses) (made : List Made) (place : ℕ) (named : Named) → named_at choice uses made place ≡ Some named → (named.place ≡ place) × (place < length made)
+named_in choice uses made place named e = of_some (slice_get made place) refl e
   where
     by_test : (comm : Made) (b : Bool) → cond b (Some (record { order = comm.order; place = place })) None ≡ Some named → named.place ≡ place
     by_test comm false e = absurd (cc)
     by_test comm true e = ap (λ (n : Named). n.place) (sym (same_Some (record { order = comm.order; place = place }) named e))
 
-    of_some : (o : Option Made) → slice_get made place ≡ o → option_and_then (named_with uses place) o ≡ Some named → (named.place ≡ place) × (place < length made)
+    of_some : (o : Option Made) → slice_get made place ≡ o → option_and_then (named_with choice uses place) o ≡ Some named → (named.place ≡ place) × (place < length made)
     of_some None here e = absurd (cc)
-    of_some (Some comm) here e = (by_test comm (nat_lt 0 comm.order.class && is_named uses comm) e, slice_get_within made place comm here)
+    of_some (Some comm) here e = (by_test comm (nat_lt 0 comm.order.class && is_named choice uses comm) e, slice_get_within made place comm here)
 
-pub chosen_in : (uses : AllUses) (made : List Made) (chosen : List Named) → AreChosen uses made chosen → AreIn made chosen
-chosen_in uses made chosen are =
+pub chosen_in : (choice : Choice) (uses : AllUses) (made : List Made) (chosen : List Named) → AreChosen choice uses made chosen → AreIn made chosen
+chosen_in choice uses made chosen are =
     let P : Named → Type 0 = λ n. n.place < length made in
-    let all : List Named = filter_map (named_at uses made) (range_with_len 0 (length made)) in
+    let all : List Named = filter_map (named_at choice uses made) (range_with_len 0 (length made)) in
     let each : (k : ℕ) (n : Named) → slice_get all k ≡ Some n → P n =
     λ k n e.
-    let r = given_by (named_at uses made) (length made) k n e in
-    let is = named_in uses made r.0 n r.2 in
+    let r = given_by (named_at choice uses made) (length made) k n e in
+    let is = named_in choice uses made r.0 n r.2 in
     let less : r.0 < length made = r.1 in
     subst (λ (p : ℕ). p < length made) (sym is.0) less in
     record { each = λ i n e. All-slice_get P chosen i n (All-permutation P all chosen are.same (All-from_slice_get P all each)) e }
@@ -84,6 +85,6 @@ pub written_all : (views : List RankView) (uses : AllUses) (made : List Made) (c
     → AreWrittenTo views uses made chosen comms count → count ≤ length chosen → length chosen ≤ count → AreWrittenOf views uses made chosen comms
 written_all views uses made chosen comms count are most least = record { same = omega (arith, are.same); each = are.each }
 
-pub is_written : (number count : ℕ) (views : List RankView) (uses : AllUses) (made : List Made) (first : Communicator) (others all : List Communicator)
-    → IsWorld number count first → AreOthers views uses made others → all ≡ first ∷ others → IsWritten number count views uses made all
-is_written number count views uses made first others all is rest starts = record { first = first; others = others; starts = starts; is_world = is; rest = rest }
+pub is_written : (choice : Choice) (number count : ℕ) (views : List RankView) (uses : AllUses) (made : List Made) (first : Communicator) (others all : List Communicator)
+    → IsWorld number count first → AreOthers choice views uses made others → all ≡ first ∷ others → IsWritten choice number count views uses made all
+is_written choice number count views uses made first others all is rest starts = record { first = first; others = others; starts = starts; is_world = is; rest = rest }

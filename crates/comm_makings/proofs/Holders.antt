@@ -14,7 +14,7 @@ use Rattle.mpi_model.specs.declared.layout.comm.Stretch.{Stretch}
 use Rattle.mpi_model.specs.declared.object.Object.{Object}
 use Rattle.mpi_model.specs.Names.{holds, is_before}
 use Rattle.comm_makings.specs.Each.{EachBecomes, EachIs}
-use Rattle.comm_makings.specs.Uses.{AreCounted, AreHeld, AreOrdered, Comes, IsCounted, IsCountedOf, IsHolder, IsHolderOf, IsLatest, IsLatestOf, IsNotBefore, IsOnly, NoneBegun, count_in, count_of, has_number, holds_all, is_at, is_stray, is_stray_of, numbered, place_of, places_from, precedes, stands_alone}
+use Rattle.comm_makings.specs.Uses.{AreCounted, AreHeld, AreOrdered, Comes, IsCounted, IsCountedOf, IsHolder, IsHolderOf, IsLatest, IsLatestOf, IsNotBefore, IsOnly, IsTally, NoneBegun, but_ends, count_in, count_of, has_number, holds_all, is_at, is_stray, is_stray_of, numbered, place_of, places_from, precedes, stands_alone}
 use Rattle.comm_makings.specs.declared.calls.RankCalls.{RankCalls}
 use Rattle.comm_makings.specs.declared.calls.Uses.{Uses}
 use Rattle.comm_makings.specs.declared.uses.HandleUses.{HandleUses}
@@ -530,18 +530,19 @@ only_by handles uses held calls are at is (Some handle) here e =
 
 -- what the calls of the profile, and those on communicators, say of all handles
 pub counted : (handles : List Stretch) (uses : List Uses) (held calls all : List HeldUses) (result : HandleUses) → AreHeld handles uses held → all ≡ held ++ calls
-    → EachIs result.counts.items (count_of all) → length result.counts.items ≡ length handles → result.only.items ≡ map (stands_alone handles all) handles
-    → IsCounted handles uses calls result
-counted handles uses held calls all result are is counts each only = record {
+    → IsTally handles all result → IsCounted handles uses calls result
+counted handles uses held calls all result are is tally = record {
   held = held;
   holders = are;
-  counts = λ k x e. counts k x e ∙ ap (λ (l : List HeldUses). count_of l k) is;
-  count_each = each;
+  counts = λ k x e. tally.counts k x e ∙ ap (λ (l : List HeldUses). count_of l k) is;
+  count_each = tally.count_each;
+  used = λ k x e. tally.used k x e ∙ ap (λ (l : List HeldUses). count_of (but_ends handles l) k) is;
+  used_each = tally.used_each;
   only = λ at test e.
       only_by handles uses held calls are at test (slice_get handles at) refl
       (sym (slice_get-map (stands_alone handles (held ++ calls)) handles at) ∙ ap (λ (l : List Bool). slice_get l at)
-      (sym (only ∙ ap (λ (l : List HeldUses). map (stands_alone handles l) handles) is)) ∙ e);
-  only_each = ap length only ∙ length-map handles (stands_alone handles all);
+      (sym (tally.only ∙ ap (λ (l : List HeldUses). map (stands_alone handles l) handles) is)) ∙ e);
+  only_each = ap length tally.only ∙ length-map handles (stands_alone handles all);
 }
 
 -- ---- one rank after the other

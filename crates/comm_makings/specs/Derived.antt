@@ -12,6 +12,7 @@ use Rattle.comm_makings.specs.Uses.{AreAllCounted, count_at}
 use Rattle.comm_makings.specs.Views.{AreViews}
 use Rattle.comm_makings.specs.World.{world_of}
 use Rattle.comm_makings.specs.Written.{IsWritten}
+use Rattle.comm_makings.specs.declared.answer.Choice.{Choice}
 use Rattle.comm_makings.specs.declared.answer.Derived.{Derived}
 use Rattle.comm_makings.specs.declared.answer.LeftOut.{LeftOut}
 use Rattle.comm_makings.specs.declared.calls.CommCall.{CommCall}
@@ -43,9 +44,9 @@ pub record AreAccounted (ranks : List RankCalls) (views : List RankView) (uses :
   pub each : (rank at handle : ℕ) (call : CommCall) (giver : Giver) (meant : Meant) → call_at ranks rank at ≡ Some call → giving call.action ≡ Some giver
       → meant_at views rank at ≡ Some meant → meant.gives ≡ gives.Handle handle → IsOfMade made rank handle ⊎ IsLeftOut left_out rank call.call (count_at uses rank (Some handle))
 
--- What derives from what the ranks called: each communicator that is made derives (MPI 4.0, chapters 7 and 8), and so
--- do the windows and files of these (12.2 and 14.2); those that calls of the profile name are written, behind the
--- world, and all other communicators that calls give are left out.
+-- What derives from what the ranks called: each communicator that is made derives (MPI 4.0, chapters 7 and 8), and so do the
+-- windows and files of these (12.2 and 14.2); those that calls name, or calls that don't end them, are written behind the world,
+-- and all other communicators that calls give are left out.
 --
 -- `Derives` asks for less than a communicator needs, in these points:
 -- * A making of which nothing is made counts as read where its calls have one function and what they give can be read,
@@ -53,7 +54,7 @@ pub record AreAccounted (ranks : List RankCalls) (views : List RankView) (uses :
 -- * The groups that the calls of one MPI_Comm_create name need not be equal or disjoint.
 -- * One MPI_Comm_create_group may be made of any calls of the members with its group and tag, not of the k-th of each.
 -- * A communicator that may be ordered anew can come without dimensions or nodes though all calls, or some, tell them.
-pub record IsDerivedFrom (ranks : List RankCalls) (derived : Derived) : Type 0 where
+pub record IsDerivedFrom (choice : Choice) (ranks : List RankCalls) (derived : Derived) : Type 0 where
   pub views : List RankView
   pub uses : AllUses
   pub made : List Made
@@ -65,12 +66,12 @@ pub record IsDerivedFrom (ranks : List RankCalls) (derived : Derived) : Type 0 w
   pub derive : AreDerived ranks views made
   pub derive_objects : AreObjects ranks views made objects
   pub stand : AreMembers made standings
-  pub written : IsWritten (world_of ranks) (length ranks) views uses (made ++ objects) derived.comms.items
+  pub written : IsWritten choice (world_of ranks) (length ranks) views uses (made ++ objects) derived.comms.items
   pub left_out : derived.left_out.items ≡ left_out_of ranks views uses.comms.items standings
   pub accounted : AreAccounted ranks views uses.comms.items made derived.left_out.items
 
 -- The part of it that says of communicators, windows and files that they are written as they derive.
-pub record IsSound (world : ℕ) (ranks : List RankCalls) (comms : List Communicator) : Type 0 where
+pub record IsSound (choice : Choice) (world : ℕ) (ranks : List RankCalls) (comms : List Communicator) : Type 0 where
   pub views : List RankView
   pub uses : AllUses
   pub made : List Made
@@ -79,4 +80,4 @@ pub record IsSound (world : ℕ) (ranks : List RankCalls) (comms : List Communic
   pub counted : AreAllCounted ranks views uses
   pub derive : AreDerived ranks views made
   pub derive_objects : AreObjects ranks views made objects
-  pub written : IsWritten world (length ranks) views uses (made ++ objects) comms
+  pub written : IsWritten choice world (length ranks) views uses (made ++ objects) comms

@@ -1,14 +1,17 @@
 -- Which calls of the profile name which handles of a rank. A number names the communicator that it was given to last,
 -- and none once that is freed (MPI 4.0, 7.4.3).
 use Rattle.std.specs.Prelude.{◌≡◌, ◌↔◌, ◌⊎◌, ◌<◌, ◌≤◌, ◌==◌, ◌&&◌, ◌||◌, ◌+◌, ◌-◌, ◌^◌, ℕ, Bool, true, false, List, [], ◌∷◌, ◌++◌, Option, Some, None, All, IsTrue, cond, count_by, is_some, length, map, min, not, unwrap_or, nat_le, nat_lt, slice_index_or}
-use Rattle.std.specs.List.{filter_map, list_any, range_with_len, slice_get, sum_by}
+use Rattle.std.specs.List.{filter, filter_map, list_any, range_with_len, slice_get, sum_by}
 use Rattle.std.specs.Option.{option_and_then, option_map}
 use Rattle.mpi_model.specs.Names.{holds}
 use Rattle.mpi_model.specs.declared.layout.comm.Stretch.{Stretch}
 use Rattle.mpi_model.specs.declared.object.Object.{Object}
 use Rattle.mpi_model.specs.declared.object.Object.TheVariants as objects
 use Rattle.comm_makings.specs.Each.{EachIs}
+use Rattle.comm_makings.specs.Names.{next_call}
 use Rattle.comm_makings.specs.Objects.{end_uses}
+use Rattle.comm_makings.specs.declared.answer.Choice.{Choice}
+use Rattle.comm_makings.specs.declared.answer.Choice.TheVariants as choices
 use Rattle.comm_makings.specs.declared.calls.Action.{Action}
 use Rattle.comm_makings.specs.declared.calls.Action.TheVariants as actions
 use Rattle.comm_makings.specs.declared.calls.CommCall.{CommCall}
@@ -103,6 +106,28 @@ count_in at group = cond (is_at at group.holder) group.uses.count 0
 abbrev pub count_of : List HeldUses → ℕ → ℕ
 count_of held at = min (sum_by (count_in at) held) (2 ^ 64 - 1)
 
+-- a stretch has just this end
+abbrev pub ends_at : ℕ → Option ℕ → Bool
+ends_at call None = false
+ends_at call (Some end) = end == call
+
+-- The last call of a group ends the handle's stretch: it frees or closes what the handle names, or gives the number anew.
+abbrev pub ends_with : Uses → Stretch → Bool
+ends_with uses handle = ends_at (next_call uses.last) handle.end
+
+-- the calls of a group don't end what they name, where they name the handle
+abbrev pub is_use_of : Uses → Option Stretch → Bool
+is_use_of uses None = true
+is_use_of uses (Some handle) = not (ends_with uses handle)
+
+-- the calls of a group don't end what they name
+abbrev pub is_use : List Stretch → HeldUses → Bool
+is_use handles group = is_use_of group.uses (option_and_then (slice_get handles) group.holder)
+
+-- the groups but for the calls that end what they name
+abbrev pub but_ends : List Stretch → List HeldUses → List HeldUses
+but_ends handles held = filter (is_use handles) held
+
 -- the calls of a group have this number and name no handle
 abbrev pub is_stray_of : ℕ → HeldUses → Bool
 is_stray_of number group = not (is_some group.holder) && (group.uses.number == number)
@@ -132,13 +157,24 @@ pub record IsOnly (handles : List Stretch) (uses : List Uses) (calls : List Held
   pub within : (i : ℕ) (group : Uses) → slice_get uses i ≡ Some group → group.number ≡ handle.number → holds_all group handle ≡ true
   pub known : (i : ℕ) (group : HeldUses) → slice_get calls i ≡ Some group → group.uses.number ≡ handle.number → is_some group.holder ≡ true
 
--- What the calls of the profile, and those on communicators, say of a rank's handles: how many name each, and which
--- numbers name one alone.
+-- What groups of calls say of handles: how many calls name each, how many of these don't end it, and whether its number is that
+-- of no other and of no calls that name no handle.
+pub record IsTally (handles : List Stretch) (held : List HeldUses) (tally : HandleUses) : Type 0 where
+  pub counts : EachIs tally.counts.items (count_of held)
+  pub count_each : length tally.counts.items ≡ length handles
+  pub used : EachIs tally.used.items (count_of (but_ends handles held))
+  pub used_each : length tally.used.items ≡ length handles
+  pub only : tally.only.items ≡ map (stands_alone handles held) handles
+
+-- What the calls of the profile, and those on communicators, say of a rank's handles: how many name each, how many of these
+-- don't end it, and which numbers name one alone.
 pub record IsCounted (handles : List Stretch) (uses : List Uses) (calls : List HeldUses) (counted : HandleUses) : Type 0 where
   pub held : List HeldUses
   pub holders : AreHeld handles uses held
   pub counts : EachIs counted.counts.items (count_of (held ++ calls))
   pub count_each : length counted.counts.items ≡ length handles
+  pub used : EachIs counted.used.items (count_of (but_ends handles (held ++ calls)))
+  pub used_each : length counted.used.items ≡ length handles
   pub only : (at : ℕ) (is : Bool) → slice_get counted.only.items at ≡ Some is → IsTrue is ↔ IsOnly handles uses calls at
   pub only_each : length counted.only.items ≡ length handles
 
@@ -172,7 +208,17 @@ abbrev pub count_at : List HandleUses → ℕ → Option ℕ → ℕ
 count_at uses rank None = 0
 count_at uses rank (Some handle) = unwrap_or (option_and_then (λ u. slice_get u.counts.items handle) (slice_get uses rank)) 0
 
--- ---- by binary search
+-- how many of them don't end it
+abbrev pub used_at : List HandleUses → ℕ → Option ℕ → ℕ
+used_at uses rank None = 0
+used_at uses rank (Some handle) = unwrap_or (option_and_then (λ u. slice_get u.used.items handle) (slice_get uses rank)) 0
+
+-- How many calls name a handle of a rank: all, or those that don't end it.
+abbrev pub count_for : Choice → List HandleUses → ℕ → Option ℕ → ℕ
+count_for choices.Named uses rank handle = count_at uses rank handle
+count_for choices.Used uses rank handle = used_at uses rank handle
+
+-- ---- by halves
 
 -- a handle, as it is ordered
 abbrev pub place_of : ℕ → Stretch → Place

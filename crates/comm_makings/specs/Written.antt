@@ -10,7 +10,8 @@ use Rattle.mpi_model.specs.declared.layout.comm.Stretch.{Stretch}
 use Rattle.mpi_model.specs.declared.object.Object.{Object}
 use Rattle.mpi_model.specs.declared.object.Object.TheVariants as objects
 use Rattle.comm_makings.specs.Names.{always}
-use Rattle.comm_makings.specs.Uses.{count_at, uses_by}
+use Rattle.comm_makings.specs.Uses.{count_for, uses_by}
+use Rattle.comm_makings.specs.declared.answer.Choice.{Choice}
 use Rattle.comm_makings.specs.declared.state.Made.{Made}
 use Rattle.comm_makings.specs.declared.state.Member.{Member}
 use Rattle.comm_makings.specs.declared.state.Order.{Order}
@@ -96,17 +97,17 @@ pub record IsWorld (world count : ℕ) (comm : Communicator) : Type 0 where
   pub members : comm.members ≡ range_with_len 0 count
   pub numbers : comm.numbers ≡ []
 
--- a call of the profile names it
-abbrev pub is_named : AllUses → Made → Bool
-is_named uses made = list_any (λ m. nat_lt 0 (count_at (uses_by uses made.object) m.rank m.handle)) made.members.items
+-- a call names it, or one that doesn't end it, as is chosen
+abbrev pub is_named : Choice → AllUses → Made → Bool
+is_named choice uses made = list_any (λ m. nat_lt 0 (count_for choice (uses_by uses made.object) m.rank m.handle)) made.members.items
 
--- a communicator, a window or a file with its order, where it isn't the world and a call of the profile names it
-abbrev pub named_with : AllUses → ℕ → Made → Option Named
-named_with uses place made = cond (nat_lt 0 made.order.class && is_named uses made) (Some (record { order = made.order; place = place })) None
+-- a communicator, a window or a file with its order, where it isn't the world and is named so
+abbrev pub named_with : Choice → AllUses → ℕ → Made → Option Named
+named_with choice uses place made = cond (nat_lt 0 made.order.class && is_named choice uses made) (Some (record { order = made.order; place = place })) None
 
 -- the same of the one at this place
-abbrev pub named_at : AllUses → List Made → ℕ → Option Named
-named_at uses made place = option_and_then (named_with uses place) (slice_get made place)
+abbrev pub named_at : Choice → AllUses → List Made → ℕ → Option Named
+named_at choice uses made place = option_and_then (named_with choice uses place) (slice_get made place)
 
 -- In a layout MPI_COMM_SELF comes before others, by rank, and the others by the making call of their smallest member
 -- whose text has it, and then by that member.
@@ -117,9 +118,9 @@ order_cmp x y = ordering_then (nat_cmp x.class y.class) (ordering_then (nat_cmp 
 abbrev pub named_cmp : Named → Named → Ordering
 named_cmp x y = ordering_then (order_cmp x.order y.order) (nat_cmp x.place y.place)
 
--- All that is derived but the world and that a call of the profile names, in the order of a layout.
-pub record AreChosen (uses : AllUses) (made : List Made) (chosen : List Named) : Type 0 where
-  pub same : IsPermutation (filter_map (named_at uses made) (range_with_len 0 (length made))) chosen
+-- All that is derived but the world and that a call names, or one that doesn't end it, in the order of a layout.
+pub record AreChosen (choice : Choice) (uses : AllUses) (made : List Made) (chosen : List Named) : Type 0 where
+  pub same : IsPermutation (filter_map (named_at choice uses made) (range_with_len 0 (length made))) chosen
   pub sorted : IsSorted named_cmp chosen
 
 -- These communicators of a layout are the chosen ones, in their order.
@@ -132,16 +133,16 @@ pub record AreWrittenOf (views : List RankView) (uses : AllUses) (made : List Ma
 pub record AreIn (made : List Made) (chosen : List Named) : Type 0 where
   pub each : (i : ℕ) (named : Named) → slice_get chosen i ≡ Some named → named.place < length made
 
--- These communicators of a layout are those that calls of the profile name.
-pub record AreOthers (views : List RankView) (uses : AllUses) (made : List Made) (comms : List Communicator) : Type 0 where
+-- These communicators of a layout are those that are chosen.
+pub record AreOthers (choice : Choice) (views : List RankView) (uses : AllUses) (made : List Made) (comms : List Communicator) : Type 0 where
   pub chosen : List Named
-  pub are_chosen : AreChosen uses made chosen
+  pub are_chosen : AreChosen choice uses made chosen
   pub written : AreWrittenOf views uses made chosen comms
 
--- The world comes first, and then the communicators that calls of the profile name.
-pub record IsWritten (world count : ℕ) (views : List RankView) (uses : AllUses) (made : List Made) (comms : List Communicator) : Type 0 where
+-- The world comes first, and then the communicators, windows and files that calls name, as is chosen.
+pub record IsWritten (choice : Choice) (world count : ℕ) (views : List RankView) (uses : AllUses) (made : List Made) (comms : List Communicator) : Type 0 where
   pub first : Communicator
   pub others : List Communicator
   pub starts : comms ≡ first ∷ others
   pub is_world : IsWorld world count first
-  pub rest : AreOthers views uses made others
+  pub rest : AreOthers choice views uses made others

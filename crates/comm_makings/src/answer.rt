@@ -2,13 +2,21 @@
 
 use mpi_model::Comm;
 
+/// Which communicators, windows and files are written.
+#[derive(Clone, Copy)]
+pub enum Choice {
+    /// Those that some call names.
+    Named,
+    /// Those that some call names which doesn't end them: it neither frees or closes them nor gives their number anew.
+    Used,
+}
+
 /// The communicators that the calls of all ranks make.
 #[derive(Drop)]
 pub struct Derived {
     /// The number of MPI_COMM_WORLD; 2 if no rank says it.
     pub world: u32,
-    /// The world, and the communicators, windows and files that some call of the profile names, in the order of a
-    /// layout.
+    /// The world, and the communicators, windows and files that are chosen, in the order of a layout.
     pub comms: Vec<Comm>,
     /// What is left out, by rank and then by call.
     pub left_out: Vec<LeftOut>,

@@ -7,7 +7,7 @@ ghost use Rattle.comm_makings.specs.Views.{AreViews};
 ghost use Rattle.comm_makings.specs.World.{first_told, other_told, world_fault, world_of};
 ghost use Rattle.comm_makings.specs.declared.answer.DeriveFault.TheVariants.{Memory};
 
-use crate::answer::{DeriveFault, Derived};
+use crate::answer::{Choice, DeriveFault, Derived};
 use crate::calls::RankCalls;
 use crate::left::left_out;
 use crate::objects::objects_of;
@@ -80,6 +80,7 @@ fn world_of(ranks: &[RankCalls]) -> Result<u32, DeriveFault>
 #[tactic(auto, using(crate::proofs::Accounts::derives, crate::proofs::Accounts::sounds))]
 fn answer_of(
     alloc: Global,
+    choice: Choice,
     world: u32,
     ranks: &[RankCalls],
     views: &[RankView],
@@ -89,14 +90,22 @@ fn answer_of(
     requires world { world ≡ world_of ranks.now }
     requires views { AreViews world ranks.now views.now }
     requires right { IsRun ranks.now views.now run }
-    ensures derived { IfOk result (IsDerivedFrom ranks.now) }
-    ensures sound { IfOk result (λ d. IsSound (world_of ranks.now) ranks.now d.comms.items) }
+    ensures derived { IfOk result (IsDerivedFrom choice ranks.now) }
+    ensures sound { IfOk result (λ d. IsSound choice (world_of ranks.now) ranks.now d.comms.items) }
 {
     let uses = all_uses(alloc, ranks, views)?;
     let left_out = left_out(alloc, ranks, views, &uses.comms, &run.standings)?;
     let mut objects = objects_of(alloc, ranks, views, &run.comms)?;
     run.comms.append(&mut objects)?;
-    let comms = written(alloc, world, ranks.len() as u32, views, &uses, &run.comms)?;
+    let comms = written(
+        alloc,
+        choice,
+        world,
+        ranks.len() as u32,
+        views,
+        &uses,
+        &run.comms,
+    )?;
     Ok(Derived {
         world,
         comms,
@@ -104,19 +113,19 @@ fn answer_of(
     })
 }
 
-/// Derives the communicators, windows and files that the calls of the ranks make: the world, and those that calls name,
-/// as a layout has them. Time and memory grow with the calls on communicators, groups, windows and files and with the
-/// members of what they make, not with all calls.
-pub fn derive(alloc: Global, ranks: &[RankCalls]) -> Result<Derived, DeriveFault>
+/// The communicators, windows and files that the calls of the ranks make: the world, and those that are chosen, as a layout
+/// has them. Time and memory grow with the calls on communicators and groups, windows and files and the members of what they
+/// make, not with all calls.
+pub fn derive(alloc: Global, choice: Choice, ranks: &[RankCalls]) -> Result<Derived, DeriveFault>
     requires { length ranks.now < 2 ^ 32 }
     ensures world { IfOk result (λ d. d.world ≡ world_of ranks.now) }
     ensures none { OnOk result (world_fault ranks.now ≡ None) }
     ensures fault { IfErr result (λ e. e ≢ Memory → world_fault ranks.now ≡ Some e) }
-    ensures derived { IfOk result (IsDerivedFrom ranks.now) }
-    ensures sound { IfOk result (λ d. IsSound (world_of ranks.now) ranks.now d.comms.items) }
+    ensures derived { IfOk result (IsDerivedFrom choice ranks.now) }
+    ensures sound { IfOk result (λ d. IsSound choice (world_of ranks.now) ranks.now d.comms.items) }
 {
     let world = world_of(ranks)?;
     let views = views_of(alloc, world, ranks)?;
     let run = run_of(alloc, ranks, &views)?;
-    Ok(answer_of(alloc, world, ranks, &views, run)?)
+    Ok(answer_of(alloc, choice, world, ranks, &views, run)?)
 }

@@ -55,7 +55,7 @@ mod uses;
 mod view;
 mod written;
 
-pub use answer::{DeriveFault, Derived, LeftOut, MadeBy, Why};
+pub use answer::{Choice, DeriveFault, Derived, LeftOut, MadeBy, Why};
 pub use calls::{
     Action, Color, CommCall, Given, GroupCall, GroupName, Making, ObjectMaker, RankCalls,
     RankRange, Uses, object_made,

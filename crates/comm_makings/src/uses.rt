@@ -1,13 +1,16 @@
 //! Which calls of the profile name which handles of a rank.
 
 ghost use Rattle.std.specs.Prelude.{[], ◌≡◌, ◌≤◌, ◌==◌, ◌&&◌, ◌++◌, ◌+◌, ◌-◌, ◌^◌, ℕ, IfOk, OnOk, cond, false, is_some, length, map, min, nat_eq, not, true, unwrap_or};
+ghost use Rattle.std.specs.List.{slice_get};
 ghost use Rattle.std.specs.List.Sorted.{IsPartitionPoint, IsPartitionedBy};
+ghost use Rattle.std.specs.Option.{option_and_then};
 ghost use Rattle.indexmap.specs.IndexMap.{get};
 ghost use Rattle.mpi_model.specs.Names.{holds};
 ghost use Rattle.comm_makings.specs.Each.{EachBecomes, EachIs};
 ghost use Rattle.comm_makings.specs.Objects.{end_uses};
-ghost use Rattle.comm_makings.specs.Uses.{AreAllCounted, AreCounted, IsCountedOf, uses_by, AreHeld, AreOrdered, IsCounted, IsHolderOf, IsLatestOf, call_use, call_use_at, count_at, count_of, held_calls, holds_all, is_at, is_stray, number_on, numbered, places_from, precedes, stands_alone};
+ghost use Rattle.comm_makings.specs.Uses.{AreAllCounted, AreCounted, IsCountedOf, uses_by, AreHeld, AreOrdered, IsCounted, IsHolderOf, IsLatestOf, IsTally, but_ends, call_use, call_use_at, count_at, count_for, count_of, ends_with, held_calls, holds_all, is_at, is_stray, is_use, number_on, numbered, places_from, precedes, stands_alone, used_at};
 
+use crate::answer::Choice;
 use crate::calls::{Action, CommCall, Making, RankCalls, Uses};
 use crate::handle::{Handle, Meant};
 use crate::object_view::end_uses;
@@ -21,7 +24,9 @@ use std::alloc::{AllocError, Global};
 pub(crate) struct HandleUses {
     /// How many name each handle.
     pub counts: Vec<u64>,
-    /// For each handle, whether its number names nothing else of the rank.
+    /// How many of these don't end it.
+    pub used: Vec<u64>,
+    /// Of each handle, whether its number names nothing else of the rank.
     pub only: Vec<bool>,
 }
 
@@ -246,6 +251,60 @@ fn counts_of(alloc: Global, handles: usize, held: &[HeldUses]) -> Result<Vec<u64
     Ok(counts)
 }
 
+/// Whether the last call of a group ends the handle's stretch: it frees or closes what the handle names, or gives the number
+/// anew.
+fn ends_with(uses: Uses, handle: Handle) -> bool
+    ensures { result ≡ ends_with uses handle }
+{
+    match handle.end {
+        Some(end) => end == uses.last.saturating_add(1),
+        None => false,
+    }
+}
+
+/// The handle that the calls of a group name.
+fn handle_held(handles: &[Handle], group: HeldUses) -> Option<Handle>
+    ensures { result ≡ option_and_then (slice_get handles.now) group.holder }
+{
+    handles.get(group.holder?).copied()
+}
+
+/// Whether the calls of a group don't end what they name.
+fn is_use(handles: &[Handle], group: HeldUses) -> bool
+    ensures { result ≡ is_use handles.now group }
+{
+    match handle_held(handles, group) {
+        Some(handle) => !ends_with(group.uses, handle),
+        None => true,
+    }
+}
+
+/// The groups but for the calls that end what they name.
+fn but_ends(
+    alloc: Global,
+    handles: &[Handle],
+    held: &[HeldUses],
+) -> Result<Vec<HeldUses>, AllocError>
+    ensures { IfOk result (λ v. v.items ≡ but_ends handles.now held.now) }
+{
+    let mut uses = Vec::new(alloc);
+    for group in held {
+        if is_use(handles, *group) {
+            uses.push(*group)?;
+        }
+    }
+    Ok(uses)
+}
+
+/// How many calls name each handle that don't end it.
+fn used_of(alloc: Global, handles: &[Handle], held: &[HeldUses]) -> Result<Vec<u64>, AllocError>
+    ensures counts { IfOk result (λ v. EachIs v.items (count_of (but_ends handles.now held.now))) }
+    ensures each { IfOk result (λ v. length v.items ≡ length handles.now) }
+{
+    let uses = but_ends(alloc, handles, held)?;
+    counts_of(alloc, handles.len(), &uses)
+}
+
 /// The numbers by which calls mean no handle.
 fn strays_of(alloc: Global, held: &[HeldUses]) -> Result<IndexMap<u32, ()>, AllocError>
     ensures { IfOk result (λ v. (m : ℕ) → is_some (get nat_eq v m) ≡ is_stray held.now m) }
@@ -291,6 +350,17 @@ fn only_of(alloc: Global, handles: &[Handle], held: &[HeldUses]) -> Result<Vec<b
     Ok(only)
 }
 
+/// What groups of calls say of handles.
+fn tally(alloc: Global, handles: &[Handle], held: &[HeldUses]) -> Result<HandleUses, AllocError>
+    ensures { IfOk result (IsTally handles.now held.now) }
+{
+    Ok(HandleUses {
+        counts: counts_of(alloc, handles.len(), held)?,
+        used: used_of(alloc, handles, held)?,
+        only: only_of(alloc, handles, held)?,
+    })
+}
+
 /// What the calls of a rank name: those of the profile, and those on communicators.
 #[tactic(auto, using(crate::proofs::Holders::counted))]
 fn uses_of(alloc: Global, view: &RankView, calls: &RankCalls) -> Result<HandleUses, AllocError>
@@ -299,10 +369,7 @@ fn uses_of(alloc: Global, view: &RankView, calls: &RankCalls) -> Result<HandleUs
     let handles = &view.handles;
     let mut held = held_by(alloc, handles, &calls.uses)?;
     add_calls(&calls.calls, &view.meant, &mut held)?;
-    Ok(HandleUses {
-        counts: counts_of(alloc, handles.len(), &held)?,
-        only: only_of(alloc, handles, &held)?,
-    })
+    tally(alloc, handles, &held)
 }
 
 /// These calls that name windows, or files, and behind them those that end one.
@@ -334,10 +401,7 @@ fn object_uses(
 {
     let uses = with_ends(alloc, object, uses, calls)?;
     let held = held_by(alloc, handles, &uses)?;
-    Ok(HandleUses {
-        counts: counts_of(alloc, handles.len(), &held)?,
-        only: only_of(alloc, handles, &held)?,
-    })
+    tally(alloc, handles, &held)
 }
 
 /// What the calls of a rank name of objects of one sort.
@@ -412,6 +476,37 @@ pub(crate) fn uses_by(uses: &AllUses, object: Object) -> &[HandleUses]
         Object::Communicator => &uses.comms,
         Object::Window => &uses.windows,
         Object::File => &uses.files,
+    }
+}
+
+/// How many calls name a handle of a rank that don't end it.
+fn used_at(uses: &[HandleUses], rank: u32, handle: Option<usize>) -> u64
+    ensures { result ≡ used_at uses.now rank handle }
+{
+    let Some(handle) = handle else {
+        return 0;
+    };
+    match uses.get(rank as usize) {
+        Some(uses) => match uses.used.get(handle) {
+            Some(count) => *count,
+            None => 0,
+        },
+        None => 0,
+    }
+}
+
+/// How many calls name a handle of a rank: all, or those that don't end it.
+pub(crate) fn count_for(
+    choice: Choice,
+    uses: &[HandleUses],
+    rank: u32,
+    handle: Option<usize>,
+) -> u64
+    ensures { result ≡ count_for choice uses.now rank handle }
+{
+    match choice {
+        Choice::Named => count_at(uses, rank, handle),
+        Choice::Used => used_at(uses, rank, handle),
     }
 }
 

@@ -6,11 +6,12 @@ ghost use Rattle.std.specs.List.{filter_map, range_with_len, slice_get};
 ghost use Rattle.std.specs.Option.{option_and_then};
 ghost use Rattle.comm_makings.specs.Written.{AreChosen, AreIn, AreOthers, AreWrittenOf, HasNumber, IsNamedOnly, IsWorld, IsWritten, IsWrittenOf, entry_of, handle_at, handles_by, is_comm, is_named, is_only, named_at, only_number, stretch_of};
 
+use crate::answer::Choice;
 use crate::handle::Handle;
 use crate::names::always;
 use crate::parts::first_places;
 use crate::state::{Made, Member, Order, comm_at, copy_of};
-use crate::uses::{AllUses, HandleUses, count_at, uses_by};
+use crate::uses::{AllUses, HandleUses, count_for, uses_by};
 use crate::view::RankView;
 use indexmap::IndexMap;
 use mpi_model::{Comm, Object, Stretch};
@@ -60,14 +61,12 @@ fn is_only(uses: &[HandleUses], rank: u32, handle: usize) -> bool
     }
 }
 
-/// Whether a call names it.
-fn is_named(uses: &AllUses, made: &Made) -> bool
-    ensures { result ≡ is_named uses.now made.now }
+/// Whether a call names it, or one that doesn't end it, as is chosen.
+fn is_named(choice: Choice, uses: &AllUses, made: &Made) -> bool
+    ensures { result ≡ is_named choice uses.now made.now }
 {
     let uses = uses_by(uses, made.object);
-    made.members
-        .iter()
-        .any(|member| count_at(uses, member.rank, member.handle) > 0)
+    made.members.iter().any(|member| count_for(choice, uses, member.rank, member.handle) > 0)
 }
 
 /// A communicator, a window or a file by its place among all, in the order of a layout.
@@ -78,11 +77,11 @@ struct Named {
 }
 
 /// What is at this place, where it isn't the world and is named.
-fn named_at(uses: &AllUses, made: &[Made], place: usize) -> Option<Named>
-    ensures { result ≡ named_at uses.now made.now place }
+fn named_at(choice: Choice, uses: &AllUses, made: &[Made], place: usize) -> Option<Named>
+    ensures { result ≡ named_at choice uses.now made.now place }
 {
     let one = comm_at(made, place)?;
-    if one.order.class > 0 && is_named(uses, one) {
+    if one.order.class > 0 && is_named(choice, uses, one) {
         Some(Named {
             order: one.order,
             place,
@@ -93,12 +92,17 @@ fn named_at(uses: &AllUses, made: &[Made], place: usize) -> Option<Named>
 }
 
 /// What is named, but for the world, as it was derived.
-fn all_named(alloc: Global, uses: &AllUses, made: &[Made]) -> Result<Vec<Named>, AllocError>
-    ensures { IfOk result (λ v. v.items ≡ filter_map (named_at uses.now made.now) (range_with_len 0 (length made.now))) }
+fn all_named(
+    alloc: Global,
+    choice: Choice,
+    uses: &AllUses,
+    made: &[Made],
+) -> Result<Vec<Named>, AllocError>
+    ensures { IfOk result (λ v. v.items ≡ filter_map (named_at choice uses.now made.now) (range_with_len 0 (length made.now))) }
 {
     let mut named = Vec::new(alloc);
     for place in 0..made.len() {
-        if let Some(one) = named_at(uses, made, place) {
+        if let Some(one) = named_at(choice, uses, made, place) {
             named.push(one)?;
         }
     }
@@ -106,10 +110,15 @@ fn all_named(alloc: Global, uses: &AllUses, made: &[Made]) -> Result<Vec<Named>,
 }
 
 /// What is named, but for the world, in its order.
-fn named_in(alloc: Global, uses: &AllUses, made: &[Made]) -> Result<Vec<Named>, AllocError>
-    ensures { IfOk result (λ v. AreChosen uses.now made.now v.items) }
+fn named_in(
+    alloc: Global,
+    choice: Choice,
+    uses: &AllUses,
+    made: &[Made],
+) -> Result<Vec<Named>, AllocError>
+    ensures { IfOk result (λ v. AreChosen choice uses.now made.now v.items) }
 {
-    let mut named = all_named(alloc, uses, made)?;
+    let mut named = all_named(alloc, choice, uses, made)?;
     named.sort()?;
     Ok(named)
 }
@@ -377,14 +386,15 @@ fn written_all(
 #[tactic(auto, using(crate::proofs::Choices::chosen_in))]
 fn others(
     alloc: Global,
+    choice: Choice,
     largest: u32,
     views: &[RankView],
     uses: &AllUses,
     made: &[Made],
 ) -> Result<Vec<Comm>, AllocError>
-    ensures { IfOk result (λ comms. AreOthers views.now uses.now made.now comms.items) }
+    ensures { IfOk result (λ comms. AreOthers choice views.now uses.now made.now comms.items) }
 {
-    let named = named_in(alloc, uses, made)?;
+    let named = named_in(alloc, choice, uses, made)?;
     let owners = owners_of(alloc, views, made, &named)?;
     written_all(alloc, largest, views, uses, made, &named, &owners)
 }
@@ -393,16 +403,17 @@ fn others(
 #[tactic(auto, using(crate::proofs::Choices::is_written))]
 pub(crate) fn written(
     alloc: Global,
+    choice: Choice,
     world: u32,
     ranks: u32,
     views: &[RankView],
     uses: &AllUses,
     made: &[Made],
 ) -> Result<Vec<Comm>, AllocError>
-    ensures { IfOk result (λ comms. IsWritten world ranks views.now uses.now made.now comms.items) }
+    ensures { IfOk result (λ comms. IsWritten choice world ranks views.now uses.now made.now comms.items) }
 {
     let largest = largest_number(world, views);
-    let mut others = others(alloc, largest, views, uses, made)?;
+    let mut others = others(alloc, choice, largest, views, uses, made)?;
     let mut comms = Vec::new(alloc);
     comms.push(world_comm(alloc, world, ranks)?)?;
     comms.append(&mut others)?;

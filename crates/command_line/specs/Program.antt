@@ -21,7 +21,7 @@ use Rattle.command_line.specs.declared.Wanted.{Wanted}
 use Rattle.command_line.specs.declared.Extent.{Extent}
 use Rattle.command_line.specs.declared.Extent.TheVariants.{Cut, Whole}
 use Rattle.command_line.specs.declared.Verb.{Verb}
-use Rattle.command_line.specs.declared.Verb.TheVariants.{Explain, ExplainJson, ExplainRank, Graph, Report, ReportJson, Replay, Check, Pack}
+use Rattle.command_line.specs.declared.Verb.TheVariants.{Explain, ExplainJson, ExplainRank, Graph, Page, Report, ReportJson, Replay, Check, Pack}
 
 -- the texts behind these references
 abbrev pub texts_of : List (Bor Text) → List Text
@@ -129,7 +129,7 @@ bare = on_top (λ s. record s { has_version = true; subcommand_required = true }
 
 -- the program with the verbs that say what happened in a run
 abbrev pub answering : App
-answering = with_report (with_graph (with_explain bare))
+answering = with_report (with_files (with_graph (with_explain bare)) (codes "page"))
 
 -- all verbs of the program
 abbrev pub program : App
@@ -139,6 +139,7 @@ program = with_init (with_pair (with_files (with_pair (with_pair answering (code
 abbrev pub verb_named : Text → Option Verb
 verb_named name = if bytes_eq name (codes "explain") then Some (Explain Cut)
     else if bytes_eq name (codes "graph") then Some (Graph Cut)
+    else if bytes_eq name (codes "page") then Some Page
     else if bytes_eq name (codes "report") then Some Report
     else if bytes_eq name (codes "replay") then Some Replay
     else if bytes_eq name (codes "check") then Some Check

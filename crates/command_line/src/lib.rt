@@ -41,6 +41,8 @@ pub enum Verb {
     ExplainRank(u32),
     /// Draw what holds up the run, and who waits for it, as Graphviz DOT.
     Graph(Extent),
+    /// Write what holds up the run as a page, one HTML file.
+    Page,
     /// Print the report of a trace.
     Report,
     /// Print the report as one JSON object.
@@ -200,6 +202,14 @@ A rank needs each rank to which a solid arrow leads, and one of those to which t
 small point lead.
 "#;
 
+/// What the help of `page` says below its arguments.
+const PAGE_HELP: &str = r#"Example: mpimatch page layout.json manifest.json >hang.html
+
+It writes one HTML file that a browser opens without a network or a server: what holds up the run, a
+picture of who waits for it, and tables that sort and filter: where all ranks stand, which messages and
+receives found no partner, and what may make that wrong. It has the facts of explain --json and no others.
+"#;
+
 /// What the help of `report` says below its arguments.
 const REPORT_HELP: &str =
     r#"It joins the pieces of the trace, in whatever order they come, and prints:
@@ -293,12 +303,13 @@ It writes both or none, and over a file that is there only with --force. It prin
 calls and communicators with their members, and what it left out, by the call that made it.
 The first text is that of rank 0, and so on; or the digits at each name's end are the rank, where every
 name has some and they are 0 to n-1, each once.
-To get the answer at once, give the texts to explain, graph, report or check in place of both files.
+To get the answer at once, give the texts to explain, graph, page, report or check in place of both files.
 "#;
 
 /// What the help says below the verbs.
 const MORE_HELP: &str =
-    r#"To see what is wrong: explain. A picture: graph. All facts: report. A check of the answer: check.
+    r#"To see what is wrong: explain. A picture: graph. A page to look at, and to send: page.
+All facts: report. A check of the answer: check.
 Nodes that exchange what they know: replay, cluster. A trace in parts, on many machines: pack.
 A layout and a manifest from texts: init.
 
@@ -374,6 +385,13 @@ fn answering_command<'a>(alloc: Global) -> Result<Command<'a>, AllocError>
 {
     let command = with_explain(bare_command(alloc), alloc)?;
     let command = with_graph(command, alloc)?;
+    let command = with_files(
+        command,
+        alloc,
+        "page",
+        "Writes what holds up the run as a page for a browser, in one file",
+        PAGE_HELP,
+    )?;
     with_report(command, alloc)
 }
 
@@ -679,6 +697,8 @@ fn verb_of(name: &str) -> Option<Verb>
         Some(Verb::Explain(Extent::Cut))
     } else if name == "graph" {
         Some(Verb::Graph(Extent::Cut))
+    } else if name == "page" {
+        Some(Verb::Page)
     } else if name == "report" {
         Some(Verb::Report)
     } else if name == "replay" {

@@ -16,6 +16,7 @@ pub mod Nodes
 pub mod Notes
 pub mod Packed
 pub mod Packs
+pub mod Pages
 pub mod Pieces
 pub mod Prepared
 pub mod Ranks

@@ -3,10 +3,9 @@ use Rattle.std.specs.Prelude.{◌≡◌, ◌<◌, ◌≤◌, ◌⊎◌, ◌++◌
 use Rattle.mpi_model.specs.Layouts.{Holds}
 use Rattle.mpi_model.specs.declared.layout.Sends.{Sends}
 use Rattle.mpi_model.specs.declared.layout.TheConstants.{MOST_RANKS}
-use Rattle.comm_makings.specs.Derived.{IsSound}
 use Rattle.comm_makings.specs.World.{world_of}
 use Rattle.comm_makings.specs.declared.calls.RankCalls.{RankCalls}
-use Rattle.text_layouts.specs.Making.{RefusesMaking, whole_texts}
+use Rattle.text_layouts.specs.Making.{AreObjectsOf, RefusesMaking, whole_texts}
 use Rattle.text_layouts.specs.Names.{IsOrder, IsTwice, numbers_of}
 use Rattle.text_layouts.specs.Words.{notes_text}
 use Rattle.text_layouts.specs.declared.made.Made.{Made}
@@ -44,7 +43,7 @@ pub record IsMadeOf (file : List ℕ → Option (List ℕ)) (sends : Sends) (wor
   pub calls : ℕ
   pub say : AllSay file names ranks calls
   pub world : made.derived.world ≡ world_of ranks
-  pub sound : IsSound (world_of ranks) ranks made.derived.comms.items
+  pub objects : AreObjectsOf sends ranks made.derived.comms.items
   pub layout : Holds (length ranks) made.derived.world sends made.derived.comms.items made.input.layout
   pub manifest : made.input.manifest ≡ whole_texts names
 

@@ -5,12 +5,13 @@ use Rattle.mpi_model.specs.Layouts.{Parts}
 use Rattle.trace_check.specs.Checker.{IsCheckOf}
 use Rattle.trace_wire.specs.Packed.{IsPacked}
 use Rattle.command_line.specs.declared.Verb.{Verb}
-use Rattle.command_line.specs.declared.Verb.TheVariants.{Explain, ExplainJson, ExplainRank, Graph, Report, ReportJson, Replay, Check, Pack}
+use Rattle.command_line.specs.declared.Verb.TheVariants.{Explain, ExplainJson, ExplainRank, Graph, Page, Report, ReportJson, Replay, Check, Pack}
 use Rattle.run_files.specs.Manifests.{ManifestParts}
 use Rattle.command_runs.specs.Clusters.{IsClusterOf, RefusesCluster}
 use Rattle.command_runs.specs.Explains.{IsExplainOf}
 use Rattle.command_runs.specs.Known.{OfAllTold}
 use Rattle.command_runs.specs.Packs.{RefusesPack}
+use Rattle.command_runs.specs.Pages.{IsPageOf}
 use Rattle.command_runs.specs.Refusals.{RefusesNamed}
 use Rattle.command_runs.specs.Replays.{BeginsReplayOf, IsReplayOf, RefusesReplay}
 use Rattle.command_runs.specs.Said.{IsReported, IsReportedJson}
@@ -26,6 +27,7 @@ IsOutputOf file (Explain extent) l m text = IsExplainOf file l m text
 IsOutputOf file ExplainJson l m text = IsExplainOf file l m text
 IsOutputOf file (ExplainRank rank) l m text = IsExplainOf file l m text
 IsOutputOf file (Graph extent) l m text = IsExplainOf file l m text
+IsOutputOf file Page l m text = IsPageOf file l m text
 IsOutputOf file Report l m text = OfAllTold file l m (λ view. IsReported l view text)
 IsOutputOf file ReportJson l m text = OfAllTold file l m (λ view. IsReportedJson l view text)
 IsOutputOf file Replay l m text = IsReplayOf file l m text

@@ -13,6 +13,7 @@ use crate::load::watch::Watcher;
 use crate::verbs::check::check;
 use crate::verbs::explain::{Printing, explain};
 use crate::verbs::pack::pack;
+use crate::verbs::page::page;
 use crate::verbs::replay::replay;
 use crate::verbs::report::{report, report_as_json};
 use command_line::Verb;
@@ -88,6 +89,7 @@ pub fn run_with<O: Opener, V: Watcher, W: Write>(
         Verb::ExplainJson => explain(Printing::Json, run, watcher, out),
         Verb::ExplainRank(rank) => explain(Printing::Rank(rank), run, watcher, out),
         Verb::Graph(extent) => explain(Printing::Picture(extent), run, watcher, out),
+        Verb::Page => page(run, watcher, out),
         Verb::Report => report(run, watcher, out),
         Verb::ReportJson => report_as_json(run, watcher, out),
         Verb::Replay => replay(run, watcher, out),

@@ -1,11 +1,13 @@
 //! A diagnosis as JSON: one object on one line.
 
+use crate::disagreements::{LONGEST_VALUE, value_text, what_differs};
 use crate::functions::sort_word;
 use crate::source::Source;
 use crate::texts::TextFacts;
 use call_words::{Text, put_seconds};
 use mpi_model::{CollectiveFunction, Layout, OpName, Sends};
 use std::alloc::{AllocError, Global};
+use trace_arguments::{Disagreement, Line, Truncated, ValueGroup};
 use trace_diagnosis::{
     Beyond, CallGroup, Diagnosis, Doubts, Foreign, LeftOver, MismatchedRound, NearMessage,
     NearReceive, OpenRound, Polling, Root, RootKind, RoundName, Stand, Standing, Starving, Why,
@@ -33,6 +35,7 @@ pub fn diagnosis_json(
     json.put_waiting();
     json.put_rounds();
     json.put_unmatched();
+    json.put_arguments();
     json.put_rest();
     let Json { out, .. } = json;
     out.into_bytes()
@@ -441,7 +444,7 @@ impl<'a> Json<'a> {
         self.put(b"]}");
     }
 
-    /// Messages, receives and requests that found no end, and arguments that don't agree.
+    /// Messages, receives and requests that found no end.
     fn put_unmatched(&mut self) {
         let unmatched = &self.source.diagnosis.unmatched;
         self.put(b",\"left_over\":[");
@@ -459,7 +462,64 @@ impl<'a> Json<'a> {
             self.put(comma(i));
             self.put_call(*name);
         }
-        self.put(b"],\"truncated\":[],\"arguments\":[]");
+        self.put(b"]");
+    }
+
+    /// A message that is longer than its receive.
+    fn put_truncated(&mut self, truncated: &Truncated) {
+        self.put(b"{\"message\":");
+        self.put_call(truncated.message.name);
+        self.put(b",\"receive\":");
+        self.put_call(truncated.receive.name);
+        self.put(b",\"sent\":");
+        self.put_number(truncated.message.count as u64);
+        self.put(b",\"room\":");
+        self.put_number(truncated.receive.count as u64);
+        self.put(b"}");
+    }
+
+    fn put_value_group(&mut self, line: Line, group: &ValueGroup) {
+        self.put(b"{\"value\":");
+        match value_text(self.source.alloc, line, group.value(), LONGEST_VALUE) {
+            Ok(value) => self.put_string(&value),
+            Err(_) => self.out.give_up(),
+        }
+        self.put_ranks_of(b",\"ranks\":", group.ranks());
+        self.put(b",\"call\":");
+        self.put_call(group.call());
+        self.put(b"}");
+    }
+
+    /// A round in which arguments don't agree.
+    fn put_disagreement(&mut self, one: &Disagreement) {
+        self.put(b"{");
+        self.put_round(one.comparison.round);
+        self.put(b",\"kind\":");
+        self.put_kind(one.function);
+        self.put(b",\"what\":");
+        self.put_string(what_differs(one.function, one.comparison.line));
+        self.put(b",\"groups\":[");
+        for (i, group) in one.groups.iter().enumerate() {
+            self.put(comma(i));
+            self.put_value_group(one.comparison.line, group);
+        }
+        self.put(b"]}");
+    }
+
+    /// Arguments that don't agree.
+    fn put_arguments(&mut self) {
+        let texts = self.source.texts;
+        self.put(b",\"truncated\":[");
+        for (i, truncated) in texts.truncated.iter().enumerate() {
+            self.put(comma(i));
+            self.put_truncated(truncated);
+        }
+        self.put(b"],\"arguments\":[");
+        for (i, one) in texts.arguments.iter().enumerate() {
+            self.put(comma(i));
+            self.put_disagreement(one);
+        }
+        self.put(b"]");
     }
 
     /// The functions that may wait or move data and that aren't read.

@@ -10,8 +10,8 @@
 //!   it draws
 //! - [`words`]: in words: what is told, in what order, and where a list is cut; [`doubts_of_answer`]: what makes the
 //!   answer doubtful; [`one_rank`] and [`calls_of_rank`]: of one rank; [`sentences`]: all sentences; [`writer`],
-//!   [`functions`], [`calls`]: names of things; [`groups`]: ranks that stand alike; [`requests`]: which open requests
-//!   are told
+//!   [`functions`], [`calls`]: names of things; [`groups`]: ranks that stand alike; [`disagreements`]: rounds of which one
+//!   thing is said; [`requests`]: which open requests are told
 //! - [`doubtful`]: which functions may wait or move data and aren't read
 //!
 //! To change something, open:
@@ -29,6 +29,7 @@
 
 mod calls;
 mod calls_of_rank;
+mod disagreements;
 mod doubtful;
 mod doubts_of_answer;
 mod functions;
@@ -48,7 +49,7 @@ mod writer;
 pub use calls_of_rank::last_calls;
 pub use doubts_of_answer::answer_doubts;
 pub use json::diagnosis_json;
-pub use named::named_calls;
+pub use named::{argument_calls, named_calls};
 pub use one_rank::rank_words;
 pub use picture::diagnosis_picture;
 pub use texts::{CutText, LocalCalls, PlacedSite, TextFacts};

@@ -1,6 +1,7 @@
-//! Which calls a diagnosis names.
+//! Which calls a diagnosis names, and which arguments that don't agree.
 
 use crate::calls_of_rank::MOST_CALLS;
+use crate::texts::TextFacts;
 use crate::words::front;
 use std::alloc::{AllocError, Global};
 use trace_diagnosis::Diagnosis;
@@ -54,6 +55,25 @@ pub fn named_calls(
         calls.push((name.rank, name.call))?;
         if let Some(init) = &operation.init {
             calls.push((name.rank, init.number))?;
+        }
+    }
+    calls.sort()?;
+    once(alloc, calls.as_slice())
+}
+
+/// The calls whose arguments don't agree, by rank and number, in rising order and each once.
+pub fn argument_calls(alloc: Global, texts: &TextFacts) -> Result<Vec<(u32, u64)>, AllocError> {
+    let mut calls = Vec::new(alloc);
+    for truncated in texts.truncated.iter() {
+        let message = truncated.message.name;
+        calls.push((message.rank, message.call))?;
+        let receive = truncated.receive.name;
+        calls.push((receive.rank, receive.call))?;
+    }
+    for disagreement in texts.arguments.iter() {
+        for group in disagreement.groups.iter() {
+            let call = group.call();
+            calls.push((call.rank, call.call))?;
         }
     }
     calls.sort()?;

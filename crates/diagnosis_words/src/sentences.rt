@@ -1,5 +1,6 @@
 //! All sentences, each once, by what they are of.
 
+mod arguments;
 mod doubts;
 mod head;
 mod messages;

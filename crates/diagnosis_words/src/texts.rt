@@ -3,6 +3,7 @@
 use crate::doubtful::is_doubtful;
 use std::alloc::{AllocError, Global};
 use text_notes::{CallSite, Look, TextNote, note_of};
+use trace_arguments::{Disagreement, Truncated};
 
 /// What the texts of a run tell of its calls and of themselves. It is empty if there is no text.
 #[derive(Debug, Drop)]
@@ -17,6 +18,10 @@ pub struct TextFacts {
     pub cut: Vec<CutText>,
     /// The greatest size that MPI_Comm_size tells of MPI_COMM_WORLD.
     pub size: Option<u64>,
+    /// The messages that are longer than their receives, by message.
+    pub truncated: Vec<Truncated>,
+    /// The rounds in which arguments of calls don't agree, by object and number, and by line of the table.
+    pub arguments: Vec<Disagreement>,
 }
 
 /// Where a call of a rank stands in its text.
@@ -71,6 +76,8 @@ impl TextFacts {
             local: Vec::new(alloc),
             cut: Vec::new(alloc),
             size: None,
+            truncated: Vec::new(alloc),
+            arguments: Vec::new(alloc),
         }
     }
 

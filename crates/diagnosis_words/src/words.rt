@@ -1,5 +1,6 @@
 //! A diagnosis in words.
 
+use crate::disagreements::{Alike, alike_in};
 use crate::groups::{Group, groups_of};
 use crate::sentences::headline_of;
 use crate::source::Source;
@@ -50,6 +51,7 @@ pub fn diagnosis_words(
     writer.put_headline(headline);
     writer.put_summary();
     writer.put_roots(cap)?;
+    writer.put_arguments(&lists, cap);
     writer.put_groups(&lists, cap);
     writer.put_other_rounds(&lists, cap);
     writer.put_open_rounds(cap);
@@ -63,6 +65,8 @@ pub fn diagnosis_words(
 #[derive(Drop)]
 struct Lists {
     groups: Vec<Group>,
+    /// The rounds in which arguments don't agree, those that are told together as one.
+    arguments: Vec<Alike>,
     /// The places of the rounds whose calls don't match and that hold up nothing by themselves.
     mismatched: Vec<usize>,
     /// The places of left-over messages and of starving receives.
@@ -148,6 +152,7 @@ fn lists_of(source: Source<'_>) -> Result<Lists, AllocError> {
     let left = unmatched.left_over.as_slice();
     let starving = unmatched.starving.as_slice();
     let mismatched = other_rounds(source)?;
+    let arguments = alike_in(source)?;
     let mut lengths = Vec::new(alloc);
     lengths.push(diagnosis.waiting.roots.len())?;
     lengths.push(groups.len())?;
@@ -156,8 +161,11 @@ fn lists_of(source: Source<'_>) -> Result<Lists, AllocError> {
     lengths.push(left.len())?;
     lengths.push(starving.len())?;
     lengths.push(unmatched.unfinished.len())?;
+    lengths.push(source.texts.truncated.len())?;
+    lengths.push(arguments.len())?;
     Ok(Lists {
         groups,
+        arguments,
         mismatched,
         left_over: places_by(alloc, orders_of_left(alloc, left)?.as_slice())?,
         starving: places_by(alloc, orders_of_starving(alloc, starving)?.as_slice())?,
@@ -238,6 +246,27 @@ impl<'a> Writer<'a> {
     /// At how many lines a list is cut that isn't one of groups of ranks.
     fn list_cap(&self, cap: usize) -> usize {
         if self.all { cap } else { cap.min(MOST_SHOWN) }
+    }
+
+    /// Arguments that don't agree.
+    fn put_arguments(&mut self, lists: &Lists, cap: usize) {
+        let cap = self.list_cap(cap);
+        let truncated = self.source.texts.truncated.as_slice();
+        if !truncated.is_empty() {
+            self.put(b"\nMessages that are longer than their receives:\n");
+            for one in front(truncated, cap) {
+                self.put_truncated_line(one);
+            }
+            self.put_more(truncated.len(), cap);
+        }
+        let arguments = lists.arguments.as_slice();
+        if !arguments.is_empty() {
+            self.put(b"\nCollective calls whose arguments don't agree:\n");
+            for alike in front(arguments, cap) {
+                self.put_disagreement_line(*alike);
+            }
+            self.put_more(arguments.len(), cap);
+        }
     }
 
     /// Where the ranks stand.

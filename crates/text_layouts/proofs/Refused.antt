@@ -1,12 +1,12 @@
 -- Why nothing is made, by what refuses it.
 use Rattle.std.proofs.Common.{◌≡◌, ◌<◌, ◌⊎◌, ℕ, List, None, length, inl, inr, refl, subst}
+use Rattle.mpi_model.specs.declared.layout.Sends.{Sends}
 use Rattle.mpi_model.specs.declared.layout.TheConstants.{MOST_RANKS}
 use Rattle.mpi_model.specs.Communicators.{Communicator}
 use Rattle.mpi_model.specs.declared.layout.fault.LayoutFault.TheVariants.{RankCount}
-use Rattle.comm_makings.specs.Derived.{IsSound}
 use Rattle.comm_makings.specs.World.{world_fault, world_of}
 use Rattle.comm_makings.specs.declared.calls.RankCalls.{RankCalls}
-use Rattle.text_layouts.specs.Making.{RefusesLayout, RefusesMaking, RefusesWorld, TellsOneWorld}
+use Rattle.text_layouts.specs.Making.{AreObjectsOf, RefusesLayout, RefusesMaking, RefusesWorld, TellsOneWorld}
 use Rattle.text_layouts.specs.Sizes.{size_fault}
 use Rattle.text_layouts.specs.declared.fault.MadeFault.{MadeFault}
 use Rattle.text_layouts.specs.declared.fault.MadeFault.TheVariants as faults
@@ -22,17 +22,17 @@ by_world ranks (faults.Layout fault) none h = absurd h
 by_world ranks faults.LayoutFile none h = absurd h
 by_world ranks faults.ManifestFile none h = absurd h
 
-layout_refused : (ranks : List RankCalls) (comms : List Communicator) (fault : MadeFault) → TellsOneWorld ranks → IsSound (world_of ranks) ranks comms
+layout_refused : (ranks : List RankCalls) (sends : Sends) (comms : List Communicator) (fault : MadeFault) → TellsOneWorld ranks → AreObjectsOf sends ranks comms
     → RefusesLayout (length ranks) (world_of ranks) comms fault → RefusesMaking ranks fault
-layout_refused ranks comms faults.Memory one sound h = tt
-layout_refused ranks comms (faults.Size rank size) one sound h = absurd h
-layout_refused ranks comms (faults.World first second) one sound h = absurd h
-layout_refused ranks comms (faults.Layout fault) one sound h = inr (one, record { comms = comms; sound = sound; rule = h })
-layout_refused ranks comms faults.LayoutFile one sound h = absurd h
-layout_refused ranks comms faults.ManifestFile one sound h = absurd h
+layout_refused ranks sends comms faults.Memory one are h = tt
+layout_refused ranks sends comms (faults.Size rank size) one are h = absurd h
+layout_refused ranks sends comms (faults.World first second) one are h = absurd h
+layout_refused ranks sends comms (faults.Layout fault) one are h = inr (one, record { comms = comms; sends = sends; are = are; rule = h })
+layout_refused ranks sends comms faults.LayoutFile one are h = absurd h
+layout_refused ranks sends comms faults.ManifestFile one are h = absurd h
 
-pub by_layout : (ranks : List RankCalls) (n world : ℕ) (comms : List Communicator) (fault : MadeFault) → n ≡ length ranks → world ≡ world_of ranks
-    → size_fault ranks ≡ None → world_fault ranks ≡ None → IsSound (world_of ranks) ranks comms → RefusesLayout n world comms fault → RefusesMaking ranks fault
-by_layout ranks n world comms fault n_is world_is size number sound h =
-    layout_refused ranks comms fault (size, number) sound
+pub by_layout : (ranks : List RankCalls) (n world : ℕ) (sends : Sends) (comms : List Communicator) (fault : MadeFault) → n ≡ length ranks → world ≡ world_of ranks
+    → size_fault ranks ≡ None → world_fault ranks ≡ None → AreObjectsOf sends ranks comms → RefusesLayout n world comms fault → RefusesMaking ranks fault
+by_layout ranks n world sends comms fault n_is world_is size number are h =
+    layout_refused ranks sends comms fault (size, number) are
     (subst (λ (m : ℕ). RefusesLayout m (world_of ranks) comms fault) n_is (subst (λ (w : ℕ). RefusesLayout n w comms fault) world_is h))

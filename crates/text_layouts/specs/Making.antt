@@ -1,13 +1,15 @@
 -- What is made of the calls of all ranks, and why nothing is.
-use Rattle.std.specs.Prelude.{◌≡◌, ◌<◌, ◌≤◌, ◌⊎◌, ◌+◌, ℕ, List, [], ◌∷◌, Some, None, length}
+use Rattle.std.specs.Prelude.{◌≡◌, ◌<◌, ◌≤◌, ◌⊎◌, ◌+◌, ◌&&◌, ℕ, Bool, true, false, List, [], ◌∷◌, Some, None, length, nat_le}
 use Rattle.json.specs.Json.{Json}
 use Rattle.mpi_model.specs.Communicators.{Communicator}
 use Rattle.mpi_model.specs.Layouts.{fault_of}
-use Rattle.mpi_model.specs.declared.layout.TheConstants.{MOST_RANKS}
+use Rattle.mpi_model.specs.declared.layout.Sends.{Sends}
+use Rattle.mpi_model.specs.declared.layout.TheConstants.{MOST_COMMS, MOST_RANKS}
 use Rattle.mpi_model.specs.declared.layout.fault.LayoutFault.{LayoutFault}
 use Rattle.mpi_model.specs.declared.layout.fault.LayoutFault.TheVariants.{RankCount}
 use Rattle.comm_makings.specs.Derived.{IsSound}
 use Rattle.comm_makings.specs.World.{world_fault, world_of}
+use Rattle.comm_makings.specs.declared.answer.Choice.TheVariants as choices
 use Rattle.comm_makings.specs.declared.answer.DeriveFault.TheVariants as derives
 use Rattle.comm_makings.specs.declared.calls.RankCalls.{RankCalls}
 use Rattle.run_files.specs.Manifests.{ManifestParts, PieceParts, manifest_of_texts, whole_text}
@@ -27,6 +29,28 @@ texts_from rank (file ∷ files) = whole_text rank file ∷ texts_from (rank + 1
 abbrev pub whole_texts : List (List ℕ) → ManifestParts
 whole_texts files = manifest_of_texts (texts_from 0 files)
 
+-- ---- what the layout has
+
+-- the file of a layout of these communicators, windows and files isn't too long
+abbrev pub is_short : ℕ → ℕ → Sends → List Communicator → Bool
+is_short ranks world sends comms = nat_le (length (line_of (layout_value (parts_of ranks world sends comms)))) LONGEST_FILE
+
+-- they are no more than a layout can have, and its file isn't too long
+abbrev pub fits : ℕ → ℕ → Sends → List Communicator → Bool
+fits ranks world sends comms = nat_le (length comms) MOST_COMMS && is_short ranks world sends comms
+
+-- All that calls of these ranks name doesn't fit into a layout.
+pub record Outgrows (sends : Sends) (ranks : List RankCalls) : Type 0 where
+  pub named : List Communicator
+  pub sound : IsSound choices.Named (world_of ranks) ranks named
+  pub too_much : fits (length ranks) (world_of ranks) sends named ≡ false
+
+-- What a layout has of what these ranks make: all that some call names, where that fits, and else what some call names that
+-- doesn't end it.
+abbrev pub AreObjectsOf : Sends → List RankCalls → List Communicator → Type 0
+AreObjectsOf sends ranks comms = (IsSound choices.Named (world_of ranks) ranks comms × (fits (length ranks) (world_of ranks) sends comms ≡ true))
+    ⊎ (IsSound choices.Used (world_of ranks) ranks comms × Outgrows sends ranks)
+
 -- ---- why nothing is made
 
 -- the number of MPI_COMM_WORLD is refused, unless memory was wanting
@@ -45,10 +69,11 @@ RefusesLayout ranks world comms _ = ⊥
 abbrev pub AreMiscounted : List RankCalls → Type 0
 AreMiscounted ranks = (length ranks ≡ 0) ⊎ (MOST_RANKS < length ranks)
 
--- A rule of layouts refuses the communicators that these ranks make.
+-- A rule of layouts refuses what one has of what these ranks make, sends being so.
 pub record RefusesComms (ranks : List RankCalls) (fault : LayoutFault) : Type 0 where
   pub comms : List Communicator
-  pub sound : IsSound (world_of ranks) ranks comms
+  pub sends : Sends
+  pub are : AreObjectsOf sends ranks comms
   pub rule : fault_of (length ranks) (world_of ranks) comms ≡ Some fault
 
 -- No two ranks tell different things of MPI_COMM_WORLD: neither of its size nor of its number.

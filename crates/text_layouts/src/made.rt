@@ -5,13 +5,13 @@ ghost use Rattle.mpi_model.specs.Layouts.{Holds, fault_of};
 ghost use Rattle.comm_makings.specs.Derived.{IsSound};
 ghost use Rattle.comm_makings.specs.World.{world_fault, world_of};
 ghost use Rattle.text_layouts.specs.Sizes.{size_fault};
-ghost use Rattle.text_layouts.specs.Making.{RefusesLayout, RefusesMaking, RefusesWorld, texts_from, whole_texts};
+ghost use Rattle.text_layouts.specs.Making.{AreObjectsOf, RefusesLayout, RefusesMaking, RefusesWorld, fits, texts_from, whole_texts};
 
 use crate::fault::MadeFault;
 use crate::size::other_size;
-use comm_makings::{DeriveFault, Derived, RankCalls, derive};
-use mpi_model::{Comm, Layout, LayoutFault, MOST_RANKS, Sends, Stretch};
-use run_files::{Manifest, Piece, RunInput};
+use comm_makings::{Choice, DeriveFault, Derived, RankCalls, derive};
+use mpi_model::{Comm, Layout, LayoutFault, MOST_COMMS, MOST_RANKS, Sends, Stretch};
+use run_files::{LONGEST_FILE, Manifest, Piece, RunInput, layout_bytes};
 use std::alloc::{AllocError, Global};
 
 /// What is made of the texts of all ranks.
@@ -68,19 +68,48 @@ fn copies(alloc: Global, comms: &[Comm]) -> Result<Vec<Comm>, AllocError>
     Ok(all)
 }
 
-/// The communicators that the calls of all ranks make.
-fn derived_of(alloc: Global, ranks: &[RankCalls]) -> Result<Derived, MadeFault>
+/// The communicators that the calls of all ranks make, of which those are written that are chosen.
+fn derived_of(alloc: Global, choice: Choice, ranks: &[RankCalls]) -> Result<Derived, MadeFault>
     requires { length ranks.now < 2 ^ 32 }
     ensures world { IfOk result (λ d. d.world ≡ world_of ranks.now) }
     ensures none { OnOk result (world_fault ranks.now ≡ None) }
-    ensures sound { IfOk result (λ d. IsSound (world_of ranks.now) ranks.now d.comms.items) }
+    ensures sound { IfOk result (λ d. IsSound choice (world_of ranks.now) ranks.now d.comms.items) }
     ensures fault { IfErr result (λ e. RefusesWorld ranks.now e) }
 {
-    match derive(alloc, ranks) {
+    match derive(alloc, choice, ranks) {
         Ok(derived) => Ok(derived),
         Err(DeriveFault::Memory) => Err(MadeFault::Memory),
         Err(DeriveFault::World { first, second }) => Err(MadeFault::World { first, second }),
     }
+}
+
+/// Whether a layout of so many ranks can have what was derived: not more than it can have, and its file not too long.
+fn fits(alloc: Global, ranks: u32, sends: Sends, derived: &Derived) -> Result<bool, AllocError>
+    ensures { IfOk result (λ b. b ≡ fits ranks derived.now.world sends derived.now.comms.items) }
+{
+    if derived.comms.len() > MOST_COMMS {
+        return Ok(false);
+    }
+    let file = layout_bytes(alloc, ranks, derived.world, sends, &derived.comms)?;
+    Ok(file.len() <= LONGEST_FILE)
+}
+
+/// What a layout of these ranks has: all that some call names, or, where a layout can't have all that, what some call names
+/// that doesn't end it. A program may make and free any number of communicators without using them.
+#[tactic(auto, using(crate::proofs::Fitting::all_fit, crate::proofs::Fitting::used_are))]
+fn fitting(alloc: Global, sends: Sends, ranks: &[RankCalls]) -> Result<Derived, MadeFault>
+    requires { length ranks.now < 2 ^ 32 }
+    ensures world { IfOk result (λ d. d.world ≡ world_of ranks.now) }
+    ensures none { OnOk result (world_fault ranks.now ≡ None) }
+    ensures objects { IfOk result (λ d. AreObjectsOf sends ranks.now d.comms.items) }
+    ensures fault { IfErr result (RefusesWorld ranks.now) }
+{
+    let named = derived_of(alloc, Choice::Named, ranks)?;
+    if fits(alloc, ranks.len() as u32, sends, &named)? {
+        return Ok(named);
+    }
+    drop(named);
+    derived_of(alloc, Choice::Used, ranks)
 }
 
 /// The layout of these communicators, which the rules of layouts are tried on.
@@ -131,7 +160,7 @@ pub fn made_of(
     ensures world { IfOk result (λ m. m.derived.world ≡ world_of ranks.now) }
     ensures told { OnOk result (world_fault ranks.now ≡ None) }
     ensures sizes { OnOk result (size_fault ranks.now ≡ None) }
-    ensures sound { IfOk result (λ m. IsSound (world_of ranks.now) ranks.now m.derived.comms.items) }
+    ensures objects { IfOk result (λ m. AreObjectsOf sends ranks.now m.derived.comms.items) }
     ensures layout { IfOk result (λ m. Holds (length ranks.now) m.derived.world sends m.derived.comms.items m.input.layout) }
     ensures rules { IfOk result (λ m. fault_of (length ranks.now) m.derived.world m.derived.comms.items ≡ None) }
     ensures manifest { IfOk result (λ m. m.input.manifest ≡ whole_texts (map string_bytes files.now)) }
@@ -144,7 +173,7 @@ pub fn made_of(
     if let Some((rank, size)) = other_size(ranks, count) {
         return Err(MadeFault::Size { rank, size });
     }
-    let derived = derived_of(alloc, ranks)?;
+    let derived = fitting(alloc, sends, ranks)?;
     let layout = layout_of(alloc, count, sends, &derived)?;
     let texts = texts_of(alloc, files)?;
     let manifest = Manifest::of_texts(alloc, texts);

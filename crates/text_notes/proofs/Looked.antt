@@ -7,6 +7,7 @@ use Rattle.mpi_model.specs.declared.call.Call.{Call}
 use Rattle.dumpi_text.specs.Call.{TextCall}
 use Rattle.dumpi_calls.specs.RawWalks.{IsWalkedRaw, Taken}
 use Rattle.dumpi_calls.specs.declared.walking.Walked.{Walked}
+use Rattle.text_notes.specs.Arguments.{CallToldParts, arguments_from, call_told}
 use Rattle.text_notes.specs.Looks.{AreRead, IsLookOf, LookState, greater, greatest_size, local_from, looked, looking, nothing_looked, sites_from, size_of, wanted_site, with_local}
 use Rattle.text_notes.specs.Noted.{UnreadParts}
 use Rattle.text_notes.specs.Sites.{SiteParts}
@@ -16,6 +17,7 @@ pub record Goes (old : LookState) (calls : List (TextCall × Call)) (new : LookS
   pub sites_are : new.told.sites ≡ old.told.sites ++ sites_from old.wanted old.calls calls
   pub local_are : new.told.local ≡ local_from old.limit old.calls old.told.local calls
   pub size_is : new.told.size ≡ greater old.told.size (greatest_size calls)
+  pub arguments_are : new.told.arguments ≡ old.told.arguments ++ arguments_from old.calls calls
 
 max_assoc : (a b c : ℕ) → max (max a b) c ≡ max a (max b c)
 max_assoc a b c = omega arith
@@ -36,6 +38,7 @@ behind old new raw call calls goes = record {
   sites_are = goes.sites_are ∙ append_assoc old.told.sites (option_to_list (wanted_site old.wanted old.calls raw)) (sites_from old.wanted (one_more old.calls) calls);
   local_are = goes.local_are;
   size_is = goes.size_is ∙ greater_in_turn old.told.size (size_of raw) (greatest_size calls);
+  arguments_are = goes.arguments_are ∙ append_assoc old.told.arguments (option_to_list (call_told old.calls raw call)) (arguments_from (one_more old.calls) calls);
 }
 
 none : (old new : LookState) → new ≡ old → Goes old [] new
@@ -43,6 +46,7 @@ none old new same = record {
   sites_are = ap (λ (s : LookState). s.told.sites) same ∙ sym (append-nil old.told.sites);
   local_are = ap (λ (s : LookState). s.told.local) same;
   size_is = ap (λ (s : LookState). s.told.size) same ∙ greater_none old.told.size;
+  arguments_are = ap (λ (s : LookState). s.told.arguments) same ∙ sym (append-nil old.told.arguments);
 }
 
 goes_on : (raws : List TextCall) (old new : LookState) → Taken looking raws old new → (calls : List (TextCall × Call)) × AreRead raws calls × Goes old calls new
@@ -63,12 +67,12 @@ tells wanted limit (Some text) new walked w =
       whole = w.means;
       calls = all.0;
       read_as = all.1;
-      told = record { sites_are = all.2.sites_are; local_are = all.2.local_are; size_is = all.2.size_is };
+      told = record { sites_are = all.2.sites_are; local_are = all.2.local_are; size_is = all.2.size_is; arguments_are = all.2.arguments_are };
     }
 
 -- What is kept with one call more, part by part.
-pub looked_so : (old : LookState) (raw : TextCall) (call : Call) (calls : ℕ) (sites : List SiteParts) (local : List UnreadParts) (size : Option ℕ)
+pub looked_so : (old : LookState) (raw : TextCall) (call : Call) (calls : ℕ) (sites : List SiteParts) (local : List UnreadParts) (size : Option ℕ) (arguments : List CallToldParts)
     → calls ≡ one_more old.calls → sites ≡ old.told.sites ++ option_to_list (wanted_site old.wanted old.calls raw)
-    → local ≡ with_local old.limit old.calls (raw, call) old.told.local → size ≡ greater old.told.size (size_of raw)
-    → ◌≡◌ {A = LookState} (record { wanted = old.wanted; limit = old.limit; calls = calls; told = record { sites = sites; local = local; size = size } }) (looked old raw call)
-looked_so old raw call calls sites local size c s l z = rw (c, s, l, z) refl
+    → local ≡ with_local old.limit old.calls (raw, call) old.told.local → size ≡ greater old.told.size (size_of raw) → arguments ≡ old.told.arguments ++ option_to_list (call_told old.calls raw call)
+    → ◌≡◌ {A = LookState} (record { wanted = old.wanted; limit = old.limit; calls = calls; told = record { sites = sites; local = local; size = size; arguments = arguments } }) (looked old raw call)
+looked_so old raw call calls sites local size arguments c s l z a = rw (c, s, l, z, a) refl

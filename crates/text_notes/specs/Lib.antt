@@ -6,4 +6,5 @@ pub mod Words
 pub mod Whole
 pub mod Values
 pub mod Sites
+pub mod Arguments
 pub mod Looks

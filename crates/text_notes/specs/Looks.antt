@@ -17,6 +17,7 @@ use Rattle.dumpi_text.specs.declared.value.Value.{Value}
 use Rattle.dumpi_text.specs.declared.value.Value.TheVariants as values
 use Rattle.dumpi_calls.specs.Rows.{typed}
 use Rattle.dumpi_calls.specs.declared.typing.TypedCall.{TypedCall}
+use Rattle.text_notes.specs.Arguments.{CallToldParts, arguments_from, call_told}
 use Rattle.text_notes.specs.Noted.{UnreadParts, counted}
 use Rattle.text_notes.specs.Sites.{SiteParts, site_of}
 
@@ -92,18 +93,20 @@ greatest_size (call ∷ calls) = greater (size_of call.0) (greatest_size calls)
 
 -- ---- a whole text
 
--- What a look tells of a text: the call sites of the calls that were wanted, the functions of local calls, and the size
--- of the world.
+-- What a look tells of a text: the call sites of the calls that were wanted, the functions of local calls, the size of the world, and
+-- what collective calls tell of their arguments.
 pub record LookParts : Type 0 where
   pub sites : List SiteParts
   pub local : List UnreadParts
   pub size : Option ℕ
+  pub arguments : List CallToldParts
 
 -- The look tells what calls do.
 pub record TellsCalls (wanted : BTreeSet ℕ) (limit : ℕ) (calls : List (TextCall × Call)) (look : LookParts) : Type 0 where
   pub sites_are : look.sites ≡ sites_from wanted 0 calls
   pub local_are : look.local ≡ local_from limit 0 [] calls
   pub size_is : look.size ≡ greatest_size calls
+  pub arguments_are : look.arguments ≡ arguments_from 0 calls
 
 -- These are the calls of a text, each beside the call as which it is read.
 abbrev pub AreRead : List TextCall → List (TextCall × Call) → Type 0
@@ -135,7 +138,7 @@ pub record LookState : Type 0 where
 
 -- nothing was looked at
 abbrev pub nothing_looked : BTreeSet ℕ → ℕ → LookState
-nothing_looked wanted limit = record { wanted = wanted; limit = limit; calls = 0; told = record { sites = []; local = []; size = None } }
+nothing_looked wanted limit = record { wanted = wanted; limit = limit; calls = 0; told = record { sites = []; local = []; size = None; arguments = [] } }
 
 -- what is told with one call more
 abbrev pub told_after : LookState → TextCall × Call → LookParts
@@ -143,6 +146,7 @@ told_after old call = record {
   sites = old.told.sites ++ option_to_list (wanted_site old.wanted old.calls call.0);
   local = with_local old.limit old.calls call old.told.local;
   size = greater old.told.size (size_of call.0);
+  arguments = old.told.arguments ++ option_to_list (call_told old.calls call.0 call.1);
 }
 
 -- one call more

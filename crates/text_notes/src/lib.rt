@@ -7,7 +7,8 @@
 //!   [`start`]: what a text without calls is taken for
 //! - [`totals`]: the functions of all texts; [`pieceless`]: the ranks without a text
 //! - [`value`]: a second look at a text, at what it has for a parameter of a call; [`look`]: one at many calls, by a
-//!   sink ([`looking`]) that keeps from where in the program they were made ([`site`])
+//!   sink ([`looking`]) that keeps from where in the program they were made ([`site`]), and
+//!   what collective ones tell of their arguments ([`arguments`])
 //! - [`words`]: what is said of it
 //! - [`laws`]: that a walk into the sink collects what one without notes does
 //!
@@ -16,6 +17,7 @@
 //! - what a second look at a text tells: `specs/Sites.antt`, `specs/Looks.antt`; [`site`], [`looking`]
 #![tactic(auto)]
 
+mod arguments;
 mod function;
 mod laws;
 mod look;
@@ -29,6 +31,7 @@ mod totals;
 mod value;
 mod words;
 
+pub use arguments::CallTold;
 pub use function::UnreadFunction;
 pub use laws::noted_texts;
 pub use look::{Look, look_at};

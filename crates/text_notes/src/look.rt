@@ -5,6 +5,7 @@ ghost use Rattle.dumpi_text.specs.Failing.{Fails};
 ghost use Rattle.dumpi_calls.specs.Walks.{IsReadStop};
 ghost use Rattle.text_notes.specs.Looks.{IsLookOf};
 
+use crate::arguments::CallTold;
 use crate::function::UnreadFunction;
 use crate::looking::Looking;
 use crate::site::CallSite;
@@ -22,6 +23,7 @@ pub struct Look {
     pub(crate) sites: Vec<CallSite>,
     pub(crate) local: Vec<UnreadFunction>,
     pub(crate) size: Option<u64>,
+    pub(crate) arguments: Vec<CallTold>,
 }
 
 impl Model for Look {
@@ -29,7 +31,7 @@ impl Model for Look {
 
     ghost Value = { LookParts };
 
-    ghost view = { λ l. record { sites = l.sites.items; local = l.local.items; size = l.size } };
+    ghost view = { λ l. record { sites = l.sites.items; local = l.local.items; size = l.size; arguments = l.arguments.items } };
 }
 
 impl Look {
@@ -46,6 +48,13 @@ impl Look {
     {
         let Look { sites, .. } = self;
         sites
+    }
+
+    /// What collective calls tell of their arguments, in their order.
+    pub fn arguments(&self) -> &[CallTold]
+        ensures { result.now ≡ self.now.arguments }
+    {
+        self.arguments.as_slice()
     }
 
     /// The functions of local calls, in the order of their first such calls.
@@ -79,9 +88,8 @@ fn fault_of(fault: WalkFault<Memory>) -> LookFault
     }
 }
 
-/// Reads a text a second time: for the calls of these numbers, for the local calls whose numbers are below the limit,
-/// and for the size of the world. The text is read in one pass, and memory grows with what is found. [`LookFault`] says
-/// why it can't be read.
+/// Looks a second time at a text that was read: for the calls of these numbers, for the local calls whose numbers are below
+/// the limit, for the size of the world, and for the arguments of collective calls. The text is read in one pass, and memory grows with what is told.
 #[tactic(auto, using(crate::proofs::Looked::tells))]
 pub fn look_at<R: Read>(
     alloc: Global,

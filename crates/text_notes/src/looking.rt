@@ -6,9 +6,11 @@ ghost use Rattle.dumpi_text.specs.Value.{value_of};
 ghost use Rattle.text_notes.specs.Looks.{greater, is_local, is_world, is_world_name, natural_of, natural_value, nothing_looked, size_of, tells_size, value_in, wanted_site, with_local};
 ghost use Rattle.text_notes.specs.Noted.{counted};
 
+use crate::arguments::{CallTold, call_told, push_told};
 use crate::function::{UnreadFunction, place_of};
 use crate::look::Look;
 use crate::site::{CallSite, site_of};
+use call_arguments::LastTold;
 use dumpi_calls::{Memory, RawSink};
 use dumpi_text::{NumName, RawCall, Value, ValueFault, parse_value};
 use mpi_model::Call;
@@ -25,6 +27,8 @@ pub(crate) struct Looking<'a> {
     sites: Vec<CallSite>,
     local: Vec<UnreadFunction>,
     size: Option<u64>,
+    arguments: Vec<CallTold>,
+    last: LastTold,
 }
 
 impl<'a> Model for Looking<'a> {
@@ -32,7 +36,7 @@ impl<'a> Model for Looking<'a> {
 
     ghost Value = { LookState };
 
-    ghost view = { λ l. record { wanted = l.wanted.now; limit = l.limit; calls = l.calls; told = record { sites = l.sites.items; local = l.local.items; size = l.size } } };
+    ghost view = { λ l. record { wanted = l.wanted.now; limit = l.limit; calls = l.calls; told = record { sites = l.sites.items; local = l.local.items; size = l.size; arguments = l.arguments.items } } };
 }
 
 impl<'a> Looking<'a> {
@@ -47,6 +51,8 @@ impl<'a> Looking<'a> {
             sites: Vec::new(alloc),
             local: Vec::new(alloc),
             size: None,
+            arguments: Vec::new(alloc),
+            last: LastTold::new(alloc),
         }
     }
 
@@ -58,9 +64,15 @@ impl<'a> Looking<'a> {
             sites,
             local,
             size,
+            arguments,
             ..
         } = self;
-        Look { sites, local, size }
+        Look {
+            sites,
+            local,
+            size,
+            arguments,
+        }
     }
 }
 
@@ -241,9 +253,12 @@ impl<'a> RawSink for Looking<'a> {
         let alloc = *self.sites.allocator();
         let site = site_where(alloc, self.wanted, self.calls, raw)?;
         let size = size_of(alloc, raw)?;
+        let told = call_told(alloc, &mut self.last, self.calls, raw, &call)?;
         self.sites.reserve(1)?;
+        self.arguments.reserve(1)?;
         count_local(&mut self.local, self.limit, self.calls, raw, &call)?;
         push_site(&mut self.sites, site)?;
+        push_told(&mut self.arguments, told)?;
         self.size = greater(self.size, size);
         self.calls = self.calls.saturating_add(1);
         Ok(())

@@ -16,7 +16,8 @@ use crate::pieces::noted::noted_of;
 use crate::pieces::packed::{joined, packed_of};
 use crate::run::{Outcome, Run};
 use crate::verbs::answerer::Answerer;
-use crate::verbs::facts::facts_of;
+use crate::verbs::arguments::compare_arguments;
+use crate::verbs::facts::{add_places, facts_of};
 use crate::verbs::node::node_with;
 use crate::verbs::writing::write_text;
 use call_words::Text;
@@ -67,7 +68,7 @@ pub(crate) fn explain<O: Opener, V: Watcher, W: Write>(
 }
 
 /// What holds up the run, printed so.
-fn text_with<O: Opener, V: Watcher>(
+pub(crate) fn text_with<O: Opener, V: Watcher>(
     printing: Printing,
     run: &Run<'_, O>,
     watcher: &mut V,
@@ -118,7 +119,9 @@ fn diagnosed<N: Answerer, O: Opener>(
     };
     let know = node.knowledge();
     let diagnosis = diagnose(alloc, layout, answer, know, &[])?;
-    let texts = facts_of(alloc, &diagnosis, asked_of(printing), notes, files)?;
+    let (mut texts, calls) = facts_of(alloc, &diagnosis, asked_of(printing), notes, files)?;
+    compare_arguments(alloc, layout, answer, know, &calls, &mut texts)?;
+    add_places(alloc, &mut texts, files)?;
     match printing {
         Printing::Words(extent) => {
             in_words(alloc, layout, &diagnosis, &texts, answer, know, extent)

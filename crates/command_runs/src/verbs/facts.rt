@@ -2,10 +2,12 @@
 
 use crate::load::opener::Opener;
 use crate::load::second_look::reopened;
-use diagnosis_words::{TextFacts, named_calls};
+use crate::verbs::arguments::add_arguments;
+use diagnosis_words::{TextFacts, argument_calls, named_calls};
 use std::alloc::{AllocError, Global};
 use std::collections::BTreeSet;
 use text_notes::{Look, TextNote, look_at};
+use trace_arguments::CallsTold;
 use trace_diagnosis::Diagnosis;
 
 /// The numbers, among the calls of a text, of those that are named.
@@ -54,14 +56,16 @@ fn looked<O: Opener>(
     }
 }
 
-/// What the texts tell of the calls that the diagnosis names, and of the last ones of the rank that is asked for.
+/// What the texts tell of the calls that the diagnosis names, and of the last ones of the rank that is asked for; and what all
+/// collective calls tell of their arguments.
 pub(crate) fn facts_of<O: Opener>(
     alloc: Global,
     diagnosis: &Diagnosis,
     asked: Option<u32>,
     notes: Vec<TextNote>,
     files: &O,
-) -> Result<TextFacts, AllocError> {
+) -> Result<(TextFacts, CallsTold), AllocError> {
+    let mut calls = CallsTold::new(alloc);
     let named = named_calls(alloc, diagnosis, asked)?;
     let mut facts = TextFacts::none(alloc);
     facts.notes = notes;
@@ -72,9 +76,32 @@ pub(crate) fn facts_of<O: Opener>(
         let wanted = wanted_in(alloc, named.as_slice(), note)?;
         let limit = limit_of(diagnosis, note);
         if let Some(look) = looked(alloc, note, &wanted, limit, files) {
+            add_arguments(&mut calls, note, &look)?;
             facts.add(alloc, at, look)?;
         }
     }
     facts.finish()?;
-    Ok(facts)
+    Ok((facts, calls))
+}
+
+/// Adds where the calls stand whose arguments don't agree, where there are such.
+pub(crate) fn add_places<O: Opener>(
+    alloc: Global,
+    facts: &mut TextFacts,
+    files: &O,
+) -> Result<(), AllocError> {
+    let named = argument_calls(alloc, facts)?;
+    if named.is_empty() {
+        return Ok(());
+    }
+    for at in 0..facts.notes.len() {
+        let Some(note) = facts.notes.as_slice().get(at) else {
+            break;
+        };
+        let wanted = wanted_in(alloc, named.as_slice(), note)?;
+        if let Some(look) = looked(alloc, note, &wanted, 0, files) {
+            facts.add(alloc, at, look)?;
+        }
+    }
+    facts.finish()
 }

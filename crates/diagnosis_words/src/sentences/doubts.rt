@@ -9,14 +9,15 @@ use trace_diagnosis::{Doubts, Foreign};
 const MOST_NAMED: usize = 10;
 
 impl<'a> Writer<'a> {
-    /// Who would be stuck under the other kind of sends.
+    /// Writes which ranks would be stuck under the other kind of sends. The kind also says how early a collective call
+    /// may return (MPI 4.0, 3.4 and 6.1).
     pub fn put_other_sends(&mut self, ranks: &[u32]) {
         let diagnosis = self.source.diagnosis;
         let do_wait = matches!(diagnosis.sends, Sends::Wait);
         self.put(if do_wait {
-            b"\nIf sends of standard mode were buffered, ".as_slice()
+            b"\nIf MPI buffered standard sends, and let collective calls return as early as the standard allows, ".as_slice()
         } else {
-            b"\nIf sends of standard mode waited for their receives, ".as_slice()
+            b"\nIf standard sends waited for their receives, and collective calls for all members, ".as_slice()
         });
         if !ranks.is_empty() {
             self.put_ranks(ranks);
@@ -25,7 +26,9 @@ impl<'a> Writer<'a> {
         }
         self.put(b"no rank would be stuck");
         if do_wait {
-            self.put(b": the program hangs only where messages are too large to be buffered");
+            self.put(
+                b": whether the program hangs depends on the sizes of messages and on the MPI library",
+            );
         }
         self.put(b".\n");
     }
@@ -39,8 +42,8 @@ impl<'a> Writer<'a> {
         }
     }
 
-    /// What stands before an element of a list on one line, by its place: nothing where the list is cut before it, of which it
-    /// says how many more there are.
+    /// What stands before an element of a list on one line, by its place: nothing where the list is cut before it, of
+    /// which it says how many more there are.
     fn put_next(&mut self, i: usize, count: usize) -> bool {
         if i == MOST_NAMED && !self.all {
             self.put(b" and ");

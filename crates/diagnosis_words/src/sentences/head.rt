@@ -9,6 +9,8 @@ use trace_diagnosis::{Root, RootKind, Stand};
 pub(crate) enum Headline {
     Stuck(usize),
     Mismatch(usize),
+    /// Arguments of calls don't agree.
+    Arguments,
     /// Ranks wait for ranks that give no sign.
     Silent(usize),
     /// Ranks wait for one another, and some of them poll.
@@ -78,6 +80,10 @@ pub(crate) fn headline_of(w: &Writer<'_>) -> Result<Headline, AllocError> {
     if count > 0 {
         return Ok(Headline::Mismatch(count));
     }
+    let texts = w.source.texts;
+    if !texts.truncated.is_empty() || !texts.arguments.is_empty() {
+        return Ok(Headline::Arguments);
+    }
     let count = count_in(w, Sort::GivingNoSign)?;
     if count > 0 {
         return Ok(Headline::Silent(count));
@@ -118,6 +124,7 @@ impl<'a> Writer<'a> {
                     b"stand in them or wait for those that do.\n",
                 );
             }
+            Headline::Arguments => self.put_first_disagreement(),
             Headline::Silent(count) => {
                 self.put(b"No rank is proved to be stuck, but ");
                 self.put_of_all(count);

@@ -7,7 +7,7 @@ use Rattle.comm_makings.proofs.written.all_named.Goals.{in-Some+in_ok-push, in_d
 
 pub loop-place-preserved : goal.loop-place-preserved
 loop-place-preserved c =
-    let f = named_at c.args.uses.now c.args.made.now in
+    let f = named_at c.args.choice c.args.uses.now c.args.made.now in
     elim c.match-named_at.branch [
       | in-Some+in_ok-push w ↦
           rw w.named-is (w.in_ok-push.ensures.items ∙ ap (λ (l : List Named). l ++ w.in-Some.one ∷ []) c.loop-place.invariant

@@ -17,6 +17,10 @@ pub returns-in-Graph-clause-ran : goal.returns-in-Graph-clause-ran
 returns-in-Graph-clause-ran g c =
     ran_as (g.O.Opener.file c.args.run.now.files.now) c.args.verb _ c.args.run.now.layout.now c.args.run.now.manifest.now c.explain-in-Graph.result g.W.Write.written g.W.Write.failures c.args.out.now c.explain-in-Graph.new.out c.in-Graph.is c.explain-in-Graph.ensures.ran
 
+pub returns-in-Page-clause-ran : goal.returns-in-Page-clause-ran
+returns-in-Page-clause-ran g c =
+    ran_as (g.O.Opener.file c.args.run.now.files.now) c.args.verb _ c.args.run.now.layout.now c.args.run.now.manifest.now c.page.result g.W.Write.written g.W.Write.failures c.args.out.now c.page.new.out c.in-Page.is c.page.ensures.ran
+
 pub returns-in-Report-clause-ran : goal.returns-in-Report-clause-ran
 returns-in-Report-clause-ran g c =
     ran_as (g.O.Opener.file c.args.run.now.files.now) c.args.verb _ c.args.run.now.layout.now c.args.run.now.manifest.now c.report.result g.W.Write.written g.W.Write.failures c.args.out.now c.report.new.out c.in-Report.is c.report.ensures.ran

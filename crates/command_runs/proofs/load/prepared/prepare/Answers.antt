@@ -1,9 +1,8 @@
 use Rattle.std.proofs.Common.{◌≡◌, ◌∙◌, ℕ, List, String, Global, ap, ap₂, inr, length, map, refl, string_bytes, subst}
 use Rattle.mpi_model.specs.Layouts.{Holds}
-use Rattle.comm_makings.specs.Derived.{IsSound}
 use Rattle.comm_makings.specs.World.{world_of}
 use Rattle.comm_makings.specs.declared.calls.RankCalls.{RankCalls}
-use Rattle.text_layouts.specs.Making.{RefusesMaking, whole_texts}
+use Rattle.text_layouts.specs.Making.{AreObjectsOf, RefusesMaking, whole_texts}
 use Rattle.command_runs.specs.Prepared.{made_notes}
 use Rattle.command_runs.specs.TextCalls.{AllSay}
 use Rattle.command_runs.proofs.load.prepared.prepare.Goals as goal
@@ -29,8 +28,8 @@ returns-clause-made g c =
     let are : c.deref-3.result.now ≡ ranks = c.deref-3.ensures.value in
     let layout : Holds (length ranks) made.derived.world c.args.sends made.derived.comms.items made.input.layout =
     subst (λ (rs : List RankCalls). Holds (length rs) made.derived.world c.args.sends made.derived.comms.items made.input.layout) are c.in-Ok.ensures.layout in
-    let sound : IsSound (world_of ranks) ranks made.derived.comms.items =
-    subst (λ (rs : List RankCalls). IsSound (world_of rs) rs made.derived.comms.items) are c.in-Ok.ensures.sound in
+    let objects : AreObjectsOf c.args.sends ranks made.derived.comms.items =
+    subst (λ (rs : List RankCalls). AreObjectsOf c.args.sends rs made.derived.comms.items) are c.in-Ok.ensures.objects in
     let manifest : made.input.manifest ≡ whole_texts (map string_bytes texts) =
     c.in-Ok.ensures.manifest ∙ ap (λ (ts : List (String Global)). whole_texts (map string_bytes ts)) c.deref-2.ensures.value in (
       record {
@@ -41,7 +40,7 @@ returns-clause-made g c =
         calls = told.0;
         say = say;
         world = c.in-Ok.ensures.world ∙ ap world_of are;
-        sound = sound;
+        objects = objects;
         layout = layout;
         manifest = manifest;
       },

@@ -1,0 +1,6 @@
+pub mod Known
+pub mod Table
+pub mod Places
+pub mod Names
+pub mod Counts
+pub mod Told

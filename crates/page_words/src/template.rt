@@ -1,0 +1,997 @@
+//! The template of a page. tools/page makes it of page/: change nothing here.
+
+/// The page before its value.
+pub const HEAD: &[u8] = br##"<!DOCTYPE html>
+<html lang="en">
+<head>
+<meta charset="utf-8">
+<meta http-equiv="Content-Security-Policy" content="default-src 'none'; script-src 'sha256-3cb5b5OaIgp7B3PAj2XvIC/mPshm+uS54MapH4Ww4es='; style-src 'sha256-iRJONu/XnPProZPRAwqXUVN0YNAU+Q2iPTCWvJQkIkY='; base-uri 'none'; form-action 'none'; require-trusted-types-for 'script'; trusted-types 'none'">
+<meta name="viewport" content="width=device-width, initial-scale=1">
+<meta name="color-scheme" content="light dark">
+<meta name="referrer" content="no-referrer">
+<meta name="generator" content="mpimatch 0.1.0">
+<title>mpimatch page</title>
+<style>
+:root {
+  --paper: #ffffff; --ink: #1b1f24; --faint: #57606a; --line: #b6bec8; --band: #f3f5f8; --root: #fde7d9;
+  --root-line: #a63c06; --wait: #e3edf9; --wait-line: #2b5fa8; --link: #0b57b0;
+  --fixed: ui-monospace, "DejaVu Sans Mono", Menlo, Consolas, monospace;
+}
+
+@media (prefers-color-scheme: dark) {
+  :root {
+    --paper: #15191e; --ink: #e6e9ed; --faint: #a3adb8; --line: #4a535e; --band: #1e242b; --root: #4a2a17;
+    --root-line: #f0a070; --wait: #1d3047; --wait-line: #86b4ee; --link: #8dbcf5;
+  }
+}
+
+* { box-sizing: border-box; }
+body {
+  margin: 0 auto; padding: 1.2rem 1.6rem 3rem; min-width: 48rem; max-width: 92rem; background: var(--paper);
+  color: var(--ink); font: 15px/1.5 system-ui, "Segoe UI", "DejaVu Sans", sans-serif;
+}
+.skip { position: absolute; left: -100rem; }
+.skip:focus { left: 1rem; top: 0.4rem; background: var(--paper); }
+a, button.plain { color: var(--link); }
+:focus-visible { outline: 3px solid var(--link); outline-offset: 2px; }
+.by { margin: 0; color: var(--faint); font: 13px var(--fixed); }
+h1 { margin: 0.1rem 0 0.2rem; font-size: 1.55rem; line-height: 1.25; }
+h2 { margin: 2rem 0 0.5rem; padding-bottom: 0.2rem; border-bottom: 1px solid var(--line); font-size: 1.15rem; }
+#summary, .note { margin: 0 0 0.6rem; color: var(--faint); }
+/* names that come from traces keep their own direction, and break where they have to */
+.name { font-family: var(--fixed); font-size: 0.9em; overflow-wrap: anywhere; unicode-bidi: isolate; }
+.short { white-space: nowrap; }
+td .name:not(.short) { display: inline-block; min-width: 17em; }
+#roots { margin: 0; padding: 0; list-style: none; }
+#roots > li {
+  margin: 0 0 0.7rem; padding: 0.5rem 0.9rem 0.6rem; border: 1px solid var(--root-line); border-left-width: 6px;
+  border-radius: 4px; background: var(--band);
+}
+#roots p { margin: 0; }
+#roots ul + p { margin-top: 0.4rem; }
+#roots ul { margin: 0.2rem 0 0; padding-left: 1.3rem; }
+.kind {
+  margin-right: 0.5em; padding: 0 0.45em; border: 1px solid var(--root-line); border-radius: 3px; background: var(--root);
+  font-size: 0.82em; white-space: nowrap;
+}
+#picture { overflow-x: auto; }
+svg { display: block; max-width: 100%; height: auto; font: 12px var(--fixed); }
+svg text { fill: var(--ink); white-space: pre; }
+svg .strong { font-weight: bold; }
+svg .box { fill: var(--wait); stroke: var(--wait-line); }
+svg .root .box { fill: var(--root); stroke: var(--root-line); }
+svg .bold .box { stroke-width: 3.5; }
+svg .frame { fill: none; stroke: var(--root-line); }
+svg .edge { fill: none; stroke: var(--faint); stroke-width: 1.4; }
+svg .tip { fill: var(--faint); }
+svg [role="button"] { cursor: pointer; }
+svg [role="button"]:focus-visible { outline: none; }
+svg [role="button"]:hover > .box, svg [role="button"]:focus > .box { stroke-width: 4; stroke-dasharray: 6 3; }
+.pointed {
+  min-height: 2.2rem; margin-top: 0.4rem; padding: 0.35rem 0.7rem; border: 1px dashed var(--line); color: var(--ink);
+  font-size: 0.93em;
+}
+.pointed ul { margin: 0; padding-left: 1.1rem; }
+.pointed:empty { display: none; }
+.filter { display: flex; flex-wrap: wrap; gap: 0.4rem 1.2rem; align-items: end; margin-bottom: 0.4rem; }
+.filter label, .filter output { color: var(--faint); font-size: 0.88em; }
+.filter input[type="text"] {
+  display: block; width: 13rem; padding: 0.2rem 0.4rem; border: 1px solid var(--line); border-radius: 3px;
+  background: var(--paper); color: var(--ink); font: 14px var(--fixed);
+}
+button {
+  padding: 0.2rem 0.6rem; border: 1px solid var(--line); border-radius: 3px; background: var(--band); color: var(--ink);
+  font: inherit;
+}
+.rows { overflow-x: auto; margin-bottom: 1.2rem; }
+table { border-collapse: collapse; width: 100%; font-size: 0.9em; }
+caption { padding: 0.5rem 0 0.2rem; text-align: left; font-weight: bold; }
+caption .count { color: var(--faint); font-weight: normal; }
+th, td { padding: 0.2rem 0.55rem; border: 1px solid var(--line); text-align: left; vertical-align: top; }
+th.number, td.number { text-align: right; font-variant-numeric: tabular-nums; white-space: nowrap; }
+thead th { background: var(--band); white-space: nowrap; }
+thead button { padding: 0; border: 0; background: none; font-weight: bold; }
+tbody tr:nth-child(even) { background: var(--band); }
+td ul { margin: 0; padding-left: 1.1rem; min-width: 15em; }
+td li .name:not(.short) { display: inline; }
+dl { display: grid; grid-template-columns: max-content 1fr; gap: 0.15rem 1.2rem; margin: 0; }
+dt { color: var(--faint); }
+dd { margin: 0; }
+@media print {
+  :root {
+    --paper: #ffffff; --ink: #000000; --faint: #333333; --line: #888888; --band: #ffffff; --root: #eeeeee;
+    --root-line: #000000; --wait: #ffffff; --wait-line: #333333;
+  }
+  body { min-width: 0; max-width: none; padding: 0; font-size: 10pt; }
+  .skip, .filter, .pointed, button.plain { display: none; }
+  .rows, #picture { overflow: visible; }
+  tr, svg, #roots > li { break-inside: avoid; }
+}
+</style>
+</head>
+<body>
+<a class="skip" href="#tables">To the tables</a>
+<header>
+<p class="by">mpimatch</p>
+<h1 id="headline">What holds up the run</h1>
+<p id="summary"></p>
+<noscript><p>The script of this page shows its facts. Without it they stand in the page's source, as JSON.</p></noscript>
+</header>
+<main>
+<section aria-labelledby="holds-head">
+<h2 id="holds-head">What holds up the run</h2>
+<ol id="roots"></ol>
+</section>
+<section aria-labelledby="picture-head">
+<h2 id="picture-head">Who waits for whom</h2>
+<p id="legend" class="note"></p>
+<div id="picture"></div>
+<div id="pointed" class="pointed" role="status" aria-live="polite"></div>
+</section>
+<section aria-labelledby="tables-head">
+<h2 id="tables-head">Where the ranks stand, and what is left</h2>
+<div id="filter" class="filter" role="search" aria-label="Rows of the tables"></div>
+<div id="tables" tabindex="-1"></div>
+</section>
+<section aria-labelledby="made-head">
+<h2 id="made-head">What this page is made of</h2>
+<dl id="made"></dl>
+</section>
+</main>
+<script type="application/json" id="answer">"##;
+
+/// The page behind its value.
+pub const TAIL: &[u8] = br##"</script>
+<script>
+"use strict";
+// Words for what stands in the answer, as `mpimatch explain` says them. The answer is the value that
+// `mpimatch explain --json` prints; what its keys mean is said in docs/formats/json.md.
+
+const LONGEST = 160;
+// what would not be seen, or would turn the characters beside it around
+const HIDDEN = /[\u0000-\u001f\u007f-\u00a0\u00ad\u061c\u180e\u200b-\u200f\u2028-\u202f\u2060-\u206f\ufeff\ufff9-\ufffb]/u;
+
+/** A text of a trace, to be read: hidden characters stand as escapes, and a long text is cut. */
+function shown(text, most = LONGEST) {
+  const characters = Array.from(text.slice(0, 2 * most));
+  const front = characters.slice(0, most).map((it) => (HIDDEN.test(it) ? `\\u{${it.codePointAt(0).toString(16)}}` : it));
+  const isCut = characters.length > most || text.length > 2 * most;
+  return isCut ? `${front.join("")} .. (${text.length} characters)` : front.join("");
+}
+
+/** `3 ranks`, `1 rank`. */
+function counted(count, one, many = `${one}s`) {
+  return `${count} ${count === 1 ? one : many}`;
+}
+
+/** Ranks in rising order as stretches of neighbours: [first, last] each. */
+function stretchesOf(ranks) {
+  const stretches = [];
+  for (const rank of ranks) {
+    const last = stretches[stretches.length - 1];
+    if (last && last[1] + 1 === rank) {
+      last[1] = rank;
+    } else {
+      stretches.push([rank, rank]);
+    }
+  }
+  return stretches;
+}
+
+/** `rank 4`, `ranks 0 to 1, 3`, `ranks 0, 2, 4, .. (512 ranks)`. */
+function rankWords(ranks) {
+  const parts = stretchesOf(ranks).map(([first, last]) => (first === last ? `${first}` : `${first} to ${last}`));
+  const told = parts.length > 8 ? `${parts.slice(0, 3).join(", ")}, .. (${ranks.length} ranks)` : parts.join(", ");
+  return `${ranks.length === 1 ? "rank" : "ranks"} ${told}`;
+}
+
+/** A time in nanoseconds, which a text gives in seconds with nine decimals. */
+function nanoseconds(text) {
+  return BigInt(text.replace(".", ""));
+}
+
+/** The seconds from one time to another, with three decimals. */
+function secondsBetween(from, to) {
+  const milliseconds = (to - from) / 1000000n;
+  return `${milliseconds / 1000n}.${String(milliseconds % 1000n).padStart(3, "0")}`;
+}
+
+/** The name of an MPI function, of its word in the answer: `MPI_Reduce_scatter` of `reduce_scatter`. */
+function functionOf(kind) {
+  return `MPI_${kind.charAt(0).toUpperCase()}${kind.slice(1)}`;
+}
+
+/** `head_to_head.c:13 in exchange`, where the texts tell from where a call was made. */
+function siteWords({ caller = "" }) {
+  return shown(caller.replace(/ \(([^()]*)\)$/, " in $1"));
+}
+
+/** `call 4, head_to_head.c:13 in exchange`. */
+function callWords(call) {
+  const number = call.part ? `call ${call.call}, part ${call.part}` : `call ${call.call}`;
+  return call.caller === undefined ? number : `${number}, ${siteWords(call)}`;
+}
+
+/** `r0.txt:25`, where the texts tell it. */
+function traceWords(call) {
+  if (typeof call.file !== "string") {
+    return "";
+  }
+  return call.line === undefined ? shown(call.file) : `${shown(call.file)}:${call.line}`;
+}
+
+/** The answer, with what is looked up in it more than once. */
+class Answer {
+  constructor(value) {
+    this.value = value;
+    this.begin = value.begin === null ? null : nanoseconds(value.begin);
+    this.end = value.end === null ? null : nanoseconds(value.end);
+    this.standing = new Map(value.standing.map((it) => [it.rank, it]));
+    this.polls = new Map(value.polls.map((it) => [it.rank, it]));
+    this.stuck = new Set(value.stuck);
+    this.truncated = value.truncated ?? [];
+    this.differing = value.arguments ?? [];
+    this.ownRoots = this.rootsBy("ranks");
+    this.holders = this.rootsBy("holds_up");
+  }
+
+  /** Of each rank the places of the roots that have it in this list. */
+  rootsBy(key) {
+    const places = new Map();
+    this.value.roots.forEach((root, at) => {
+      for (const rank of root[key]) {
+        if (!places.has(rank)) {
+          places.set(rank, []);
+        }
+        places.get(rank).push(at);
+      }
+    });
+    return places;
+  }
+
+  /** Since when a rank stands there, from the first time on, and for how long. */
+  moment(standing) {
+    if (standing.wall === undefined || this.begin === null) {
+      return null;
+    }
+    const wall = nanoseconds(standing.wall);
+    return { since: secondsBetween(this.begin, wall), lasts: secondsBetween(wall, this.end) };
+  }
+
+  /** Ranks that stand alike together, each group by its first rank; `more` is what else they have to share. */
+  groupsOf(ranks, more = () => "") {
+    const groups = new Map();
+    for (const rank of ranks) {
+      const it = this.standing.get(rank);
+      if (it === undefined) {
+        continue;
+      }
+      const key = JSON.stringify([it.state, it.beyond, this.polls.has(rank), it.function, it.comm, it.k, it.caller, more(rank)]);
+      const group = groups.get(key);
+      if (group === undefined) {
+        groups.set(key, { first: it, ranks: [rank], calls: [it.call, it.call] });
+      } else {
+        group.ranks.push(rank);
+        group.calls = [Math.min(group.calls[0], it.call), Math.max(group.calls[1], it.call)];
+      }
+    }
+    return [...groups.values()];
+  }
+
+  /** The ranks that stand in the roots of such kinds, where those wait themselves, or behind them. */
+  countIn(isWanted) {
+    const ranks = new Set();
+    for (const root of this.value.roots.filter(isWanted)) {
+      root.holds_up.forEach((rank) => ranks.add(rank));
+      if (root.kind === "mismatch" || root.kind === "cycle") {
+        root.ranks.forEach((rank) => ranks.add(rank));
+      }
+    }
+    return ranks.size;
+  }
+
+  countOf(state) {
+    return this.value.standing.filter((it) => it.state === state).length;
+  }
+
+  /** The first line of `mpimatch explain`; of arguments that don't agree by what the value tells of them. */
+  headline() {
+    const all = this.value.ranks;
+    const ofAll = (count) => `${count} of ${counted(all, "rank")}`;
+    const stuck = this.value.stuck.length;
+    if (stuck > 0) {
+      return `${ofAll(stuck)} ${stuck === 1 ? "is" : "are"} stuck.`;
+    }
+    const mismatched = this.countIn((it) => it.kind === "mismatch");
+    if (mismatched > 0) {
+      const words = mismatched === 1 ? "stands in them or waits for those that do" : "stand in them or wait for those that do";
+      return `Collective calls don't match, which MPI forbids: ${ofAll(mismatched)} ${words}.`;
+    }
+    if (this.truncated.length > 0 || this.differing.length > 0) {
+      return `Arguments of calls don't agree, which MPI forbids: ${this.disagreementWords()}.`;
+    }
+    const cases = [
+      [(it) => it.kind === "silent" || it.kind === "open", "No rank is proved to be stuck, but ",
+        "waits for ranks that give no sign.", "wait for ranks that give no sign."],
+      [(it) => it.kind === "cycle" && !it.proved, "No rank is proved to be stuck, but ",
+        "waits for itself, by polling.", "wait for one another, some of them by polling."],
+      [(it) => it.kind === "ended", "No rank is proved to be stuck, but ",
+        "waits for ranks that have ended, by polling.", "wait for ranks that have ended, some of them by polling."],
+    ];
+    for (const [isWanted, front, one, many] of cases) {
+      const count = this.countIn(isWanted);
+      if (count > 0) {
+        return `${front}${ofAll(count)} ${count === 1 ? one : many}`;
+      }
+    }
+    const ended = this.countOf("ended");
+    const others = ended < all ? `, ${all - ended} ${all - ended === 1 ? "is" : "are"} not seen to wait` : "";
+    return `Nobody waits: ${counted(ended, "rank")} ended${others}.`;
+  }
+
+  /** The first message that is longer than its receive, or the first round in which arguments differ. */
+  disagreementWords() {
+    const [longer] = this.truncated;
+    if (longer !== undefined) {
+      const { message, receive, sent, room } = longer;
+      return `rank ${receive.rank} has room for ${counted(room, "element")} (${callWords(receive)}), and the message of rank ${message.rank} `
+        + `(${callWords(message)}) has ${sent}`;
+    }
+    const [{ comm, k, kind, what, groups }] = this.differing;
+    const values = groups.slice(0, 4).map(({ value, ranks, call }) => `${shown(value)} at ${rankWords(ranks)} (${callWords(call)})`);
+    return `round ${k} on object ${comm}, ${functionOf(kind)}: ${shown(what)} ${values.join(", ")}${groups.length > 4 ? ", .." : ""}`;
+  }
+
+  /** Its second line. */
+  summary() {
+    const [inside, behind, ended, none] = ["in", "behind", "ended", "none"].map((state) => this.countOf(state));
+    const parts = [
+      counted(inside, "stands in a call", "stand in a call"), counted(behind, "is behind its last one", "are behind their last one"),
+      counted(ended, "has ended", "have ended"),
+    ];
+    if (none > 0) {
+      parts.push(counted(none, "has no call that can be read", "have no call that can be read"));
+    }
+    return `Of ${counted(this.value.ranks, "rank")}, ${parts.join(", ")}.`;
+  }
+
+  /** What ranks do that stand alike: `are in MPI_Barrier on object 2 (round 0, call 5, main.c:10 in main)`. */
+  groupWords({ first, ranks, calls }) {
+    const isOne = ranks.length === 1;
+    if (first.state === "none") {
+      return `${isOne ? "has" : "have"} no call that can be read`;
+    }
+    const state = first.state === "ended" ? (isOne ? "has ended," : "have ended,") : `${isOne ? "is" : "are"} ${first.state}`;
+    const object = first.comm === undefined ? "" : ` on object ${first.comm}`;
+    const round = first.k === undefined ? "" : `round ${first.k}, `;
+    const site = first.caller === undefined ? "" : `, ${siteWords(first)}`;
+    const numbers = calls[0] === calls[1] ? `call ${calls[0]}` : `calls ${calls[0]} to ${calls[1]}`;
+    const polls = this.polls.has(first.rank) ? (isOne ? "; it polls" : "; they poll") : "";
+    return `${state} ${shown(first.function)}${object} (${round}${numbers}${site})${polls}${this.beyondWords(first)}`;
+  }
+
+  beyondWords(standing) {
+    const words = {
+      gap: "more is known behind a gap", contradiction: "two pieces contradict each other there",
+      unread: "the next call is one that mpimatch does not read", cut: "the text was cut there",
+    };
+    return standing.beyond === null ? "" : `; ${words[standing.beyond] ?? standing.beyond}`;
+  }
+
+  /** The round of a root whose calls don't match. */
+  roundOf(root) {
+    return this.value.mismatched.find((it) => it.comm === root.comm && it.k === root.k);
+  }
+
+  /** What may be the matter with ranks that give no sign and stand alike. */
+  silenceWords({ first, ranks }) {
+    const isOne = ranks.length === 1;
+    if (first.beyond !== null || first.state === "ended") {
+      return "";
+    }
+    if (first.state === "none") {
+      return isOne ? ": its text is missing or has none" : ": their texts are missing or have none";
+    }
+    if (first.state === "in") {
+      return `, and ${isOne ? "hasn't" : "haven't"} returned: mpimatch doesn't know what that call waits for`;
+    }
+    return isOne
+      ? ", and makes no further call: it computes, has died, or its trace ends too early"
+      : ", and make no further call: they compute, have died, or their traces end too early";
+  }
+
+  /** Whether ranks that have ended are more than those that wait for them. */
+  isLate(root) {
+    return root.ranks.length > root.holds_up.length;
+  }
+
+  /** What a root is, in a few words. */
+  rootWords(root) {
+    const isOne = root.ranks.length === 1;
+    switch (root.kind) {
+      case "mismatch":
+        return `round ${root.k} on object ${root.comm}: the calls of its ranks don't match`;
+      case "cycle":
+        return `${rankWords(root.ranks)} ${isOne ? "waits for itself" : "wait for one another"}${root.proved ? "" : ", some by polling"}`;
+      case "ended":
+        return `${rankWords(root.ranks)} ${isOne ? "has" : "have"} ended${this.isLate(root) ? ", and others make a call too many, or these one too few" : ""}`;
+      case "silent":
+        return `${rankWords(root.ranks)} ${isOne ? "gives" : "give"} no sign`;
+      case "open":
+        return `${rankWords(root.ranks)} may still go on`;
+      default:
+        return `${rankWords(root.ranks)}: ${shown(root.kind)}`;
+    }
+  }
+
+  /** What stands in a root: of a round its calls, and else its ranks. Each has its ranks and its words. */
+  membersOf(root) {
+    const round = root.kind === "mismatch" ? this.roundOf(root) : undefined;
+    if (round === undefined) {
+      const silence = (it) => (root.kind === "silent" ? this.silenceWords(it) : "");
+      return this.groupsOf(root.ranks).map((it) => ({ ranks: it.ranks, words: `${this.groupWords(it)}${silence(it)}` }));
+    }
+    return round.groups.map(({ kind, root: rank, ranks, call }) => {
+      const of = rank === null ? "" : ` with root ${rank}`;
+      const whose = ranks.length === 1 ? "" : `rank ${call.rank}: `;
+      return { ranks, words: `${ranks.length === 1 ? "calls" : "call"} ${functionOf(kind)}${of} (${whose}${callWords(call)})` };
+    });
+  }
+}
+
+// Who waits for whom, drawn: on the left ranks that wait and stand alike, on the right what holds them up.
+
+const CHARACTER = 7.25; // the width of a character of the fixed font, the height of a line, and what lies around the lines
+const LINE = 16;
+const AROUND = 9;
+const LONGEST_LINE = 46;
+const MOST_BOXES = 40;
+const MOST_MEMBERS = 8;
+const COLUMN_GAP = 84;
+const BOX_GAP = 18;
+
+/** An element of SVG with these attributes. */
+function drawn(name, attributes = {}, ...children) {
+  const element = document.createElementNS("http://www.w3.org/2000/svg", name);
+  for (const [key, value] of Object.entries(attributes)) {
+    element.setAttribute(key, String(value));
+  }
+  element.append(...children);
+  return element;
+}
+
+/** Words as lines of a box: broken between words, where they are too long, and within one that is longer than a line. */
+function linesOf(words) {
+  const lines = [];
+  let line = "";
+  for (const word of words.split(" ")) {
+    let rest = Array.from(word);
+    if (line !== "" && line.length + 1 + rest.length > LONGEST_LINE) {
+      lines.push(line);
+      line = "";
+    }
+    while (rest.length > LONGEST_LINE) {
+      lines.push(rest.slice(0, LONGEST_LINE).join(""));
+      rest = rest.slice(LONGEST_LINE);
+    }
+    line = line === "" ? rest.join("") : `${line} ${rest.join("")}`;
+  }
+  return [...lines, line];
+}
+
+/** A box of a picture: its lines, each strong or not, and what it has. */
+function boxOf(parts, about) {
+  const lines = parts.flatMap(({ words, strong }) => linesOf(words).map((text) => ({ text, strong })));
+  const longest = Math.max(...lines.map((it) => Array.from(it.text).length));
+  return { ...about, lines, width: longest * CHARACTER + 2 * AROUND, height: lines.length * LINE + 2 * AROUND - 4 };
+}
+
+/** The boxes of ranks that wait: alike, and for the same roots. They stand by the middle of their roots; the last one is for those that
+ * are too many. */
+function waitingBoxes(answer) {
+  const ranks = [...answer.holders.keys()].sort((a, b) => a - b);
+  const middle = ({ ranks: [rank] }) => answer.holders.get(rank).reduce((sum, it) => sum + it, 0) / answer.holders.get(rank).length;
+  const groups = answer.groupsOf(ranks, (rank) => answer.holders.get(rank)).sort((a, b) => middle(a) - middle(b));
+  const boxes = groups.slice(0, MOST_BOXES).map((group) => boxOf(
+    [{ words: rankWords(group.ranks), strong: true }, { words: answer.groupWords(group) }],
+    { ranks: group.ranks, roots: answer.holders.get(group.ranks[0]), kind: "waits" }));
+  if (groups.length > MOST_BOXES) {
+    const more = groups.slice(MOST_BOXES).flatMap((it) => it.ranks).sort((a, b) => a - b);
+    const roots = [...new Set(more.flatMap((rank) => answer.holders.get(rank)))];
+    const words = `and ${counted(groups.length - MOST_BOXES, "group")} more: ${rankWords(more)}`;
+    boxes.push(boxOf([{ words, strong: true }], { ranks: more, roots, kind: "waits" }));
+  }
+  return boxes;
+}
+
+/** The box of a root: what it is, and its ranks with where they stand. */
+function rootBox(answer, root, at) {
+  const members = answer.membersOf(root);
+  const parts = [{ words: `${at + 1} ${root.kind}: ${answer.rootWords(root)}`, strong: true }];
+  for (const { ranks, words } of members.slice(0, MOST_MEMBERS)) {
+    parts.push({ words: `${rankWords(ranks)} ${words}` });
+  }
+  if (members.length > MOST_MEMBERS) {
+    parts.push({ words: `and ${counted(members.length - MOST_MEMBERS, "group")} more` });
+  }
+  return boxOf(parts, { ranks: root.ranks, root: at, kind: root.kind });
+}
+
+/** Puts boxes below one another, the column in the middle of this height. */
+function place(boxes, x, height) {
+  let y = (height - columnHeight(boxes)) / 2;
+  for (const box of boxes) {
+    box.x = x;
+    box.y = y;
+    y += box.height + BOX_GAP;
+  }
+}
+
+function columnHeight(boxes) {
+  return boxes.reduce((sum, it) => sum + it.height, BOX_GAP * Math.max(0, boxes.length - 1));
+}
+
+/** A box as it is drawn: a button that tells its ranks. */
+function drawnBox(box, point) {
+  const rows = box.lines.map(({ text, strong }, i) =>
+    drawn("text", { x: box.x + AROUND, y: box.y + AROUND + 10 + i * LINE, class: strong ? "strong" : "plain" }, text));
+  const outline = { x: box.x, y: box.y, width: box.width, height: box.height, rx: 4 };
+  const isBold = box.kind === "ended" || box.kind === "silent";
+  const group = drawn("g", {
+    class: `${box.root === undefined ? "waits" : "root"}${isBold ? " bold" : ""}`, role: "button", tabindex: 0,
+    "aria-label": box.lines.map((it) => it.text).join(" "), "aria-describedby": "pointed",
+  }, drawn("rect", { class: "box", ...outline }), ...rows);
+  if (box.kind === "mismatch") {
+    group.append(drawn("rect", { class: "frame", x: box.x - 4, y: box.y - 4, width: box.width + 8, height: box.height + 8, rx: 6 }));
+  }
+  const tell = (isChosen) => point(box, isChosen);
+  group.addEventListener("pointerenter", () => tell(false));
+  group.addEventListener("focus", () => tell(false));
+  group.addEventListener("click", () => tell(true));
+  group.addEventListener("keydown", (event) => {
+    if (event.key === "Enter" || event.key === " ") {
+      event.preventDefault();
+      tell(true);
+    }
+  });
+  return group;
+}
+
+/** The tip of an arrow that comes from the left, or from the right. */
+function tip(x, y, side) {
+  return drawn("path", { class: "tip", d: `M ${x} ${y} l ${-9 * side} -4.5 v 9 z` });
+}
+
+/** An arrow from a box that waits to a root. */
+function arrow(from, to, enters) {
+  const x = from.x + from.width;
+  const y = from.y + from.height / 2;
+  const end = to.x - (to.kind === "mismatch" ? 4 : 0);
+  const bend = (x + end) / 2;
+  return [drawn("path", { class: "edge", d: `M ${x} ${y} C ${bend} ${y} ${bend} ${enters} ${end - 8} ${enters}` }), tip(end, enters, 1)];
+}
+
+/** The arrow of ranks that wait for one another, back to their own box. */
+function loop(box) {
+  const x = box.x + box.width;
+  const y = box.y + box.height / 2;
+  return [drawn("path", { class: "edge", d: `M ${x} ${y - 9} C ${x + 42} ${y - 22} ${x + 42} ${y + 22} ${x + 8} ${y + 9}` }), tip(x, y + 9, -1)];
+}
+
+/** The picture of an answer; `point(box, isChosen)` is told which box is pointed at, or chosen. */
+function pictureOf(answer, point) {
+  const waiting = waitingBoxes(answer);
+  const roots = answer.value.roots.slice(0, MOST_BOXES).map((root, at) => rootBox(answer, root, at));
+  const left = Math.max(0, ...waiting.map((it) => it.width));
+  const height = Math.max(columnHeight(waiting), columnHeight(roots));
+  place(waiting, 0, height);
+  place(roots, waiting.length > 0 ? left + COLUMN_GAP : 0, height);
+  const right = Math.max(...roots.map((it) => it.x + it.width)) + 46;
+  const edges = [];
+  for (const root of roots) {
+    const from = waiting.filter((it) => it.roots.includes(root.root));
+    from.forEach((it, i) => edges.push(...arrow(it, root, root.y + (root.height * (i + 1)) / (from.length + 1))));
+    if (root.kind === "cycle") {
+      edges.push(...loop(root));
+    }
+  }
+  const boxes = [...waiting, ...roots].map((it) => drawnBox(it, point));
+  return drawn("svg", {
+    viewBox: `-8 -8 ${right + 16} ${height + 16}`, width: right + 16, height: height + 16, role: "group",
+    "aria-label": "Groups of ranks that wait, and what holds them up",
+  }, ...edges, ...boxes);
+}
+
+// Tables whose rows are sorted by a column, and left out where they don't fit the filter.
+
+const FIRST_ROWS = 50;
+
+/** An element of HTML with this class, and text or elements in it. */
+function made(name, className, ...children) {
+  const element = document.createElement(name);
+  if (className !== "") {
+    element.className = className;
+  }
+  element.append(...children);
+  return element;
+}
+
+/** A name that comes from a trace: a short one stays on its line. */
+function named(text) {
+  return made("span", text.length <= 36 ? "name short" : "name", text);
+}
+
+/** A list of names, one below the other; of one the name, of none nothing. */
+function listed(names) {
+  return names.length > 1 ? made("ul", "", ...names.map((it) => made("li", "", named(it)))) : named(names.join(""));
+}
+
+/** What two cells are sorted by: numbers by their size and before texts, texts by their characters. */
+function compared(a, b) {
+  if (typeof a === "number" && typeof b === "number") {
+    return a - b;
+  }
+  if (typeof a === "number" || typeof b === "number") {
+    return typeof a === "number" ? -1 : 1;
+  }
+  return a < b ? -1 : Number(a > b);
+}
+
+/** The ranks that a filter names, as `3, 8 to 11` or `3,8-11`: null where it names none, a test else. */
+function ranksWanted(words) {
+  const stretches = [...words.matchAll(/(\d+)(?:\s*(?:to|-)\s*(\d+))?/g)].map(([, first, last]) => [Number(first), Number(last ?? first)]);
+  return stretches.length === 0 ? null : (rank) => stretches.some(([first, last]) => first <= rank && rank <= last);
+}
+
+/**
+ * A table. A row has its cells in the order of the columns, its ranks, and perhaps the object that it is about. A cell has what is
+ * shown, and a number or a text by which it is sorted. A column in which nothing stands is left out.
+ */
+class Table {
+  constructor(name, columns, rows, about = "") {
+    const isUsed = (_, at) => at === 0 || rows.some((it) => it.cells[at].by !== "");
+    this.columns = columns.filter(isUsed);
+    this.rows = rows.map((it) => ({ ...it, cells: it.cells.filter(isUsed) }));
+    this.about = about;
+    this.sorted = { column: -1, isRising: true };
+    this.most = FIRST_ROWS;
+    this.fits = () => true;
+    this.count = made("span", "count");
+    this.heads = this.columns.map((head, at) => this.headOf(head, at));
+    this.body = made("tbody", "");
+    this.more = made("button", "plain");
+    this.more.type = "button";
+    this.more.addEventListener("click", () => this.showAll());
+    const caption = made("caption", "", `${name} `, this.count);
+    const table = made("table", "", caption, made("thead", "", made("tr", "", ...this.heads)), this.body);
+    this.element = made("div", "rows", table, this.more);
+    this.element.tabIndex = 0;
+    this.element.setAttribute("role", "region");
+    this.element.setAttribute("aria-label", name);
+    this.show();
+  }
+
+  headOf(head, at) {
+    const button = made("button", "", head);
+    button.type = "button";
+    button.addEventListener("click", () => this.sortBy(at));
+    const cell = made("th", this.rows.some((it) => it.cells[at].isNumber) ? "number" : "", button);
+    cell.scope = "col";
+    return cell;
+  }
+
+  sortBy(column) {
+    const isRising = this.sorted.column !== column || !this.sorted.isRising;
+    this.sorted = { column, isRising };
+    this.heads.forEach((cell, at) => {
+      cell.removeAttribute("aria-sort");
+      cell.firstChild.textContent = this.columns[at];
+    });
+    this.heads[column].setAttribute("aria-sort", isRising ? "ascending" : "descending");
+    this.heads[column].firstChild.textContent = `${this.columns[column]} ${isRising ? "\u25b2" : "\u25bc"}`;
+    this.show();
+  }
+
+  showAll() {
+    this.most = Infinity;
+    this.show();
+  }
+
+  /** Shows the rows that fit, and answers how many there are. */
+  filter(fits) {
+    this.fits = fits;
+    return this.show();
+  }
+
+  show() {
+    const rows = this.rows.filter((it) => this.fits(it));
+    const { column, isRising } = this.sorted;
+    if (column >= 0) {
+      rows.sort((a, b) => compared(a.cells[column].by, b.cells[column].by) * (isRising ? 1 : -1));
+    }
+    const fragment = document.createDocumentFragment();
+    rows.slice(0, this.most).forEach((it) => fragment.append(this.shownRow(it)));
+    this.body.replaceChildren(fragment);
+    this.count.textContent = rows.length < this.rows.length ? `(${rows.length} of ${this.rows.length} rows) ${this.about}` : this.about;
+    this.more.textContent = `Show all ${rows.length} rows`;
+    this.more.hidden = rows.length <= this.most;
+    return rows.length;
+  }
+
+  shownRow(row) {
+    return made("tr", "", ...row.cells.map(({ shown: content, isNumber }, at) => {
+      const cell = made(at === 0 ? "th" : "td", isNumber ? "number" : "", content);
+      if (at === 0) {
+        cell.scope = "row";
+      }
+      return cell;
+    }));
+  }
+}
+
+/** A cell of a number, or of none. */
+function number(n, text = `${n}`) {
+  return n === null || n === undefined ? { by: "", shown: "" } : { by: Number(n), shown: text, isNumber: true };
+}
+
+/** A cell of words, or of several, one below the other. */
+function words(...parts) {
+  const all = parts.filter((it) => it !== "");
+  return { by: all.join(" "), shown: listed(all) };
+}
+
+/** A cell of ranks. */
+function ranksCell(ranks) {
+  const text = rankWords(ranks);
+  return { by: ranks[0] ?? -1, shown: made("span", text.length <= 24 ? "short" : "", text) };
+}
+
+/** A row, with the text in which a filter looks. */
+function rowOf(ranks, object, ...cells) {
+  return { ranks, object, cells, text: cells.map((it) => `${it.by}`).join("\n").toLowerCase() };
+}
+
+/** What ranks are in the diagnosis: proved to be stuck, of a root, behind roots, polling. */
+function partsOf(answer, { first, ranks }) {
+  const parts = [];
+  const stuck = ranks.filter((rank) => answer.stuck.has(rank)).length;
+  if (stuck > 0) {
+    parts.push(stuck === ranks.length ? "proved to be stuck" : `${stuck} of ${ranks.length} proved to be stuck`);
+  }
+  const numbers = (roots) => roots.map((at) => at + 1).slice(0, 8).join(", ");
+  const own = [...new Set(ranks.flatMap((rank) => answer.ownRoots.get(rank) ?? []))];
+  const behind = [...new Set(ranks.flatMap((rank) => answer.holders.get(rank) ?? []))];
+  if (own.length > 0) {
+    parts.push(`holds up the run (${numbers(own)})`);
+  }
+  if (behind.length > 0) {
+    parts.push(`held up by ${numbers(behind)}`);
+  }
+  const polls = answer.polls.get(first.rank);
+  if (polls !== undefined) {
+    parts.push(`polls: ${polls.count} tests or probes without success, ${polls.calls.map(callWords).slice(0, 3).join("; ")}`);
+  }
+  const beyond = answer.beyondWords(first).slice(2);
+  return beyond === "" ? parts : [...parts, beyond];
+}
+
+/** How ranks stand that stand alike. */
+function standingRow(answer, group) {
+  const { first, ranks, calls } = group;
+  const moment = answer.moment(first);
+  const state = { in: "in", behind: "behind", ended: "ended", none: "no call" }[first.state] ?? first.state;
+  const call = number(calls[0], calls[0] === calls[1] ? `${calls[0]}` : `${calls[0]} to ${calls[1]}`);
+  return rowOf(ranks, first.comm, ranksCell(ranks), words(state), words(shown(first.function ?? "")), number(first.comm), number(first.k), call,
+    words(siteWords(first)), number(moment?.since), number(moment?.lasts), words(traceWords(first)), words(...partsOf(answer, group)));
+}
+
+/** The table of how ranks stand: those that stand alike in one row, or each in its own. */
+function standingTable(answer, isOneByOne) {
+  const ranks = answer.value.standing.map((it) => it.rank);
+  const parts = (rank) => [answer.ownRoots.get(rank), answer.holders.get(rank), answer.stuck.has(rank)];
+  const groups = answer.groupsOf(ranks, (rank) => (isOneByOne ? rank : parts(rank)));
+  const columns = ["ranks", "stand", "function", "object", "round", "call", "call site", "since (s)", "for (s)", "trace", "of the run"];
+  const about = isOneByOne ? "" : "(times and traces are those of the first rank)";
+  return new Table("Where the ranks stand", columns, groups.map((it) => standingRow(answer, it)), about);
+}
+
+const WHY = {
+  tag: "another tag", comm: "another communicator", source: "another source", dest: "another rank", taken: "taken by an earlier receive",
+  postponed: "an open receive may have taken it", idle: "a persistent request that isn't active",
+};
+
+/** A nearest miss: what differs, and the call that would fit but for that. */
+function nearWords({ why, message, receive, by }) {
+  const other = message ?? receive;
+  const taker = by === undefined ? "" : `; that is rank ${by.rank}, ${callWords(by)}`;
+  return `${WHY[why] ?? shown(why)}: rank ${other.rank}, ${callWords(other)}${taker}`;
+}
+
+/** All further tables that have rows. */
+function otherTables(answer) {
+  const { truncated, differing } = answer;
+  const { mismatched, open, left_over: left, starving, unfinished, doubts } = answer.value;
+  const lone = (call, ...more) => rowOf([call.rank], undefined,
+    ranksCell([call.rank]), number(call.call), words(siteWords(call)), words(traceWords(call)), ...more);
+  const rounds = (list, row) => list.flatMap((it) => it.groups.map((group) =>
+    rowOf(group.ranks, it.comm, ranksCell(group.ranks), number(it.comm), number(it.k), ...row(it, group))));
+  const callHeads = ["rank", "call", "call site", "trace"];
+  return [
+    ["Rounds of collective calls that don't match", ["ranks", "object", "round", "function", "root", "first call", "trace"],
+      rounds(mismatched, (it, { kind, root, call }) => [words(functionOf(kind)), number(root), words(callWords(call)), words(traceWords(call))])],
+    ["Rounds of collective calls that not all have entered", ["haven't entered", "object", "round", "function", "root", "have entered"],
+      open.map((it) => rowOf(it.missing, it.comm,
+        ranksCell(it.missing), number(it.comm), number(it.k), words(functionOf(it.kind)), number(it.root), ranksCell(it.entered)))],
+    ["Messages that nobody has received", [...callHeads, "came through before", "missed by"],
+      left.map((it) => lone(it.message, number(it.before), words(...it.near.map(nearWords))))],
+    ["Receives that wait for a message that nobody has sent", [...callHeads, "came through before", "missed by"],
+      starving.map((it) => lone(it.receive, number(it.before), words(...it.near.map(nearWords))))],
+    ["Messages longer than their receives", [...callHeads, "sent", "room", "receive"],
+      truncated.map((it) => lone(it.message, number(it.sent), number(it.room), words(`rank ${it.receive.rank}, ${callWords(it.receive)}`)))],
+    ["Arguments that don't agree", ["ranks", "object", "round", "function", "argument", "value", "first call"],
+      rounds(differing, (it, { value, call }) => [words(functionOf(it.kind)), words(shown(it.what)), words(shown(value)), words(callWords(call))])],
+    ["Requests that were never completed, of ranks that have ended", callHeads, unfinished.map((it) => lone(it))],
+    ["What may make this wrong", ["what", "calls or ranks"], doubtRows(doubts)],
+  ].filter(([, , rows]) => rows.length > 0).map(([name, columns, rows]) => new Table(name, columns, rows));
+}
+
+/** What may make the answer wrong. */
+function doubtRows(doubts) {
+  const row = (ranks, text, cell) => rowOf(ranks, undefined, words(text), cell);
+  const ofRanks = [["unread", "the next call is one that mpimatch does not read"], ["gaps", "more is known behind a gap"],
+    ["conflicts", "pieces contradict each other"], ["no_calls", "no call can be read"]];
+  return [
+    ...doubts.local.map((it) => row([], `${shown(it.function)} may wait or move data, and isn't read`, number(it.calls))),
+    ...doubts.foreign.map((it) => row([], `${shown(it.object)} ${it.number} isn't known`, number(it.calls))),
+    ...ofRanks.filter(([key]) => doubts[key].length > 0).map(([key, text]) => row(doubts[key], text, ranksCell(doubts[key]))),
+    ...doubts.cut.map((it) => row([it.rank], `the text was cut: ${traceWords(it)}`, ranksCell([it.rank]))),
+    ...(doubts.size === null ? [] : [row([], "MPI_Comm_size of the world tells more ranks", number(doubts.size))]),
+  ];
+}
+
+// The parts of the page, from top to bottom. A part that is drawn against time would stand behind the picture.
+
+const answer = new Answer(JSON.parse(document.getElementById("answer").textContent));
+const at = (id) => document.getElementById(id);
+let tables = [];
+
+function isSeveral(root) {
+  return root.kind === "mismatch" || root.ranks.length > 1;
+}
+
+/** Groups of ranks with their words, the first of them where there are many. */
+function listOf(groups, most) {
+  const lines = groups.slice(0, most).map((it) => made("li", "", named(`${rankWords(it.ranks)} ${it.words}`)));
+  if (groups.length > most) {
+    lines.push(made("li", "", `and ${counted(groups.length - most, "group")} more, which stand in the table below`));
+  }
+  return made("ul", "", ...lines);
+}
+
+/** What holds up the run: each root with its ranks, and who waits for it. */
+function showRoots() {
+  at("headline").textContent = answer.headline();
+  document.title = answer.headline();
+  at("summary").textContent = answer.summary();
+  const { roots: all } = answer.value;
+  const roots = all.slice(0, MOST_BOXES).map((root, i) => {
+    const proved = root.kind === "cycle" || root.kind === "ended" ? (root.proved ? " (proved)" : " (not proved)") : "";
+    const head = made("p", "", made("span", "kind", `${i + 1} ${root.kind}${proved}`), made("strong", "", answer.rootWords(root)));
+    const members = listOf(answer.membersOf(root), 12);
+    const count = root.holds_up.length;
+    const those = `${counted(count, "rank waits", "ranks wait")} for ${isSeveral(root) ? "them" : "it"}: ${rankWords(root.holds_up)}`;
+    const waiting = answer.groupsOf(root.holds_up).map((it) => ({ ranks: it.ranks, words: answer.groupWords(it) }));
+    return made("li", "", head, members, ...(count === 0 ? [] : [made("p", "", those), listOf(waiting, 6)]));
+  });
+  if (all.length > MOST_BOXES) {
+    roots.push(made("li", "", `and ${all.length - MOST_BOXES} more: the table below has their ranks`));
+  }
+  at("roots").replaceChildren(...(roots.length > 0 ? roots : [made("li", "", "Nothing holds it up.")]));
+}
+
+/** Tells which ranks a box of the picture has; where it is chosen, the tables show those alone. */
+function point(box, isChosen) {
+  const groups = answer.groupsOf(box.ranks);
+  const lines = groups.slice(0, 8).map((group) => {
+    const moment = answer.moment(group.first);
+    const times = moment === null ? "" : `; the first stands there since ${moment.since} s, for ${moment.lasts} s, in ${traceWords(group.first)}`;
+    return made("li", "", named(`${rankWords(group.ranks)} ${answer.groupWords(group)}${times}`));
+  });
+  at("pointed").replaceChildren(made("ul", "", ...lines));
+  if (isChosen) {
+    at("ranks-wanted").value = stretchesOf(box.ranks).map(([first, last]) => (first === last ? `${first}` : `${first} to ${last}`)).join(", ");
+    filterTables();
+    at("tables").scrollIntoView();
+  }
+}
+
+/** What the picture's signs mean, of those that it has. */
+function legendOf(roots) {
+  if (roots.length === 0) {
+    return "No rank is seen to wait for another.";
+  }
+  const signs = [
+    [["cycle"], "An arrow back: they wait for one another."], [["mismatch"], "A double frame: calls that don't match."],
+    [["ended", "silent"], "A bold frame: ended, or no sign."],
+  ].filter(([kinds]) => roots.some((it) => kinds.includes(it.kind))).map(([, words]) => words);
+  const more = roots.length > MOST_BOXES ? [`The first ${MOST_BOXES} of ${roots.length} are drawn.`] : [];
+  return ["An arrow leads from ranks that wait to what holds them up, perhaps by way of others.", ...signs, ...more,
+    "Choose a box, and the tables show its ranks."].join(" ");
+}
+
+function showPicture() {
+  const { roots } = answer.value;
+  at("legend").textContent = legendOf(roots);
+  if (roots.length > 0) {
+    at("picture").replaceChildren(pictureOf(answer, point));
+    at("pointed").textContent = "Point at a box, or go there by the tab key: its ranks and calls stand here.";
+  }
+  at("pointed").hidden = roots.length === 0;
+}
+
+/** Leaves out the rows of all tables that don't fit the words of the filter. */
+function filterTables() {
+  const isWanted = ranksWanted(at("ranks-wanted").value);
+  const text = at("text-wanted").value.trim().toLowerCase();
+  const object = at("object-wanted").value.trim();
+  const fits = (row) => (isWanted === null || row.ranks.some(isWanted)) && row.text.includes(text)
+    && (object === "" || (row.object !== undefined && `${row.object}` === object));
+  const counts = tables.map((it) => it.filter(fits));
+  at("fitting").textContent = `${counted(counts.reduce((a, b) => a + b, 0), "row")} in ${counted(counts.filter((it) => it > 0).length, "table")}`;
+}
+
+function field(id, label) {
+  const input = made("input", "");
+  input.id = id;
+  input.type = "text";
+  input.spellcheck = false;
+  input.addEventListener("input", filterTables);
+  return made("label", "", label, input);
+}
+
+function showFilter() {
+  const each = made("input", "");
+  each.id = "each-rank";
+  each.type = "checkbox";
+  each.addEventListener("change", showTables);
+  const count = made("output", "");
+  count.id = "fitting";
+  at("filter").replaceChildren(field("ranks-wanted", "Ranks, as 3, 8 to 11"), field("text-wanted", "Function, call site or other text"),
+    field("object-wanted", "Object (its id in the layout)"), made("label", "", each, " a row for each rank"), count);
+}
+
+function showTables() {
+  tables = [standingTable(answer, at("each-rank").checked), ...otherTables(answer)];
+  at("tables").replaceChildren(...tables.map((it) => it.element));
+  filterTables();
+}
+
+/** A wall time, and as a date where it can be one. */
+function wallWords(text) {
+  const seconds = Number(text);
+  return seconds < 1e9 || seconds > 1e10 ? `${text} s` : `${new Date(seconds * 1000).toISOString()} (${text} s)`;
+}
+
+function showMade() {
+  const { ranks, sends, begin, end, standing, other_sends: other } = answer.value;
+  const files = new Set(standing.map((it) => it.file).filter((it) => it !== undefined)).size;
+  const sentence = { wait: "a send of standard mode waits for its receive", buffer: "a send of standard mode is buffered" }[sends] ?? sends;
+  const rows = [
+    ["Made by", `${document.querySelector("meta[name=generator]").content} page, of what mpimatch explain --json says`],
+    ["Ranks", `${ranks}`], ["Files", `${files}, in which the last calls of ranks stand`], ["Sends", sentence],
+    ["Begins", begin === null ? "no call can be read" : wallWords(begin)], ["Ends", end === null ? "" : wallWords(end)],
+    ["Lasts", begin === null ? "" : `${secondsBetween(answer.begin, answer.end)} s`],
+  ];
+  if (other !== null) {
+    rows.push(["Other sends", `with the other kind of sends ${other.length === 0 ? "no rank" : rankWords(other)} would be stuck`]);
+  }
+  at("made").replaceChildren(...rows.filter(([, text]) => text !== "").flatMap(([name, text]) => [made("dt", "", name), made("dd", "", named(text))]));
+}
+
+for (const part of [showRoots, showPicture, showFilter, showTables, showMade]) {
+  part();
+}
+</script>
+</body>
+</html>
+"##;
