@@ -29,7 +29,9 @@
 //!   `specs/Inputs.antt`, `Prepared.antt`, `TextCalls.antt`
 //! - when files are texts ([`load::first_look`]), and what is looked at twice ([`load::second_look`]):
 //!   `specs/Looks.antt`, `Notes.antt`
-//! - where files come from ([`load::opener`]), and what observes how far the reading is ([`load::watch`],
+//! - which texts a folder stands for ([`load::folders`]), what is no text ([`load::no_text`]), and what is said of
+//!   texts ([`load::telling`]): `specs/Folders.antt`, `NoTexts.antt`, `Telling.antt`
+//! - where files come from ([`load::opener`], [`load::beside`]), and what observes how far the reading is ([`load::watch`],
 //!   [`load::terminal`]): `specs/Files.antt`
 //! - how a piece is read ([`pieces::piece`], with notes in [`pieces::noted`]), and in which order pieces are refused:
 //!   `specs/Pieces.antt`, `Traces.antt`, `Refusals.antt`, `Notes.antt`
@@ -53,6 +55,7 @@
 //!   piece of a strange rank aside, since a node sees no pieces; the piece of a crew's fault is counted once more.
 //! - A cluster runs by a function of its own: it may wait for threads and a socket, and its promises hold if it
 //!   returns. `report` and `replay` promise that they return.
+//! - Nothing tells the bytes of a file that is found beside a manifest, so of such a run the promises are those of a disk.
 //! - Files are opened through a shared reference, so no clause has to say that a run leaves its files as they were.
 //! - A check rebuilds its index if there are packed files, since the index follows pieces of one rank.
 //! - The names of a fault of `init` are copied before a file is kept, so want of memory hides none that is left.

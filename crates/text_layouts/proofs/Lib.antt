@@ -4,5 +4,5 @@ pub mod Lines
 pub mod Orders
 pub mod Places
 pub mod Refused
-pub mod Texts
+pub mod Seating
 pub mod Told

@@ -3,3 +3,5 @@ pub mod Names
 pub mod Sizes
 pub mod Making
 pub mod Words
+pub mod Seats
+pub mod Summary

@@ -1,6 +1,6 @@
 //! `init`: the layout and the manifest of texts, as two files.
 
-ghost use Rattle.std.specs.Prelude.{◌≡◌, ◌≢◌, IfErr, IfOk, OnOk, map, string_bytes};
+ghost use Rattle.std.specs.Prelude.{◌≡◌, ◌≢◌, IfErr, IfOk, OnOk, string_bytes};
 ghost use Rattle.mpi_model.specs.Failures.{HasFailed};
 ghost use Rattle.run_files.specs.Stores.{Goes, LeavesNothing, Same};
 ghost use Rattle.command_line.specs.Program.{texts_of, wish_of};
@@ -26,14 +26,14 @@ struct BothFiles {
 /// The bytes of both files of what was made of texts, where neither is too long.
 #[tactic(auto, using(crate::proofs::Ended::layout_too_long, crate::proofs::Ended::manifest_too_long))]
 fn files_of(alloc: Global, prepared: &Prepared) -> Result<BothFiles, InitFault>
-    ensures ok { IfOk result (λ both. AreFilesOf prepared.now.made (map string_bytes prepared.now.texts.items) both.layout.items both.manifest.items) }
-    ensures err { IfErr result (RefusesFiles prepared.now.made (map string_bytes prepared.now.texts.items)) }
+    ensures ok { IfOk result (λ both. AreFilesOf prepared.now.made both.layout.items both.manifest.items) }
+    ensures err { IfErr result (RefusesFiles prepared.now.made) }
 {
     let layout = match layout_file_of(alloc, &prepared.made) {
         Ok(layout) => layout,
         Err(fault) => return Err(InitFault::Made(fault)),
     };
-    let manifest = match manifest_file_of(alloc, &prepared.texts) {
+    let manifest = match manifest_file_of(alloc, &prepared.made) {
         Ok(manifest) => manifest,
         Err(fault) => return Err(InitFault::Made(fault)),
     };

@@ -18,7 +18,7 @@ pub returns-in_err-both : goal.returns-in_err-both
 returns-in_err-both g c =
     let made = c.in_ok-prepared.prepared.made in
     let of = c.in_ok-prepared.ensures.made in
-    let refuses : RefusesFiles made of.0.names c.in_err-both.field-0.0 = subst (λ (ns : List (List ℕ)). RefusesFiles made ns c.in_err-both.field-0.0) (sym of.1) c.in_err-both.ensures.err in
+    let refuses : RefusesFiles made c.in_err-both.field-0.0 = c.in_err-both.ensures.err in
     made_refused _ _ (wish_of c.args.wanted) _ _ c.from_residual-in_err-both.result c.in_err-both.field-0.0 g.W.Write.written g.W.Write.failures c.args.out.now made of.0 c.from_residual-in_err-both.ensures.1 refuses
 
 pub returns-in_err-layout : goal.returns-in_err-layout
@@ -42,10 +42,9 @@ returns-in-Ok g c =
     let made = c.in_ok-prepared.prepared.made in
     let of = c.in_ok-prepared.ensures.made in
     let both = c.in_ok-both.both in
-    let are : AreFilesOf made of.0.names both.layout.items both.manifest.items =
-    subst (λ (ns : List (List ℕ)). AreFilesOf made ns both.layout.items both.manifest.items) (sym of.1) c.in_ok-both.ensures.ok in
+    let are : AreFilesOf made both.layout.items both.manifest.items = c.in_ok-both.ensures.ok in
     let wrote : Appends (g.W.Write.written c.args.out.now) (g.W.Write.written c.write_all.new.writer) (notes_of made of.0) =
-    subst (λ (t : List ℕ). Appends (g.W.Write.written c.args.out.now) (g.W.Write.written c.write_all.new.writer) t) (c.deref.ensures.value ∙ of.2) c.in-Ok.ensures.ok in
+    subst (λ (t : List ℕ). Appends (g.W.Write.written c.args.out.now) (g.W.Write.written c.write_all.new.writer) t) (c.deref.ensures.value ∙ of.1) c.in-Ok.ensures.ok in
     (made, of.0, record { layout = both.layout.items; manifest = both.manifest.items; are = are; kept = c.in_default.ensures.ok }, wrote)
 
 pub returns : goal.returns
@@ -53,10 +52,9 @@ returns g c =
     let made = c.in_ok-prepared.prepared.made in
     let of = c.in_ok-prepared.ensures.made in
     let both = c.in_ok-both.both in
-    let are : AreFilesOf made of.0.names both.layout.items both.manifest.items =
-    subst (λ (ns : List (List ℕ)). AreFilesOf made ns both.layout.items both.manifest.items) (sym of.1) c.in_ok-both.ensures.ok in
+    let are : AreFilesOf made both.layout.items both.manifest.items = c.in_ok-both.ensures.ok in
     let front : AppendsFront (g.W.Write.written c.args.out.now) (g.W.Write.written c.write_all.new.writer) (notes_of made of.0) =
-    subst (λ (t : List ℕ). AppendsFront (g.W.Write.written c.args.out.now) (g.W.Write.written c.write_all.new.writer) t) (c.deref.ensures.value ∙ of.2)
+    subst (λ (t : List ℕ). AppendsFront (g.W.Write.written c.args.out.now) (g.W.Write.written c.write_all.new.writer) t) (c.deref.ensures.value ∙ of.1)
     (c.in-Err-write_all.field-0.written, c.in-Err-write_all.ensures.part, c.in-Err-write_all.ensures.err) in
     inr (inr (
       refl,

@@ -5,7 +5,7 @@ use Rattle.std.proofs.lemmas.Option.{slice_get-get_or, slice_get-map}
 use Rattle.std.specs.Option.{option_map}
 use Rattle.command_runs.specs.Prepared.{AreAt}
 use Rattle.command_runs.proofs.Ordered.{at_more, map_push}
-use Rattle.command_runs.proofs.load.prepared.in_order.Goals as goal
+use Rattle.command_runs.proofs.load.prepared.placed.Goals as goal
 
 pub loop-place-preserved : goal.loop-place-preserved
 loop-place-preserved c =
