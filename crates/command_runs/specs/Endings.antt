@@ -86,7 +86,8 @@ abbrev pub strange_line : List Text → List ℕ
 strange_line names = codes "mpimatch: " ++ shown_name (first_name names)
     ++ codes " can't be read as a trace text: name the texts of all ranks, or a layout and a manifest\n"
 
--- Files that are no texts, and not two, are refused: one can't be read, or has to be unpacked; or the words are mistaken.
+-- Files that are no texts, and not two, are refused: one can't be read, or has to be unpacked; or the words are
+-- mistaken.
 abbrev pub EndsStrange : (List ℕ → Option (List ℕ)) → Verb → List Text → Ending → Type 0
 EndsStrange file verb names e = ((fault : InitFault) × AreNoTexts file names fault × (e.status ≡ 1) × IsInitShown file verb fault (string_bytes e.errors))
     ⊎ ((e.status ≡ 2) × (string_bytes e.errors ≡ strange_line names))
@@ -98,15 +99,15 @@ EndsFiles fails file verb names written failures old new e = (BeginsWithText fil
     ⊎ (((layout manifest : Text) × (names ≡ layout ∷ manifest ∷ []) × EndsPair fails file verb layout manifest written failures old new e)
     ⊎ ((length names ≢ 2) × (new ≡ old) × EndsStrange file verb names e))
 
--- A verb over the files that its words name ends so: over the names for which the words stand, or one of them stands for none, and
--- nothing is written.
+-- A verb over the files that its words name ends so: over the names for which the words stand, or one of them stands
+-- for none, and nothing is written.
 abbrev pub EndsNamed : {W : Type 0} → Type 0 → (List ℕ → Option (List ℕ)) → Verb → List Text → (W → Option (List ℕ)) → (W → ℕ) → W → W → Ending → Type 0
 EndsNamed fails file verb words written failures old new e =
     ((names : List Text) × StandForAll file words names × EndsFiles fails file verb names written failures old new e)
     ⊎ ((fault : InitFault) × NamesNoFolder file words fault × (new ≡ old) × (e.status ≡ 1) × IsInitShown file verb fault (string_bytes e.errors))
 
--- `init` over the texts that its words name ends so: over the names for which the words stand, or one of them stands for none, and
--- nothing is written or kept.
+-- `init` over the texts that its words name ends so: over the names for which the words stand, or one of them stands
+-- for none, and nothing is written or kept.
 abbrev pub EndsInitNamed : {W : Type 0} → (List ℕ → Option (List ℕ)) → List Text → Wish → Option Files → Option Files → Type 0 → (W → Option (List ℕ)) → (W → ℕ) → W → W → Ending → Type 0
 EndsInitNamed file words wish before after failed written failures old new e =
     ((names : List Text) × StandForAll file words names × EndsInit file names wish before after failed written failures old new e)

@@ -30,8 +30,8 @@ abbrev pub AreTextsIn : List ℕ → List (String Global) → Type 0
 AreTextsIn folder [] = Unit {0}
 AreTextsIn folder (name ∷ names) = IsTextIn folder (string_bytes name) × AreTextsIn folder names
 
--- These names stand for a word: the word alone; or, where nothing tells the bytes of a file of that name, texts in the folder of that
--- name.
+-- These names stand for a word: the word alone; or, where nothing tells the bytes of a file of that name, texts in the
+-- folder of that name.
 abbrev pub StandFor : Option (List ℕ) → List ℕ → List (String Global) → Type 0
 StandFor file word names = (map string_bytes names ≡ word ∷ []) ⊎ ((file ≡ None) × AreTextsIn word names)
 
@@ -41,8 +41,8 @@ StandForAll file [] names = names ≡ []
 StandForAll file (word ∷ words) names = (some : List (String Global)) × (more : List (List ℕ))
     × StandFor (file word) word some × StandForAll file words more × (names ≡ map string_bytes some ++ more)
 
--- Why a word stands for no names: it is a folder without a text, or one that can't be read; nothing tells the bytes of a file of that
--- name.
+-- Why a word stands for no names: it is a folder without a text, or one that can't be read; nothing tells the bytes of
+-- a file of that name.
 abbrev pub IsNoFolder : List ℕ → Option (List ℕ) → InitFault → Type 0
 IsNoFolder word file Memory = Unit {0}
 IsNoFolder word file (NoTexts path) = IsNamed path word × (file ≡ None)

@@ -11,8 +11,8 @@ use Rattle.command_runs.specs.declared.faults.init_fault.InitFault.TheVariants.{
 abbrev pub HasToBeUnpacked : Start → Option (List ℕ) → Type 0
 HasToBeUnpacked start file = (is_to_be_unpacked start ≡ true) × IsStartOf file start
 
--- A file of this name is no text: it can't be read, or not twice, as nothing tells its bytes; or it has to be unpacked or written
--- anew.
+-- A file of this name is no text: it can't be read, or not twice, as nothing tells its bytes; or it has to be unpacked
+-- or written anew.
 abbrev pub IsNoText : List ℕ → Option (List ℕ) → InitFault → Type 0
 IsNoText name file (Text (File path)) = IsNamed path name × (file ≡ None)
 IsNoText name file (Piped path) = IsNamed path name × (file ≡ None)

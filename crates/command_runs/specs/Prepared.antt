@@ -36,9 +36,9 @@ tells_ranks _ = false
 abbrev pub IsByRank : List (List ℕ) → Bool → List (List ℕ) → Type 0
 IsByRank words by_digits names = (order : Order) × IsOrder (numbers_of words) order × IsOrdered words order names × (by_digits ≡ tells_ranks order)
 
--- The texts that these words name are those of these ranks: in the order of their names' digits or else of the words; but by the
--- numbers of their names, with ranks that have no text, where these and what the texts in that order tell of the size of
--- MPI_COMM_WORLD say so.
+-- The texts that these words name are those of these ranks: in the order of their names' digits or else of the words;
+-- but by the numbers of their names, with ranks that have no text, where these and what the texts in that order tell of
+-- the size of MPI_COMM_WORLD say so.
 pub record AreSeated (file : List ℕ → Option (List ℕ)) (words : List (List ℕ)) (seats : List (Option (List ℕ))) : Type 0 where
   pub by_digits : Bool
   pub names : List (List ℕ)

@@ -53,8 +53,9 @@ pub struct Ending {
 /// help or the version was asked for, 1 for a refused input, with its fault line, and 2 for a
 /// mistake in the words.
 ///
-/// Where a verb takes a layout and a manifest or texts, a folder stands for the texts in it. Then the words are texts if the
-/// first file that isn't empty begins as one, and else a layout and a manifest if they are two, and else mistaken.
+/// Where a verb takes a layout and a manifest or texts, a folder stands for the texts in it. Then the words are texts
+/// if the first file that isn't empty begins as one, and else a layout and a manifest if they are two, and else
+/// mistaken.
 pub fn ending_of<
     R: Net<Listener = TcpListener, Stream = TcpStream> + Threads + Wait + Sync + Eprint,
     O: Opener,
@@ -356,7 +357,8 @@ fn first_name<'a>(names: &[&'a str]) -> &'a str
     }
 }
 
-/// The ending over files that are no texts, and not two: one can't be read, or has to be unpacked; or the words are mistaken.
+/// The ending over files that are no texts, and not two: one can't be read, or has to be unpacked; or the words are
+/// mistaken.
 fn over_no_texts<O: Opener>(
     alloc: Global,
     verb: Verb,

@@ -35,8 +35,8 @@ pub record Outgrows (sends : Sends) (ranks : List RankCalls) : Type 0 where
   pub sound : IsSound choices.Named (world_of ranks) ranks named
   pub too_much : fits (length ranks) (world_of ranks) sends named ≡ false
 
--- What a layout has of what these ranks make: all that some call names, where that fits, and else what some call names that
--- doesn't end it.
+-- What a layout has of what these ranks make: all that some call names, where that fits, and else what some call names
+-- that doesn't end it.
 abbrev pub AreObjectsOf : Sends → List RankCalls → List Communicator → Type 0
 AreObjectsOf sends ranks comms = (IsSound choices.Named (world_of ranks) ranks comms × (fits (length ranks) (world_of ranks) sends comms ≡ true))
     ⊎ (IsSound choices.Used (world_of ranks) ranks comms × Outgrows sends ranks)

@@ -46,8 +46,8 @@ count_of numbers = fold with_number 0 numbers
 abbrev pub unless_each : ℕ → ℕ → Option ℕ
 unless_each texts count = if count == texts then None else if nat_le count MOST_RANKS then Some count else None
 
--- How many ranks there are by the numbers of the names, where some rank has no text: as many as the size says, if all numbers
--- are below it; or, if no text tells a size and a name has the number 0, one more than the greatest number.
+-- How many ranks there are by the numbers of the names, where some rank has no text: as many as the size says, if all
+-- numbers are below it; or, if no text tells a size and a name has the number 0, one more than the greatest number.
 abbrev pub spread_of : Option ℕ → List (Option ℕ) → Option ℕ
 spread_of (Some size) numbers = if are_below size numbers then unless_each (length numbers) size else None
 spread_of None numbers = if is_some (first_from 0 0 numbers) && are_below MOST_RANKS numbers then unless_each (length numbers) (count_of numbers) else None

@@ -95,8 +95,8 @@ fn fits(alloc: Global, ranks: u32, sends: Sends, derived: &Derived) -> Result<bo
     Ok(file.len() <= LONGEST_FILE)
 }
 
-/// What a layout of these ranks has: all that some call names, or, where a layout can't have all that, what some call names
-/// that doesn't end it. A program may make and free any number of communicators without using them.
+/// What a layout of these ranks has: all that some call names, or, where a layout can't have all that, what some call
+/// names that doesn't end it. A program may make and free any number of communicators without using them.
 #[tactic(auto, using(crate::proofs::Fitting::all_fit, crate::proofs::Fitting::used_are))]
 fn fitting(alloc: Global, sends: Sends, ranks: &[RankCalls]) -> Result<Derived, MadeFault>
     requires { length ranks.now < 2 ^ 32 }

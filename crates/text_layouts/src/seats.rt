@@ -168,8 +168,8 @@ pub fn in_order(alloc: Global, names: &[String]) -> Result<Vec<Option<String>>, 
     Ok(seats)
 }
 
-/// The text of each rank by the numbers of the names, where some rank has none; what the texts in the order of these names tell
-/// of the size of MPI_COMM_WORLD says how many ranks there are.
+/// The text of each rank by the numbers of the names, where some rank has none; what the texts in the order of these
+/// names tell of the size of MPI_COMM_WORLD says how many ranks there are.
 pub fn seats_of(
     alloc: Global,
     names: &[String],

@@ -122,8 +122,8 @@ fn put_lost(out: &mut Text, missing: &[u32], left_out: &[LeftOut])
     out.put(b"\n");
 }
 
-/// What is said of a layout that was made of so many texts with so many calls, on one line: how many communicators, windows
-/// and files it has, which ranks have no text, and how many are left out.
+/// What is said of a layout that was made of so many texts with so many calls, on one line: how many communicators,
+/// windows and files it has, which ranks have no text, and how many are left out.
 pub fn put_summary(out: &mut Text, texts: u64, calls: u64, missing: &[u32], derived: &Derived)
     ensures { Adds out.old out.new (summary_text texts calls missing.now derived.now.comms.items (length derived.now.left_out.items)) }
 {

@@ -8,8 +8,8 @@ use crate::load::opener::{OpenFault, Opener};
 use crate::load::reason::Reason;
 use std::alloc::{AllocError, Global};
 
-/// The files that a manifest names: a name that no file has from the folder in which mpimatch runs is looked for beside the
-/// manifest. Of those that are found there nothing tells the bytes.
+/// The files that a manifest names: a name that no file has from the folder in which mpimatch runs is looked for beside
+/// the manifest. Of those that are found there nothing tells the bytes.
 #[derive(Drop)]
 pub(crate) struct Beside<'f, 'n, O: Opener> {
     alloc: Global,

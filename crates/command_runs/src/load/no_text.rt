@@ -42,8 +42,8 @@ fn without_length<O: Opener>(alloc: Global, path: &str, files: &O) -> Result<Ini
     Ok(InitFault::Piped { path })
 }
 
-/// Why a file is no text: it can't be read, or not twice, or it has to be unpacked or written anew. `None` where it is another
-/// file.
+/// Why a file is no text: it can't be read, or not twice, or it has to be unpacked or written anew. `None` where it is
+/// another file.
 #[tactic(auto, using(crate::proofs::Folders::untold_no_text))]
 fn no_text_at<O: Opener>(
     alloc: Global,
