@@ -23,7 +23,7 @@ _mpimatch() {
                 cluster) words="-q --quiet -h --help" files=yes ;;
                 check) words="-q --quiet --verbose --json -h --help" files=yes ;;
                 pack) words="-q --quiet -h --help" files=yes ;;
-                init) words="--sends --layout --manifest --force -q --quiet -h --help" files=yes ;;
+                init) words="--sends --layout --manifest --force -q --quiet --json -h --help" files=yes ;;
             esac
             [[ $word == -* ]] && files= || { [[ $files ]] && words=; }
             ;;

@@ -54,4 +54,5 @@ complete -c mpimatch -n '__fish_seen_subcommand_from init' -l layout -r -F -d 'N
 complete -c mpimatch -n '__fish_seen_subcommand_from init' -l manifest -r -F -d 'Names the file for the manifest [default: manifest.json]'
 complete -c mpimatch -n '__fish_seen_subcommand_from init' -l force -d 'Writes over files of these names that are there'
 complete -c mpimatch -n '__fish_seen_subcommand_from init' -s q -l quiet -d 'Writes nothing on standard error but faults'
+complete -c mpimatch -n '__fish_seen_subcommand_from init' -l json -d 'Prints what was found as one JSON object'
 complete -c mpimatch -n '__fish_seen_subcommand_from init' -s h -l help -d 'Print help'

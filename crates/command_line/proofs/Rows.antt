@@ -11,10 +11,10 @@ pub formed : (name : Text) (rows : List Row) (verb : Verb) (json all rank : Opti
     → in_form verb json all rank ≡ form_in name rows
 formed name rows verb json all rank v j a r = rw (v, j, a, r) refl
 
-pub wanted_from : (sends other_sends : Option Sends) (layout manifest force other_layout other_manifest other_force : Option Text)
-    → sends ≡ other_sends → layout ≡ other_layout → manifest ≡ other_manifest → force ≡ other_force
-    → wanted_of sends layout manifest force ≡ wanted_of other_sends other_layout other_manifest other_force
-wanted_from sends other_sends layout manifest force other_layout other_manifest other_force s l m f = rw (s, l, m, f) refl
+pub wanted_from : (sends other_sends : Option Sends) (layout manifest force json other_layout other_manifest other_force other_json : Option Text)
+    → sends ≡ other_sends → layout ≡ other_layout → manifest ≡ other_manifest → force ≡ other_force → json ≡ other_json
+    → wanted_of sends layout manifest force json ≡ wanted_of other_sends other_layout other_manifest other_force other_json
+wanted_from sends other_sends layout manifest force json other_layout other_manifest other_force other_json s l m f j = rw (s, l, m, f, j) refl
 
 pub init_by : (rows : List Row) (wish : Option Wish) (texts : Option (List Text)) → wish_in rows ≡ wish → all_of (codes "TEXT") rows ≡ texts
     → init_in rows ≡ option_and_then (λ w. option_map (λ t. init t w) texts) wish

@@ -135,7 +135,7 @@ force_rule = record (new_rule (codes "force")) { long = Some (codes "force"); ac
 
 -- `init` over texts, with its options
 abbrev pub init_app : App
-init_app = with_rule (with_rule (with_rule (with_rule (with_rule (with_rule (new_app (codes "init")) (several_rule (codes "TEXT"))) sends_rule) layout_rule) manifest_rule) force_rule) quiet_rule
+init_app = with_rule (with_rule (with_rule (with_rule (with_rule (with_rule (with_rule (new_app (codes "init")) (several_rule (codes "TEXT"))) sends_rule) layout_rule) manifest_rule) force_rule) quiet_rule) json_rule
 
 -- the program with `init`
 abbrev pub with_init : App → App
@@ -163,17 +163,18 @@ verb_named name = if bytes_eq name (codes "explain") then Some (Explain Cut)
     else if bytes_eq name (codes "check") then Some Check
     else if bytes_eq name (codes "pack") then Some Pack else None
 
--- what `init` is to make: how sends complete, the names of the two files, and whether files of these names are written
--- over
+-- what `init` is to make: how sends complete, the names of the two files, whether files of these names are written
+-- over, and whether what was found is printed as JSON
 pub record Wish : Type 0 where
   pub sends : Sends
   pub layout : Text
   pub manifest : Text
   pub force : Bool
+  pub json : Bool
 
 -- what `init` is to make, by its words
 abbrev pub wish_of : Wanted → Wish
-wish_of m = record { sends = m.sends; layout = m.layout.now; manifest = m.manifest.now; force = m.force }
+wish_of m = record { sends = m.sends; layout = m.layout.now; manifest = m.manifest.now; force = m.force; json = m.json }
 
 -- what the words ask for: a verb over a layout and a manifest, a verb over its files, a cluster of a layout and a
 -- manifest, or `init` over its texts
@@ -283,15 +284,15 @@ abbrev pub sends_named : Text → Option Sends
 sends_named word = if bytes_eq word (codes "wait") then Some Wait else if bytes_eq word (codes "buffer") then Some Buffer else None
 
 -- what `init` is to make by its options, where each has its value
-abbrev pub wanted_of : Option Sends → Option Text → Option Text → Option Text → Option Wish
-wanted_of (Some sends) (Some layout) (Some manifest) (Some force) =
-    Some (record { sends = sends; layout = layout; manifest = manifest; force = bytes_eq force (codes "true") })
-wanted_of sends layout manifest force = None
+abbrev pub wanted_of : Option Sends → Option Text → Option Text → Option Text → Option Text → Option Wish
+wanted_of (Some sends) (Some layout) (Some manifest) (Some force) (Some json) =
+    Some (record { sends = sends; layout = layout; manifest = manifest; force = bytes_eq force (codes "true"); json = bytes_eq json (codes "true") })
+wanted_of sends layout manifest force json = None
 
 -- what `init` is to make, where its words can be read
 abbrev pub wish_in : List Row → Option Wish
 wish_in rows = wanted_of (option_and_then sends_named (first_of (codes "sends") rows)) (first_of (codes "layout") rows)
-    (first_of (codes "manifest") rows) (first_of (codes "force") rows)
+    (first_of (codes "manifest") rows) (first_of (codes "force") rows) (first_of (codes "json") rows)
 
 -- `init` over its texts
 abbrev pub init_in : List Row → Option Request

@@ -95,6 +95,8 @@ pub struct Wanted<'a> {
     pub manifest: &'a str,
     /// Whether files of these names may be overwritten.
     pub force: bool,
+    /// Whether what was found is printed as JSON.
+    pub json: bool,
 }
 
 /// What the words ask for, with the names of files as they spell them.
@@ -335,6 +337,7 @@ It writes both or none, and over a file that is there only with --force. It prin
 calls and communicators with their members, and what it left out, by the call that made it.
 The first text is that of rank 0, and so on; or the digits at each name's end are the rank, where every
 name has some and they are 0 to n-1, each once.
+With --json it prints what it found as one JSON object on one line: docs/formats.md has its keys.
 A folder stands for the files in it whose names end in .txt.
 To get the answer at once, give the texts to explain, graph, page, report or check in place of both files.
 "#;
@@ -605,7 +608,8 @@ fn init_command<'a>(alloc: Global) -> Result<Command<'a>, AllocError>
     let layout = sends.arg(layout_argument(alloc))?;
     let manifest = layout.arg(manifest_argument(alloc))?;
     let force = manifest.arg(force_argument(alloc))?;
-    force.arg(quiet_argument(alloc))
+    let quiet = force.arg(quiet_argument(alloc))?;
+    quiet.arg(json_argument(alloc, "Prints what was found as one JSON object"))
 }
 
 /// `init`, without its texts and options.
@@ -996,15 +1000,17 @@ fn wanted_of<'a>(
     layout: Option<&'a str>,
     manifest: Option<&'a str>,
     force: Option<&str>,
+    json: Option<&str>,
 ) -> Option<Wanted<'a>>
-    ensures { option_map wish_of result ≡ wanted_of sends (text_of layout.entry) (text_of manifest.entry) (text_of force.entry) }
+    ensures { option_map wish_of result ≡ wanted_of sends (text_of layout.entry) (text_of manifest.entry) (text_of force.entry) (text_of json.entry) }
 {
-    match (sends, layout, manifest, force) {
-        (Some(sends), Some(layout), Some(manifest), Some(force)) => Some(Wanted {
+    match (sends, layout, manifest, force, json) {
+        (Some(sends), Some(layout), Some(manifest), Some(force), Some(json)) => Some(Wanted {
             sends,
             layout,
             manifest,
             force: force == "true",
+            json: json == "true",
         }),
         _ => None,
     }
@@ -1019,7 +1025,8 @@ fn wanted_in<'a>(inner: &ArgMatches<'a>) -> Option<Wanted<'a>>
     let layout = inner.get_str("layout");
     let manifest = inner.get_str("manifest");
     let force = inner.get_str("force");
-    wanted_of(sends, layout, manifest, force)
+    let json = inner.get_str("json");
+    wanted_of(sends, layout, manifest, force, json)
 }
 
 /// `init` over its texts, with what it is to make.

@@ -4,7 +4,7 @@ use Rattle.mpi_model.specs.declared.layout.Sends.{Sends}
 use Rattle.comm_makings.specs.declared.calls.RankCalls.{RankCalls}
 use Rattle.text_layouts.specs.Seats.{IsSpread, in_order, kept, seats_by, seats_for, spread_by, told_size}
 use Rattle.text_layouts.specs.declared.made.Made.{Made}
-use Rattle.command_runs.specs.Prepared.{AreSeated, IsByRank, IsPrepared, IsPreparedBy, RefusesSaid, RefusesWords, made_notes}
+use Rattle.command_runs.specs.Prepared.{AreSeated, Form, IsByRank, IsPrepared, IsPreparedBy, RefusesSaid, RefusesWords, made_notes}
 use Rattle.command_runs.specs.TextCalls.{AllSay}
 use Rattle.command_runs.specs.declared.faults.init_fault.InitFault.{InitFault}
 use Rattle.command_runs.specs.declared.faults.init_fault.InitFault.TheVariants as faults
@@ -18,14 +18,14 @@ abbrev pub seated_so : (file : List ℕ → Option (List ℕ)) (words names : Li
 seated_so file words names by_digits read count seats by_rank say are =
     record { by_digits = by_digits; names = names; by_rank = by_rank; read = read; count = count; say = say; are = are }
 
-pub prepared_so : (file : List ℕ → Option (List ℕ)) (sends : Sends) (words : List (List ℕ)) (told : Bool) (ranks : List RankCalls) (calls shown : ℕ)
+pub prepared_so : (file : List ℕ → Option (List ℕ)) (form : Form) (sends : Sends) (words : List (List ℕ)) (told : Bool) (ranks : List RankCalls) (calls shown : ℕ)
     (seats : List (Option (List ℕ))) (made : Made) (notes : List ℕ) (seated : AreSeated file words seats)
     → told ≡ told_so (spread_by (told_size seated.read) seated.names) seated.by_digits → AllSay file seats ranks calls → shown ≡ min calls (2 ^ 64 - 1)
-    → IsPreparedBy sends seats told ranks shown made notes → IsPrepared file sends words made notes
-prepared_so file sends words told ranks calls shown seats made notes seated told_is say shown_is h = (
+    → IsPreparedBy form sends seats told ranks shown made notes → IsPrepared file form sends words made notes
+prepared_so file form sends words told ranks calls shown seats made notes seated told_is say shown_is h = (
   record { seats = seats; seated = seated; ranks = ranks; calls = calls; say = say; is_by = h.0 },
-  h.1 ∙ ap (λ (b : Bool). made_notes b seats (length ranks) shown made) told_is
-      ∙ ap (λ (n : ℕ). made_notes (told_so (spread_by (told_size seated.read) seated.names) seated.by_digits) seats (length ranks) n made) shown_is,
+  h.1 ∙ ap (λ (b : Bool). made_notes form b seats (length ranks) shown made) told_is
+      ∙ ap (λ (n : ℕ). made_notes form (told_so (spread_by (told_size seated.read) seated.names) seated.by_digits) seats (length ranks) n made) shown_is,
 )
 
 -- what ranks say makes nothing

@@ -1,5 +1,5 @@
 -- `init`: how it ran, and how the program ends; and texts that are no files.
-use Rattle.std.specs.Prelude.{◌≡◌, ◌⊎◌, ℕ, Bool, true, false, List, [], Option, Result, Ok, Err, string_bytes, Contains, None}
+use Rattle.std.specs.Prelude.{◌≡◌, ◌⊎◌, ℕ, Bool, true, false, List, [], Option, Result, Ok, Err, string_bytes, Contains, None, if◌then◌else◌}
 use Rattle.std.specs.Io.KnownBytes.{Appends, Keeps}
 use Rattle.command_line.specs.Program.{Wish}
 use Rattle.run_files.specs.Stores.{AddsBoth, File, Files, Goes, HasBoth, LeavesNothing, RefusesAdding, RefusesReplacing, Same, spare_name}
@@ -8,7 +8,7 @@ use Rattle.text_layouts.specs.Making.{IsFile, RefusesLayoutFile, RefusesManifest
 use Rattle.text_layouts.specs.declared.fault.MadeFault.{MadeFault}
 use Rattle.text_layouts.specs.declared.made.Made.{Made}
 use Rattle.command_runs.specs.InitFaults.{IsPutFault, init_fault_line_of}
-use Rattle.command_runs.specs.Prepared.{IsMadeOf, RefusesWords, notes_of}
+use Rattle.command_runs.specs.Prepared.{Form, IsMadeOf, RefusesWords, as_json, as_words, notes_of}
 use Rattle.command_runs.specs.Writing.{BreaksOff}
 use Rattle.command_runs.specs.declared.ending.Ending.{Ending}
 use Rattle.command_runs.specs.declared.faults.init_fault.InitFault.{InitFault}
@@ -66,17 +66,21 @@ pub record KeepsMade (wish : Wish) (made : Made) (old new : Option Files) : Type
   pub are : AreFilesOf made layout manifest
   pub kept : Goes (PutsBoth wish.force (file_with wish.layout layout) (file_with wish.manifest manifest)) old new
 
+-- how what was found is wanted
+abbrev pub wished_form : Wish → Form
+wished_form wish = if wish.json then as_json wish.layout wish.manifest else as_words
+
 -- How `init` ran over the texts that these words name, in a store of these files: both files are kept and the notes of
 -- them written; or nothing was made, or what was made isn't kept, and nothing written; or only a front of the notes is.
 abbrev pub RanInit : {W : Type 0} → (List ℕ → Option (List ℕ)) → List (List ℕ) → Wish → Option Files → Option Files → Type 0 → Result (Unit {0}) InitFault → (W → Option (List ℕ)) → (W → ℕ) → W → W → Type 0
 RanInit file words wish old new failed (Ok done) written failures before after = (made : Made) × (is : IsMadeOf file wish.sends words made)
-    × KeepsMade wish made old new × Appends (written before) (written after) (notes_of made is)
+    × KeepsMade wish made old new × Appends (written before) (written after) (notes_of (wished_form wish) made is)
 RanInit file words wish old new failed (Err fault) written failures before after =
     (RefusesWords file words fault × Goes Same old new × Keeps (written before) (written after))
     ⊎ (((made : Made) × (is : IsMadeOf file wish.sends words made) × ((RefusesFiles made fault × Goes Same old new) ⊎ IsUnkept wish old new failed fault)
     × Keeps (written before) (written after))
     ⊎ ((fault ≡ faults.Write) × ((made : Made) × (is : IsMadeOf file wish.sends words made) × KeepsMade wish made old new
-    × BreaksOff (λ text. text ≡ notes_of made is) written failures before after)))
+    × BreaksOff (λ text. text ≡ notes_of (wished_form wish) made is) written failures before after)))
 
 -- the ending after such a run of `init`
 abbrev pub IsEndedInit : Result (Unit {0}) InitFault → Ending → Type 0

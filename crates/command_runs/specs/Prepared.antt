@@ -6,6 +6,8 @@ use Rattle.mpi_model.specs.declared.layout.TheConstants.{MOST_RANKS}
 use Rattle.comm_makings.specs.World.{world_of}
 use Rattle.comm_makings.specs.declared.calls.RankCalls.{RankCalls}
 use Rattle.run_files.specs.Manifests.{manifest_of_texts}
+use Rattle.run_files.specs.Values.{line_of}
+use Rattle.text_layouts.specs.Found.{found_value}
 use Rattle.text_layouts.specs.Making.{AreObjectsOf, RefusesMaking}
 use Rattle.text_layouts.specs.Names.{IsOrder, IsTwice, numbers_of}
 use Rattle.text_layouts.specs.Seats.{in_order, missing_from, missing_text, seats_by, spread_by, texts_from, told_size}
@@ -14,6 +16,8 @@ use Rattle.text_layouts.specs.declared.made.Made.{Made}
 use Rattle.text_layouts.specs.declared.order.Order.{Order}
 use Rattle.text_layouts.specs.declared.order.Order.TheVariants as orders
 use Rattle.command_runs.specs.TextCalls.{AllSay, RefusesOne}
+use Rattle.command_runs.specs.declared.load.prepared.Saying.{Saying}
+use Rattle.command_runs.specs.declared.load.prepared.Saying.TheVariants as sayings
 use Rattle.command_runs.specs.declared.faults.init_fault.InitFault.{InitFault}
 use Rattle.command_runs.specs.declared.faults.init_fault.InitFault.TheVariants.{Memory, TooMany, Twice, Made as NotMade}
 
@@ -96,23 +100,42 @@ abbrev pub digits_text : Bool → List ℕ
 digits_text true = codes "ranks by the digits at the ends of the names\n"
 digits_text false = []
 
--- what is said of so many ranks with so many calls and of what they made: by what their ranks are known, which have no
--- text, and what was found
-abbrev pub made_notes : Bool → List (Option (List ℕ)) → ℕ → ℕ → Made → List ℕ
-made_notes by_digits seats ranks calls made = digits_text by_digits ++ missing_text [] (missing_from 0 seats) (codes "\n")
+-- How it is said what was found: in words, or as JSON, which has the names of the layout's and the manifest's file.
+pub data Form : Type 0 where
+  as_words : Form
+  as_json : List ℕ → List ℕ → Form
+
+-- how it is said
+abbrev pub form_of : Saying → Form
+form_of sayings.Words = as_words
+form_of (sayings.Json layout manifest) = as_json layout.now manifest.now
+
+-- what is said in words of so many ranks with so many calls and of what they made: by what their ranks are known, which
+-- have no text, and what was found
+abbrev pub words_text : Bool → List ℕ → ℕ → ℕ → Made → List ℕ
+words_text by_digits missing ranks calls made = digits_text by_digits ++ missing_text [] missing (codes "\n")
     ++ notes_text ranks calls made.derived.comms.items made.derived.left_out.items
 
+-- the same, in this form
+abbrev pub said_text : Form → Bool → List ℕ → ℕ → ℕ → Made → List ℕ
+said_text as_words by_digits missing ranks calls made = words_text by_digits missing ranks calls made
+said_text (as_json layout manifest) by_digits missing ranks calls made = line_of (found_value layout manifest by_digits missing calls made)
+
+-- what is said of the texts of these ranks
+abbrev pub made_notes : Form → Bool → List (Option (List ℕ)) → ℕ → ℕ → Made → List ℕ
+made_notes form by_digits seats ranks calls made = said_text form by_digits (missing_from 0 seats) ranks calls made
+
 -- what is said of what was made, whose calls are counted up to 2^64 - 1
-abbrev pub notes_of : {file : List ℕ → Option (List ℕ)} {sends : Sends} {words : List (List ℕ)} (made : Made) → IsMadeOf file sends words made → List ℕ
-notes_of made is = made_notes (by_numbers is.seated) is.seats (length is.ranks) (min is.calls (2 ^ 64 - 1)) made
+abbrev pub notes_of : {file : List ℕ → Option (List ℕ)} {sends : Sends} {words : List (List ℕ)} → Form → (made : Made) → IsMadeOf file sends words made → List ℕ
+notes_of form made is = made_notes form (by_numbers is.seated) is.seats (length is.ranks) (min is.calls (2 ^ 64 - 1)) made
 
 -- What a run reads is made by what the texts of these ranks say, and this is said of it.
-abbrev pub IsPreparedBy : Sends → List (Option (List ℕ)) → Bool → List RankCalls → ℕ → Made → List ℕ → Type 0
-IsPreparedBy sends seats by_digits ranks calls made notes = IsMadeBy sends seats ranks made × (notes ≡ made_notes by_digits seats (length ranks) calls made)
+abbrev pub IsPreparedBy : Form → Sends → List (Option (List ℕ)) → Bool → List RankCalls → ℕ → Made → List ℕ → Type 0
+IsPreparedBy form sends seats by_digits ranks calls made notes = IsMadeBy sends seats ranks made × (notes ≡ made_notes form by_digits seats (length ranks) calls made)
 
 -- What a run reads is made of the texts that these words name, by rank, and this is said of it.
-abbrev pub IsPrepared : (List ℕ → Option (List ℕ)) → Sends → List (List ℕ) → Made → List ℕ → Type 0
-IsPrepared file sends words made notes = (is : IsMadeOf file sends words made) × (notes ≡ notes_of made is)
+abbrev pub IsPrepared : (List ℕ → Option (List ℕ)) → Form → Sends → List (List ℕ) → Made → List ℕ → Type 0
+IsPrepared file form sends words made notes = (is : IsMadeOf file sends words made) × (notes ≡ notes_of form made is)
 
 -- why nothing is made by what ranks say, unless memory was wanting
 abbrev pub RefusesSaid : List RankCalls → InitFault → Type 0

@@ -25,7 +25,7 @@ use crate::load::folders::{borrowed, with_folders};
 use crate::load::input::{has_rank, input_at};
 use crate::load::no_text::no_text_of;
 use crate::load::opener::Opener;
-use crate::load::prepared::prepare;
+use crate::load::prepared::{Saying, prepare};
 use crate::load::telling::tell;
 use crate::load::watch::Watcher;
 use crate::run::{Outcome, Run, run_with};
@@ -207,7 +207,7 @@ fn over_texts<R: Eprint, O: Opener, V: Watcher, W: Write>(
         let path = path.to_string(alloc)?;
         return showing_init(alloc, verb, &InitFault::Piped { path }, files);
     }
-    let prepared = match prepare(alloc, Sends::Wait, texts, files) {
+    let prepared = match prepare(alloc, Saying::Words, Sends::Wait, texts, files) {
         Ok(prepared) => prepared,
         Err(fault) => return showing_init(alloc, verb, &fault, files),
     };

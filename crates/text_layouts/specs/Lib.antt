@@ -5,3 +5,4 @@ pub mod Making
 pub mod Words
 pub mod Seats
 pub mod Summary
+pub mod Found

@@ -7,17 +7,19 @@
 //! - [`size`]: whether the texts are those of all ranks, by the size of the world that they tell
 //! - [`made`]: from what all texts say to the input of a run; [`fault`]: why there is none
 //! - [`files`]: the bytes of its two files
-//! - [`words`], [`summary`]: what is said of them to a person, and on one line
+//! - [`words`], [`summary`], [`found`]: what is said of them to a person, on one line, and as JSON
 //!
 //! To change something, open:
 //!
 //! - which text is of which rank: `specs/Names.antt`, `specs/Seats.antt`; [`order`], [`seats`]
 //! - when texts make no layout: `specs/Making.antt`, `specs/Sizes.antt`; [`made`], [`fault`]
-//! - what is said of a layout: `specs/Words.antt`, `specs/Summary.antt`; [`words`], [`summary`]
+//! - what is said of a layout: `specs/Words.antt`, `specs/Summary.antt`, `specs/Found.antt`; [`words`], [`summary`],
+//!   [`found`]
 #![tactic(auto)]
 
 mod fault;
 mod files;
+mod found;
 mod made;
 mod order;
 mod seats;
@@ -28,6 +30,7 @@ mod words;
 
 pub use fault::MadeFault;
 pub use files::{layout_file_of, manifest_file_of};
+pub use found::found_json;
 pub use made::{Made, made_of};
 pub use order::{Order, order_of};
 pub use seats::{in_order, missing_of, seats_of, texts_of};

@@ -1,13 +1,12 @@
 //! From the words that name texts to the input of a run, and what is said of it.
 
-ghost use Rattle.std.specs.Prelude.{◌≡◌, ◌<◌, ◌≤◌, ◌++◌, [], IfErr, IfOk, OnOk, codes, length, map, string_bytes};
+ghost use Rattle.std.specs.Prelude.{◌≡◌, ◌<◌, ◌≤◌, IfErr, IfOk, OnOk, length, map, string_bytes};
 ghost use Rattle.std.specs.List.{All};
 ghost use Rattle.mpi_model.specs.declared.layout.TheConstants.{MOST_RANKS};
 ghost use Rattle.call_words.specs.Texts.{Adds};
 ghost use Rattle.command_line.specs.Program.{texts_of};
-ghost use Rattle.text_layouts.specs.Seats.{kept, missing_text};
-ghost use Rattle.text_layouts.specs.Words.{notes_text};
-ghost use Rattle.command_runs.specs.Prepared.{AreAt, IsByRank, IsPrepared, IsPreparedBy, RefusesNames, RefusesSaid, RefusesWords, digits_text};
+ghost use Rattle.text_layouts.specs.Seats.{kept};
+ghost use Rattle.command_runs.specs.Prepared.{AreAt, IsByRank, IsPrepared, IsPreparedBy, RefusesNames, RefusesSaid, RefusesWords, digits_text, form_of, said_text, words_text};
 
 use crate::faults::init_fault::InitFault;
 use crate::load::opener::Opener;
@@ -16,9 +15,18 @@ use call_words::Text;
 use mpi_model::{MOST_RANKS, Sends};
 use std::alloc::{AllocError, Global};
 use text_layouts::{
-    Made, Order, in_order, made_of, missing_of, order_of, put_missing, put_notes, seats_of,
-    texts_of,
+    Made, Order, found_json, in_order, made_of, missing_of, order_of, put_missing, put_notes,
+    seats_of, texts_of,
 };
+
+/// How it is said what was found in texts.
+#[derive(Clone, Copy)]
+pub(crate) enum Saying<'a> {
+    /// In words for a person.
+    Words,
+    /// As JSON, with the names of the files for the layout and the manifest.
+    Json { layout: &'a str, manifest: &'a str },
+}
 
 /// The input of a run that was made of texts.
 #[derive(Drop)]
@@ -26,7 +34,7 @@ pub(crate) struct Prepared {
     pub(crate) made: Made,
     /// The ranks that have no text.
     pub(crate) missing: Vec<u32>,
-    /// What was found in the texts and what is left out, in words for a person.
+    /// What was found in the texts and what is left out, as it is to be said.
     pub(crate) notes: Vec<u8>,
     /// How many calls the texts have, up to 2^64 - 1.
     pub(crate) calls: u64,
@@ -84,16 +92,15 @@ fn put_digits(out: &mut Text, by_digits: bool)
     }
 }
 
-/// What is said of the texts and of what they made, where these ranks have no text.
-fn notes_of(
+/// What is said in words of the texts and of what they made, where these ranks have no text.
+fn words_of(
     alloc: Global,
     by_digits: bool,
     missing: &[u32],
     calls: u64,
     made: &Made,
 ) -> Result<Vec<u8>, AllocError>
-    ensures { IfOk result (λ notes. notes.items ≡ digits_text by_digits ++ missing_text [] missing.now (codes "\n")
-        ++ notes_text made.now.input.layout.ranks calls made.now.derived.comms.items made.now.derived.left_out.items) }
+    ensures { IfOk result (λ notes. notes.items ≡ words_text by_digits missing.now made.now.input.layout.ranks calls made.now) }
 {
     let mut out = Text::new(alloc);
     put_digits(&mut out, by_digits);
@@ -102,16 +109,36 @@ fn notes_of(
     out.into_bytes()
 }
 
+/// What is said of the texts and of what they made, where these ranks have no text.
+fn notes_of(
+    alloc: Global,
+    saying: Saying<'_>,
+    by_digits: bool,
+    missing: &[u32],
+    calls: u64,
+    made: &Made,
+) -> Result<Vec<u8>, AllocError>
+    ensures { IfOk result (λ notes. notes.items ≡ said_text (form_of saying.entry) by_digits missing.now made.now.input.layout.ranks calls made.now) }
+{
+    match saying {
+        Saying::Words => words_of(alloc, by_digits, missing, calls, made),
+        Saying::Json { layout, manifest } => {
+            found_json(alloc, layout, manifest, by_digits, missing, calls, made)
+        }
+    }
+}
+
 /// What a run reads, by what the texts of the ranks say, of those that have one.
 fn prepared_by(
     alloc: Global,
+    saying: Saying<'_>,
     sends: Sends,
     seats: &[Option<String>],
     by_digits: bool,
     all: &AllCalls,
 ) -> Result<Prepared, InitFault>
     requires { length seats.now ≤ MOST_RANKS }
-    ensures made { IfOk result (λ p. IsPreparedBy sends (kept seats.now) by_digits all.now.ranks.items all.now.calls p.made p.notes.items) }
+    ensures made { IfOk result (λ p. IsPreparedBy (form_of saying.entry) sends (kept seats.now) by_digits all.now.ranks.items all.now.calls p.made p.notes.items) }
     ensures err { IfErr result (RefusesSaid all.now.ranks.items) }
 {
     let texts = texts_of(alloc, seats)?;
@@ -120,7 +147,7 @@ fn prepared_by(
         Ok(made) => made,
         Err(fault) => return Err(InitFault::Made(fault)),
     };
-    let notes = notes_of(alloc, by_digits, &missing, all.calls, &made)?;
+    let notes = notes_of(alloc, saying, by_digits, &missing, all.calls, &made)?;
     Ok(Prepared {
         made,
         missing,
@@ -133,21 +160,22 @@ fn prepared_by(
 /// n - 1. Each text is read once, and once more where some rank has none: then the digits tell the ranks.
 pub(crate) fn prepare<O: Opener>(
     alloc: Global,
+    saying: Saying<'_>,
     sends: Sends,
     words: &[&str],
     files: &O,
 ) -> Result<Prepared, InitFault>
-    ensures made { IfOk result (λ p. IsPrepared (O.file files.now) sends (texts_of words.now) p.made p.notes.items) }
+    ensures made { IfOk result (λ p. IsPrepared (O.file files.now) (form_of saying.entry) sends (texts_of words.now) p.made p.notes.items) }
     ensures err { IfErr result (RefusesWords (O.file files.now) (texts_of words.now)) }
 {
     let (texts, by_digits) = by_rank(alloc, words)?;
     let ordered = in_order(alloc, &texts)?;
     let all = calls_of_all(alloc, &ordered, files)?;
     match seats_of(alloc, &texts, &all.ranks)? {
-        None => prepared_by(alloc, sends, &ordered, by_digits, &all),
+        None => prepared_by(alloc, saying, sends, &ordered, by_digits, &all),
         Some(seats) => {
             let spread = calls_of_all(alloc, &seats, files)?;
-            prepared_by(alloc, sends, &seats, true, &spread)
+            prepared_by(alloc, saying, sends, &seats, true, &spread)
         }
     }
 }

@@ -4,12 +4,13 @@ ghost use Rattle.std.specs.Prelude.{◌≡◌, ◌≢◌, IfErr, IfOk, OnOk, str
 ghost use Rattle.mpi_model.specs.Failures.{HasFailed};
 ghost use Rattle.run_files.specs.Stores.{Goes, LeavesNothing, Same};
 ghost use Rattle.command_line.specs.Program.{texts_of, wish_of};
-ghost use Rattle.command_runs.specs.Inits.{AreFilesOf, PutsBoth, RanInit, RefusesFiles, RefusesPutting, file_with};
+ghost use Rattle.command_runs.specs.Inits.{AreFilesOf, PutsBoth, RanInit, RefusesFiles, RefusesPutting, file_with, wished_form};
+ghost use Rattle.command_runs.specs.Prepared.{form_of};
 ghost use Rattle.command_runs.specs.declared.faults.init_fault.InitFault.TheVariants.{Memory};
 
 use crate::faults::init_fault::{InitFault, put_fault};
 use crate::load::opener::Opener;
-use crate::load::prepared::{Prepared, prepare};
+use crate::load::prepared::{Prepared, Saying, prepare};
 use command_line::Wanted;
 use mpi_model::{Write, write_all};
 use run_files::{NewFile, PutFault, Store, add_both, replace_both};
@@ -79,6 +80,20 @@ fn names_of(alloc: Global, wanted: Wanted<'_>) -> Result<(String, String), InitF
     Ok((layout, manifest))
 }
 
+/// How what was found is to be said.
+fn saying_of<'a>(wanted: Wanted<'a>) -> Saying<'a>
+    ensures { form_of result ≡ wished_form (wish_of wanted.entry) }
+{
+    if wanted.json {
+        Saying::Json {
+            layout: wanted.layout,
+            manifest: wanted.manifest,
+        }
+    } else {
+        Saying::Words
+    }
+}
+
 /// Makes both files of the texts, keeps them, and prints what was found.
 pub(crate) fn init<O: Opener, S: Store, W: Write>(
     alloc: Global,
@@ -91,7 +106,8 @@ pub(crate) fn init<O: Opener, S: Store, W: Write>(
     ensures { RanInit (O.file files.now) (texts_of texts.now) (wish_of wanted.entry) (S.files store.old) (S.files store.new)
         (HasFailed (S.failures store.old) (S.failures store.new)) result W.written W.failures out.old out.new }
 {
-    let prepared = prepare(alloc, wanted.sends, texts, files)?;
+    let saying = saying_of(wanted);
+    let prepared = prepare(alloc, saying, wanted.sends, texts, files)?;
     let both = files_of(alloc, &prepared)?;
     // (what a fault names, before anything is kept)
     let (layout, manifest) = names_of(alloc, wanted)?;

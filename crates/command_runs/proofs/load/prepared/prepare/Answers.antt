@@ -2,7 +2,7 @@ use Rattle.std.proofs.Common.{◌≡◌, ◌∙◌, ℕ, List, Option, None, Str
 use Rattle.std.proofs.lemmas.Result.{IfErr-weaker, IfOk-weaker}
 use Rattle.comm_makings.specs.declared.calls.RankCalls.{RankCalls}
 use Rattle.text_layouts.specs.Seats.{IsSpread, in_order, kept, spread_by, told_size}
-use Rattle.command_runs.specs.Prepared.{IsPreparedBy}
+use Rattle.command_runs.specs.Prepared.{IsPreparedBy, form_of}
 use Rattle.command_runs.specs.TextCalls.{AllSay, RefusesOne}
 use Rattle.command_runs.proofs.Prepared.{none_missing, prepared_so, said_refused, seated_so, spread_out, told_by_names, told_by_numbers}
 use Rattle.command_runs.proofs.Runs.{handed_on}
@@ -36,9 +36,9 @@ returns-in-None g c =
     ap₂ (λ (rs : List RankCalls) (ts : List (String Global)). spread_by (told_size rs) (map string_bytes ts)) (sym c.deref-4.ensures.value) (sym c.deref-3.ensures.value) ∙ c.in-None.ensures.none in
     let seated = seated_so file words names by_digits read told.0 (in_order names) c.in_ok-texts.ensures.ok say (none_missing (told_size read) names none) in
     record {
-      made = IfOk-weaker c.prepared_by.result _ _ (λ p h. prepared_so file c.args.sends words by_digits read told.0 c.in_ok-all.all.calls (in_order names) p.made p.notes.items seated
+      made = IfOk-weaker c.prepared_by.result _ _ (λ p h. prepared_so file (form_of c.args.saying) c.args.sends words by_digits read told.0 c.in_ok-all.all.calls (in_order names) p.made p.notes.items seated
           (told_by_names (told_size read) names by_digits none) say told.2
-          (subst (λ (ss : List (Option (List ℕ))). IsPreparedBy c.args.sends ss by_digits read c.in_ok-all.all.calls p.made p.notes.items) (ap kept c.deref-in-None.ensures.value ∙ ordered) h)) c.prepared_by.ensures.made;
+          (subst (λ (ss : List (Option (List ℕ))). IsPreparedBy (form_of c.args.saying) c.args.sends ss by_digits read c.in_ok-all.all.calls p.made p.notes.items) (ap kept c.deref-in-None.ensures.value ∙ ordered) h)) c.prepared_by.ensures.made;
       err = IfErr-weaker c.prepared_by.result _ _ (λ fault h. said_refused file words (in_order names) read told.0 fault seated say h) c.prepared_by.ensures.err;
     }
 
@@ -82,8 +82,8 @@ returns-in_ok-spread g c =
     let again = c.in_ok-spread.ensures.ok in
     let says : AllSay file seats of.ranks.items again.0 = subst (λ (ss : List (Option (String Global))). AllSay file (kept ss) of.ranks.items again.0) c.deref-in-Some.ensures.value again.1 in
     record {
-      made = IfOk-weaker c.prepared_by-in-Some.result _ _ (λ p h. prepared_so file c.args.sends words true of.ranks.items again.0 of.calls seats p.made p.notes.items seated
+      made = IfOk-weaker c.prepared_by-in-Some.result _ _ (λ p h. prepared_so file (form_of c.args.saying) c.args.sends words true of.ranks.items again.0 of.calls seats p.made p.notes.items seated
           (told_by_numbers (told_size read) names c.in_ok-texts.by_digits c.in-Some.seats.items spread) says again.2
-          (subst (λ (ss : List (Option (String Global))). IsPreparedBy c.args.sends (kept ss) true of.ranks.items of.calls p.made p.notes.items) c.deref-in-Some-2.ensures.value h)) c.prepared_by-in-Some.ensures.made;
+          (subst (λ (ss : List (Option (String Global))). IsPreparedBy (form_of c.args.saying) c.args.sends (kept ss) true of.ranks.items of.calls p.made p.notes.items) c.deref-in-Some-2.ensures.value h)) c.prepared_by-in-Some.ensures.made;
       err = IfErr-weaker c.prepared_by-in-Some.result _ _ (λ fault h. said_refused file words seats of.ranks.items again.0 fault seated says h) c.prepared_by-in-Some.ensures.err;
     }

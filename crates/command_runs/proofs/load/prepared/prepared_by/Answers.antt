@@ -1,12 +1,11 @@
-use Rattle.std.proofs.Common.{◌≡◌, ◌∙◌, [], ◌++◌, ℕ, List, Option, ap, codes, length, subst}
+use Rattle.std.proofs.Common.{◌≡◌, ◌∙◌, ℕ, List, ap, length, subst}
 use Rattle.mpi_model.specs.Layouts.{Holds}
 use Rattle.comm_makings.specs.World.{world_of}
 use Rattle.comm_makings.specs.declared.calls.RankCalls.{RankCalls}
 use Rattle.run_files.specs.Manifests.{PieceParts, manifest_of_texts}
 use Rattle.text_layouts.specs.Making.{AreObjectsOf, RefusesMaking}
-use Rattle.text_layouts.specs.Seats.{kept, missing_from, missing_text, texts_from}
-use Rattle.text_layouts.specs.Words.{notes_text}
-use Rattle.command_runs.specs.Prepared.{digits_text}
+use Rattle.text_layouts.specs.Seats.{kept, missing_from}
+use Rattle.command_runs.specs.Prepared.{form_of, said_text}
 use Rattle.command_runs.proofs.load.prepared.prepared_by.Goals as goal
 
 pub returns-in-Err-clause-err : goal.returns-in-Err-clause-err
@@ -24,7 +23,7 @@ returns-clause-made c =
     subst (λ (rs : List RankCalls). AreObjectsOf c.args.sends rs made.derived.comms.items) are c.in-Ok.ensures.objects in
     let seats = kept c.args.seats.now in
     let missing : c.deref-2.result.now ≡ missing_from 0 seats = c.deref-2.ensures.value ∙ c.in_ok-missing.ensures in
-    let rest = λ (m : List ℕ) (n : ℕ). digits_text c.args.by_digits ++ missing_text [] m (codes "\n") ++ notes_text n c.args.all.now.calls made.derived.comms.items made.derived.left_out.items in (
+    let rest = λ (m : List ℕ) (n : ℕ). said_text (form_of c.args.saying) c.args.by_digits m n c.args.all.now.calls made in (
       record {
         world = c.in-Ok.ensures.world ∙ ap world_of are;
         objects = objects;
