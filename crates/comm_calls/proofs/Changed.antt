@@ -29,7 +29,7 @@ made maker raw returned (actions.Make parent making given) is e =
 made maker raw returned (actions.CommRank comm rank) is e = absurd is
 made maker raw returned (actions.Free comm) is e = absurd is
 made maker raw returned (actions.Group group given) is e = absurd is
-made maker raw returned (actions.GivesComm comm given) is e = absurd is
+made maker raw returned (actions.GivesComm giver comm given) is e = absurd is
 made maker raw returned (actions.MakeObject of parent given) is e = absurd is
 made maker raw returned (actions.EndObject object number) is e = absurd is
 
@@ -38,7 +38,7 @@ grouped grouper raw returned (actions.Make parent making given) is = absurd is
 grouped grouper raw returned (actions.CommRank comm rank) is = absurd is
 grouped grouper raw returned (actions.Free comm) is = absurd is
 grouped grouper raw returned (actions.Group group given) is = refl
-grouped grouper raw returned (actions.GivesComm comm given) is = absurd is
+grouped grouper raw returned (actions.GivesComm giver comm given) is = absurd is
 grouped grouper raw returned (actions.MakeObject of parent given) is = absurd is
 grouped grouper raw returned (actions.EndObject object number) is = absurd is
 

@@ -12,14 +12,14 @@ use Rattle.comm_makings.specs.declared.calls.GroupCall.TheVariants as group_call
 use Rattle.comm_makings.specs.declared.calls.GroupName.{GroupName}
 use Rattle.comm_makings.specs.declared.calls.Making.{Making}
 use Rattle.comm_makings.specs.declared.calls.Making.TheVariants as makings
+use Rattle.comm_makings.specs.declared.calls.OtherMaker.{OtherMaker}
+use Rattle.comm_makings.specs.declared.calls.OtherMaker.TheVariants as givers
 use Rattle.comm_makings.specs.declared.calls.RankRange.{RankRange}
 use Rattle.comm_calls.specs.Lists.{flags_in, ranges_in, ranks_in, sizes_in}
 use Rattle.comm_calls.specs.Numbers.{color_in, comm_in, flag_in, given_in, group_in, int_in, natural_in, object_of}
 use Rattle.comm_calls.specs.Parameters.{or_text, text_of}
 use Rattle.comm_calls.specs.declared.function.Function.{Function}
 use Rattle.comm_calls.specs.declared.function.Function.TheVariants as functions
-use Rattle.comm_calls.specs.declared.function.Giver.{Giver}
-use Rattle.comm_calls.specs.declared.function.Giver.TheVariants as givers
 use Rattle.comm_calls.specs.declared.function.Grouper.{Grouper}
 use Rattle.comm_calls.specs.declared.function.Grouper.TheVariants as groupers
 use Rattle.comm_calls.specs.declared.function.Maker.{Maker}
@@ -132,22 +132,32 @@ grouped_in _ raw = group_at (codes "newgroup") raw
 -- ---- other functions
 
 -- the communicator that another function gives
-abbrev pub other_of : Giver → TextCall → Option (List ℕ)
+abbrev pub other_of : OtherMaker → TextCall → Option (List ℕ)
 other_of givers.SplitType raw = text_of (codes "newcomm") raw
-other_of givers.NewComm raw = text_of (codes "newcomm") raw
-other_of givers.NewIntercomm raw = text_of (codes "newintercomm") raw
-other_of givers.Merge raw = or_text (text_of (codes "newintracomm") raw) (or_text (text_of (codes "newintercomm") raw) (text_of (codes "newcomm") raw))
-other_of givers.Intercomm raw = text_of (codes "intercomm") raw
-other_of givers.Parent raw = text_of (codes "parent") raw
+other_of givers.Accept raw = text_of (codes "newcomm") raw
+other_of givers.Connect raw = text_of (codes "newcomm") raw
+other_of givers.CreateFromGroup raw = text_of (codes "newcomm") raw
+other_of givers.IntercommCreate raw = text_of (codes "newintercomm") raw
+other_of givers.IntercommCreateFromGroups raw = text_of (codes "newintercomm") raw
+other_of givers.IntercommMerge raw = or_text (text_of (codes "newintracomm") raw) (or_text (text_of (codes "newintercomm") raw) (text_of (codes "newcomm") raw))
+other_of givers.Spawn raw = text_of (codes "intercomm") raw
+other_of givers.SpawnMultiple raw = text_of (codes "intercomm") raw
+other_of givers.Join raw = text_of (codes "intercomm") raw
+other_of givers.GetParent raw = text_of (codes "parent") raw
 
 -- the communicator that such a function is called on (MPI 4.0, 7.4.2, 7.6 and 11.8 to 11.10)
-abbrev pub called_on : Giver → TextCall → Option (List ℕ)
+abbrev pub called_on : OtherMaker → TextCall → Option (List ℕ)
 called_on givers.SplitType raw = parent_text raw
-called_on givers.NewComm raw = text_of (codes "comm") raw
-called_on givers.NewIntercomm raw = text_of (codes "local_comm") raw
-called_on givers.Merge raw = None
-called_on givers.Intercomm raw = text_of (codes "comm") raw
-called_on givers.Parent raw = None
+called_on givers.Accept raw = text_of (codes "comm") raw
+called_on givers.Connect raw = text_of (codes "comm") raw
+called_on givers.CreateFromGroup raw = text_of (codes "comm") raw
+called_on givers.IntercommCreate raw = text_of (codes "local_comm") raw
+called_on givers.IntercommCreateFromGroups raw = text_of (codes "local_comm") raw
+called_on givers.IntercommMerge raw = None
+called_on givers.Spawn raw = text_of (codes "comm") raw
+called_on givers.SpawnMultiple raw = text_of (codes "comm") raw
+called_on givers.Join raw = text_of (codes "comm") raw
+called_on givers.GetParent raw = None
 
 -- ---- windows and files
 
@@ -183,6 +193,6 @@ IsAction (functions.Make maker) raw action = IsMake maker raw action
 IsAction functions.Rank raw action = action ≡ actions.CommRank (comm_in (text_of (codes "comm") raw)) (natural_in (text_of (codes "rank") raw))
 IsAction functions.Free raw action = action ≡ actions.Free (comm_in (text_of (codes "comm") raw))
 IsAction (functions.Group grouper) raw action = IsGroup grouper raw action
-IsAction (functions.Give giver) raw action = action ≡ actions.GivesComm (comm_in (called_on giver raw)) (given_in (other_of giver raw))
+IsAction (functions.Give maker) raw action = action ≡ actions.GivesComm maker (comm_in (called_on maker raw)) (given_in (other_of maker raw))
 IsAction (functions.MakeObject maker) raw action = action ≡ actions.MakeObject maker (comm_in (text_of (codes "comm") raw)) (object_in (object_made maker) raw)
 IsAction (functions.EndObject object) raw action = action ≡ actions.EndObject object (natural_in (object_text object raw))

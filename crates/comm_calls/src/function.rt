@@ -4,7 +4,7 @@ ghost use Rattle.std.specs.Prelude.{◌≡◌, ◌||◌};
 ghost use Rattle.std.specs.Str.{bytes_eq};
 ghost use Rattle.comm_calls.specs.Functions.{ender_named, function_named, giver_named, grid_named, group_named, maker_named, object_maker_named, other_group_named, single_named};
 
-use comm_makings::ObjectMaker;
+use comm_makings::{ObjectMaker, OtherMaker};
 use mpi_model::Object;
 
 /// A function that makes communicators of the members of another (MPI 4.0, 7.4.2 and 8.5).
@@ -41,24 +41,6 @@ pub(crate) enum Grouper {
     UnreadNew,
 }
 
-/// The parameters of a function whose communicators aren't derived: the one that gives the communicator, and the one
-/// that names the communicator it is called on.
-#[derive(Clone, Copy)]
-pub(crate) enum Giver {
-    /// MPI_Comm_split_type: `newcomm`, on `oldcomm` or `comm`.
-    SplitType,
-    /// `newcomm`, on `comm`.
-    NewComm,
-    /// `newintercomm`, on `local_comm`.
-    NewIntercomm,
-    /// MPI_Intercomm_merge: `newintracomm`, `newintercomm` or `newcomm`.
-    Merge,
-    /// `intercomm`, on `comm`.
-    Intercomm,
-    /// `parent`.
-    Parent,
-}
-
 /// A function whose calls are read.
 #[derive(Clone, Copy)]
 pub(crate) enum Function {
@@ -68,7 +50,8 @@ pub(crate) enum Function {
     /// MPI_Comm_free and MPI_Comm_disconnect.
     Free,
     Group(Grouper),
-    Give(Giver),
+    /// What gives a communicator from which nothing is derived.
+    Give(OtherMaker),
     /// What makes a window or a file.
     MakeObject(ObjectMaker),
     /// MPI_Win_free and MPI_File_close.
@@ -185,31 +168,31 @@ fn other_group_named(name: &[u8]) -> Option<Grouper>
 }
 
 /// Another function that gives a communicator (MPI 4.0, 7.4.2, 7.6 and 11.8 to 11.10).
-fn giver_named(name: &[u8]) -> Option<Giver>
+fn giver_named(name: &[u8]) -> Option<OtherMaker>
     ensures { result ≡ giver_named name.now }
 {
     if is(name, "MPI_Comm_split_type") {
-        Some(Giver::SplitType)
+        Some(OtherMaker::SplitType)
     } else if is(name, "MPI_Comm_accept") {
-        Some(Giver::NewComm)
+        Some(OtherMaker::Accept)
     } else if is(name, "MPI_Comm_connect") {
-        Some(Giver::NewComm)
+        Some(OtherMaker::Connect)
     } else if is(name, "MPI_Comm_create_from_group") {
-        Some(Giver::NewComm)
+        Some(OtherMaker::CreateFromGroup)
     } else if is(name, "MPI_Intercomm_create") {
-        Some(Giver::NewIntercomm)
+        Some(OtherMaker::IntercommCreate)
     } else if is(name, "MPI_Intercomm_create_from_groups") {
-        Some(Giver::NewIntercomm)
+        Some(OtherMaker::IntercommCreateFromGroups)
     } else if is(name, "MPI_Intercomm_merge") {
-        Some(Giver::Merge)
+        Some(OtherMaker::IntercommMerge)
     } else if is(name, "MPI_Comm_spawn") {
-        Some(Giver::Intercomm)
+        Some(OtherMaker::Spawn)
     } else if is(name, "MPI_Comm_spawn_multiple") {
-        Some(Giver::Intercomm)
+        Some(OtherMaker::SpawnMultiple)
     } else if is(name, "MPI_Comm_join") {
-        Some(Giver::Intercomm)
+        Some(OtherMaker::Join)
     } else if is(name, "MPI_Comm_get_parent") {
-        Some(Giver::Parent)
+        Some(OtherMaker::GetParent)
     } else {
         None
     }
@@ -284,8 +267,8 @@ pub(crate) fn function_named(name: &[u8]) -> Option<Function>
     if let Some(grouper) = group_named(name) {
         return Some(Function::Group(grouper));
     }
-    if let Some(giver) = giver_named(name) {
-        return Some(Function::Give(giver));
+    if let Some(maker) = giver_named(name) {
+        return Some(Function::Give(maker));
     }
     if let Some(maker) = object_maker_named(name) {
         return Some(Function::MakeObject(maker));

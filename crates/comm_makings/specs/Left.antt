@@ -38,13 +38,13 @@ number_said _ = None
 -- the function of a call that gives a communicator, and the number that it gives
 abbrev pub giving : Action → Option Giver
 giving (actions.Make parent making given) = Some (record { made_by = function_of making; number = number_said given })
-giving (actions.GivesComm comm given) = Some (record { made_by = functions.Other; number = number_said given })
+giving (actions.GivesComm maker comm given) = Some (record { made_by = functions.Other maker; number = number_said given })
 giving _ = None
 
 -- Why a handle is left out of which nothing was derived: by its function, by a parent that is left out, or by one that
 -- is unknown.
 abbrev pub why_open : MadeBy → Bool → Why
-why_open functions.Other known = whys.Function
+why_open (functions.Other maker) known = whys.Function
 why_open _ true = whys.Parent
 why_open _ false = whys.UnknownParent
 

@@ -200,7 +200,7 @@ IsMadeBy ranks views dims all functions.DistGraphCreate parts = IsDistGraphMade 
 IsMadeBy ranks views dims all functions.DistGraphCreateAdjacent parts = IsDistGraphMade ranks views all parts
 IsMadeBy ranks views dims all functions.Create parts = ⊥
 IsMadeBy ranks views dims all functions.CreateGroup parts = ⊥
-IsMadeBy ranks views dims all functions.Other parts = ⊥
+IsMadeBy ranks views dims all (functions.Other maker) parts = ⊥
 
 -- The calls are one making of this function: those that are there call it, and what they give can be read.
 pub record IsOneMaking (function : MadeBy) (all : List (Option Here)) : Type 0 where

@@ -62,7 +62,7 @@ comm_named (actions.Make parent making given) = parent
 comm_named (actions.CommRank comm rank) = comm
 comm_named (actions.Free comm) = comm
 comm_named (actions.Group group given) = comm_of_group group
-comm_named (actions.GivesComm comm given) = comm
+comm_named (actions.GivesComm maker comm given) = comm
 comm_named (actions.MakeObject maker parent given) = parent
 comm_named (actions.EndObject object number) = None
 
@@ -105,7 +105,7 @@ second_named _ = named.Unknown
 -- what a call gives
 abbrev pub gives_by : (ℕ → Bool) → ℕ → Bool → Action → Gives
 gives_by taken place returned (actions.Make parent making given) = gives_of taken returned given place
-gives_by taken place returned (actions.GivesComm comm given) = gives_of taken returned given place
+gives_by taken place returned (actions.GivesComm maker comm given) = gives_of taken returned given place
 gives_by taken place returned _ = gives.Nothing
 
 -- what a call gives, as these names say
@@ -184,7 +184,7 @@ after_action taken at naming call (actions.Make parent making given) = after_giv
 after_action taken at naming call (actions.CommRank comm rank) = naming
 after_action taken at naming call (actions.Free comm) = after_free taken naming (next_call call.call) comm
 after_action taken at naming call (actions.Group group given) = after_group at naming call given
-after_action taken at naming call (actions.GivesComm comm given) = after_given taken naming call given
+after_action taken at naming call (actions.GivesComm maker comm given) = after_given taken naming call given
 after_action taken at naming call (actions.MakeObject maker parent given) = naming
 after_action taken at naming call (actions.EndObject object number) = naming
 

@@ -73,7 +73,7 @@ abbrev pub number_on : Action → Option ℕ
 number_on (actions.Make parent (makings.CreateGroup group tag) given) = None
 number_on (actions.Make parent making given) = parent
 number_on (actions.Free comm) = comm
-number_on (actions.GivesComm comm given) = comm
+number_on (actions.GivesComm maker comm given) = comm
 number_on (actions.MakeObject maker parent given) = parent
 number_on _ = None
 

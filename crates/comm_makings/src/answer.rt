@@ -1,5 +1,6 @@
 //! What is derived: the communicators of a layout, and what is left out of it.
 
+use crate::calls::OtherMaker;
 use mpi_model::Comm;
 
 /// Which communicators, windows and files are written.
@@ -53,8 +54,8 @@ pub enum MadeBy {
     GraphCreate,
     DistGraphCreate,
     DistGraphCreateAdjacent,
-    /// Another function, whose communicators aren't derived.
-    Other,
+    /// A function whose communicators aren't derived.
+    Other(OtherMaker),
 }
 
 /// Why a communicator is left out.

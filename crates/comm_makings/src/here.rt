@@ -180,7 +180,7 @@ pub(crate) fn gives_later(function: MadeBy) -> bool
         | MadeBy::GraphCreate
         | MadeBy::DistGraphCreate
         | MadeBy::DistGraphCreateAdjacent
-        | MadeBy::Other => false,
+        | MadeBy::Other(_) => false,
     }
 }
 

@@ -45,8 +45,8 @@ fn giving(action: &Action) -> Option<Giver>
             made_by: function_of(making),
             number: number_said(*given),
         }),
-        Action::GivesComm { given, .. } => Some(Giver {
-            made_by: MadeBy::Other,
+        Action::GivesComm { maker, given, .. } => Some(Giver {
+            made_by: MadeBy::Other(*maker),
             number: number_said(*given),
         }),
         Action::CommRank { .. }
@@ -62,7 +62,7 @@ fn why_open(function: MadeBy, is_known: bool) -> Why
     ensures { result ≡ why_open function is_known }
 {
     match function {
-        MadeBy::Other => Why::Function,
+        MadeBy::Other(_) => Why::Function,
         MadeBy::Dup
         | MadeBy::DupWithInfo
         | MadeBy::Idup

@@ -318,7 +318,7 @@ impl Names {
                 Ok(meant)
             },
             Action::Group { group, given } => self.grouped(call, at, group, *given),
-            Action::GivesComm { comm, given } => {
+            Action::GivesComm { comm, given, .. } => {
                 let comm = self.comm(*comm);
                 let gives = self.give(call, *given)?;
                 Ok(naming(comm, gives))

@@ -48,7 +48,7 @@ fn outcome_of(
         MadeBy::DistGraphCreate | MadeBy::DistGraphCreateAdjacent => {
             dist_graph_outcome(alloc, ranks, views, all, members)
         },
-        MadeBy::Create | MadeBy::CreateGroup | MadeBy::Other => Ok(Outcome::Unsound),
+        MadeBy::Create | MadeBy::CreateGroup | MadeBy::Other(_) => Ok(Outcome::Unsound),
     }
 }
 
