@@ -297,7 +297,7 @@ impl<'a> Writer<'a> {
         let object = self.named(rank, call, comm)?;
         self.source
             .layout
-            .members(object)?
+            .peers(object, rank)?
             .get(peer as usize)
             .copied()
     }
