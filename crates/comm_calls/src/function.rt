@@ -215,7 +215,8 @@ fn giver_named(name: &[u8]) -> Option<Giver>
     }
 }
 
-/// What tells a rank its own, frees a communicator, or joins and merges groups (MPI 4.0, 7.4.1, 7.4.3, 7.6.2 and 11.10.4).
+/// What tells a rank its own, frees a communicator, or joins and merges groups (MPI 4.0, 7.4.1, 7.4.3, 7.6.2 and
+/// 11.10.4).
 fn single_named(name: &[u8]) -> Option<Function>
     ensures { result ≡ single_named name.now }
 {

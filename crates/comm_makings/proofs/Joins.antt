@@ -1,5 +1,5 @@
 -- Intercommunicators that derive: of the offers of two leaders, of another one; and what is merged of one.
-use Rattle.std.proofs.Common.{◌≡◌, ℕ, ℤ, Bool, true, false, ◌++◌, List, [], ◌∷◌, Option, Some, None, IfSome, All, Vec, length, take, drop, is_some, option_and_then, ap, ◌∙◌, sym, subst, refl}
+use Rattle.std.proofs.Common.{◌≡◌, ℕ, ℤ, Bool, true, false, ◌++◌, List, [], ◌∷◌, Option, Some, None, IfSome, All, Vec, length, take, drop, is_some, option_and_then, ap, ◌∙◌, sym, subst, refl, inl, inr}
 use Rattle.std.specs.List.{slice_get}
 use Rattle.std.specs.declared.alloc.Global.{Global}
 use Rattle.std.proofs.lemmas.Option.{same_Some}

@@ -45,8 +45,8 @@ pub record AreAccounted (ranks : List RankCalls) (views : List RankView) (uses :
       → meant_at views rank at ≡ Some meant → meant.gives ≡ gives.Handle handle → IsOfMade made inters rank handle ⊎ IsLeftOut left_out rank call.call (count_at uses rank (Some handle))
 
 -- What derives from what the ranks called: each communicator and each intercommunicator that is made derives (MPI 4.0,
--- chapters 7 and 8), and so do the windows and files of these (12.2 and 14.2); those that calls name, or calls that don't
--- end them, are written behind the world, and all other communicators that calls give are left out.
+-- chapters 7 and 8), and so do the windows and files of these (12.2 and 14.2); those that calls name, or calls that
+-- don't end them, are written behind the world, and all other communicators that calls give are left out.
 --
 -- `Derives` asks for less than a communicator needs, in these points:
 -- * A making of which nothing is made counts as read where its calls have one function and what they give can be read,

@@ -88,7 +88,8 @@ abbrev pub is_of_comm : GroupCall → Type 0
 is_of_comm (calls.OfComm comm) = Unit {0}
 is_of_comm _ = ⊥
 
--- The call is MPI_Comm_remote_group: it gives the group of an intercommunicator in which the caller isn't (MPI 4.0, 7.6.1).
+-- The call is MPI_Comm_remote_group: it gives the group of an intercommunicator in which the caller isn't (MPI 4.0,
+-- 7.6.1).
 abbrev pub is_of_remote : GroupCall → Type 0
 is_of_remote (calls.OfRemote comm) = Unit {0}
 is_of_remote _ = ⊥

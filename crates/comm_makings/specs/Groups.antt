@@ -68,8 +68,8 @@ group_of_side inters place second = option_map (side_ranks second) (slice_get in
 abbrev pub side_asked : Bool → Bool → Bool
 side_asked remote second = cond remote (not second) second
 
--- The group of a communicator, by how its handle stands, or the remote group of an intercommunicator, which no other communicator
--- has (MPI 4.0, 7.6).
+-- The group of a communicator, by how its handle stands, or the remote group of an intercommunicator, which no other
+-- communicator has (MPI 4.0, 7.6).
 abbrev pub IsGroupOf : List Made → Bool → Option HandleState → GroupValue → Type 0
 IsGroupOf inters remote None value = value ≡ values.Unknown
 IsGroupOf inters remote (Some standings.Open) value = value ≡ values.Waits

@@ -106,8 +106,8 @@ abbrev pub SaysLeader : List RankCalls → ℕ → Option Here → Type 0
 SaysLeader ranks leader None = Unit {0}
 SaysLeader ranks leader (Some here) = option_and_then (λ l. l.own) (leaders_at ranks here.rank here.at) ≡ Some leader
 
--- A call by which a rank, the leader of its own group, names the leader of another over a communicator that has both, with a tag
--- (MPI 4.0, 7.6.2).
+-- A call by which a rank, the leader of its own group, names the leader of another over a communicator that has both,
+-- with a tag (MPI 4.0, 7.6.2).
 pub record Offers (ranks : List RankCalls) (views : List RankView) (group bridge : List Member) (rank other : ℕ) (tag : ℤ) : Type 0 where
   pub at : ℕ
   pub leaders : Leaders
@@ -126,8 +126,9 @@ pub record Offers (ranks : List RankCalls) (views : List RankView) (group bridge
   pub reaches : rank_of bridge remote ≡ Some other
   pub tagged : leaders.tag ≡ Some tag
 
--- Calls that join the groups of two communicators: their leaders name each other over one communicator, with one tag; all calls of
--- each group name one leader of its own; no rank is in both; and each call that returned gives the intercommunicator.
+-- Calls that join the groups of two communicators: their leaders name each other over one communicator, with one tag;
+-- all calls of each group name one leader of its own; no rank is in both; and each call that returned gives the
+-- intercommunicator.
 pub record IsJoining (ranks : List RankCalls) (views : List RankView) (first second bridge : List Member) (all : List (Option Here)) : Type 0 where
   pub of_first : List (Option Here)
   pub of_second : List (Option Here)
@@ -165,15 +166,16 @@ abbrev pub SaysHigh : List RankCalls → Bool → Option Here → Type 0
 SaysHigh ranks high None = Unit {0}
 SaysHigh ranks high (Some here) = high_at ranks here.rank here.at ≡ Some high
 
--- The merged members: the group whose calls say `low` comes first. Where both say the same the implementation chose the order,
--- which MPI_Comm_rank tells (MPI 4.0, 7.6.2).
+-- The merged members: the group whose calls say `low` comes first. Where both say the same the implementation chose the
+-- order, which MPI_Comm_rank tells (MPI 4.0, 7.6.2).
 abbrev pub IsMergedOf : List RankView → List (Option Here) → ℕ → Bool → Bool → List Selection → Type 0
 IsMergedOf views all size false true parts = parts ≡ one_of (range_with_len 0 (length all)) None
 IsMergedOf views all size true false parts = parts ≡ one_of (range_with_len size (length all - size) ++ range_with_len 0 size) None
 IsMergedOf views all size false false parts = IsReordered views all None parts
 IsMergedOf views all size true true parts = IsReordered views all None parts
 
--- Calls that merge the two groups, the first of which has so many members: of each group some are there, all of which say the same.
+-- Calls that merge the two groups, the first of which has so many members: of each group some are there, all of which
+-- say the same.
 pub record IsMerge (ranks : List RankCalls) (views : List RankView) (members : List Member) (size : ℕ) (all : List (Option Here)) (part : Selection) : Type 0 where
   pub calls : AreOwnCalls ranks views members all
   pub one : IsOneMaking functions.IntercommMerge all

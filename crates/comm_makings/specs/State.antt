@@ -69,8 +69,8 @@ pub record IsMemberOf (comms : List Made) (place rank handle : ℕ) : Type 0 whe
   pub here : slice_get comms place ≡ Some comm
   pub member : IsMember comm.members.items rank handle
 
--- A handle of a rank stands for the derived intercommunicator at this place, of whose groups the rank is in the second or in the
--- first.
+-- A handle of a rank stands for the derived intercommunicator at this place, of whose groups the rank is in the second
+-- or in the first.
 abbrev pub StandsInter : List (Vec HandleState Global) → ℕ → ℕ → ℕ → Bool → Type 0
 StandsInter rows rank handle place second = standing_at rows rank handle ≡ Some (standings.Inter place second)
 
@@ -160,7 +160,8 @@ pub record NamesMembers (members : List Member) (place : ℕ) (old new : List (V
   pub each : (rank handle at : ℕ) → StandsFor new rank handle at → StandsFor old rank handle at ⊎ ((at ≡ place) × IsMember members rank handle)
   pub inters : (rank handle at : ℕ) (second : Bool) → StandsInter new rank handle at second → StandsInter old rank handle at second
 
--- The member's handle may stand for the intercommunicator at this place, as one of this group, and otherwise none that did not before.
+-- The member's handle may stand for the intercommunicator at this place, as one of this group, and otherwise none that
+-- did not before.
 pub record BindsInter (member : Member) (place : ℕ) (second : Bool) (old new : List (Vec HandleState Global)) : Type 0 where
   pub each : (rank handle at : ℕ) → StandsFor new rank handle at → StandsFor old rank handle at
   pub inters : (rank handle at : ℕ) (side : Bool) → StandsInter new rank handle at side

@@ -84,8 +84,8 @@ pub record HasNumber (views : List RankView) (uses : List HandleUses) (made : Ma
 abbrev pub IsNamedIn : List RankView → AllUses → Made → Communicator → Type 0
 IsNamedIn views uses made comm = ((comm.numbers ≡ []) × HasNumber views uses.comms.items made comm.comm) ⊎ (comm.numbers ≡ map (entry_of views (uses_by uses made.object) made.object) made.members.items)
 
--- What a layout has of a derived communicator, window or file has its sort, and its ranks in their order; of an intercommunicator
--- also the size of the second group.
+-- What a layout has of a derived communicator, window or file has its sort, and its ranks in their order; of an
+-- intercommunicator also the size of the second group.
 pub record IsWrittenOf (views : List RankView) (uses : AllUses) (made : Made) (comm : Communicator) : Type 0 where
   pub sort : comm.object ≡ made.object
   pub members : comm.members ≡ made.ranks.items

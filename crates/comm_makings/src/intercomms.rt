@@ -52,7 +52,8 @@ pub(crate) enum Offered {
     Unknown,
 }
 
-/// The offers that none has answered yet, by bridge, tag, leader and other leader: each a rank and the place of its call.
+/// The offers that none has answered yet, by bridge, tag, leader and other leader: each a rank and the place of its
+/// call.
 pub(crate) type OpenOffers = BTreeMap<(usize, i32, u32, u32), VecDeque<(u32, usize)>>;
 
 /// Where the derived communicator of a handle stands.
@@ -161,8 +162,8 @@ fn offer_over(
     }
 }
 
-/// What a call of MPI_Intercomm_create is to other groups. What it says of the other leader counts only where it is by the leader
-/// of its own group.
+/// What a call of MPI_Intercomm_create is to other groups. What it says of the other leader counts only where it is by
+/// the leader of its own group.
 pub(crate) fn offer_at(
     ranks: &[RankCalls],
     views: &[RankView],
@@ -215,8 +216,8 @@ fn keep(alloc: Global, open: &mut OpenOffers, offer: Offer) -> Result<(), AllocE
     Ok(())
 }
 
-/// The first offer that this one answers, which is kept no longer; where there is none, this one is kept. Since the k-th of a
-/// leader answers the k-th of the other one, only one of the two has offers that are kept.
+/// The first offer that this one answers, which is kept no longer; where there is none, this one is kept. Since the
+/// k-th of a leader answers the k-th of the other one, only one of the two has offers that are kept.
 pub(crate) fn answered(
     alloc: Global,
     open: &mut OpenOffers,
@@ -593,8 +594,8 @@ fn is_copy(function: MadeBy) -> bool
     }
 }
 
-/// What the k-th of the calls of an intercommunicator's members make of it that make communicators of the members of another:
-/// a duplicate of the same groups, or nothing.
+/// What the k-th of the calls of an intercommunicator's members make of it that make communicators of the members of
+/// another: a duplicate of the same groups, or nothing.
 #[tactic(auto, using(crate::proofs::Joins::copy_derives))]
 pub(crate) fn copied_of(
     alloc: Global,
@@ -692,8 +693,8 @@ fn second_first(alloc: Global, size: u32, members: u32) -> Result<Outcome, Alloc
     one_part(alloc, behind(alloc, &second, &first)?, None)
 }
 
-/// The merged members, of which the first so many are the first group, by what the calls of both groups say: where they say the
-/// same, the implementation chose the order, which MPI_Comm_rank tells (MPI 4.0, 7.6.2).
+/// The merged members, of which the first so many are the first group, by what the calls of both groups say: where they
+/// say the same, the implementation chose the order, which MPI_Comm_rank tells (MPI 4.0, 7.6.2).
 fn merge_outcome(
     alloc: Global,
     views: &[RankView],
@@ -741,7 +742,8 @@ fn merged_by(
     }
 }
 
-/// What these calls of an intercommunicator's members make of it that merge its groups, the first of which has so many members.
+/// What these calls of an intercommunicator's members make of it that merge its groups, the first of which has so many
+/// members.
 #[tactic(auto, using(crate::proofs::Joins::merge_derives))]
 fn merged_in(
     alloc: Global,

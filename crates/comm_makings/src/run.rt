@@ -1097,8 +1097,8 @@ impl Run {
         }
     }
 
-    /// Reads the calls of a rank that join two groups, from this one on, as far as they don't wait. Gives the number of one that
-    /// waits.
+    /// Reads the calls of a rank that join two groups, from this one on, as far as they don't wait. Gives the number of
+    /// one that waits.
     fn read_joins(
         &mut self,
         alloc: Global,

@@ -22,9 +22,9 @@ pub(crate) struct RankView {
     pub makings: Vec<Vec<usize>>,
     /// For each handle the calls of MPI_Comm_create_group on it, in their order.
     pub by_group: Vec<Vec<usize>>,
-    /// Of each handle the calls of MPI_Intercomm_create that join its group with another, in their order.
+    /// For each handle the calls of MPI_Intercomm_create that join its group with another, in their order.
     pub joins: Vec<Vec<usize>>,
-    /// Of each handle the calls of MPI_Intercomm_merge on it, in their order.
+    /// For each handle the calls of MPI_Intercomm_merge on it, in their order.
     pub merges: Vec<Vec<usize>>,
     /// All calls of MPI_Intercomm_create, in their order.
     pub all_joins: Vec<usize>,
@@ -154,8 +154,8 @@ fn is_merge(call: &CommCall) -> bool {
     matches!(&call.action, Action::Merge { .. })
 }
 
-/// Of each handle the calls on it that join two groups, or else those that merge two, up to the first on a communicator that is
-/// unknown.
+/// For each handle the calls on it that join two groups, or else those that merge two, up to the first on a
+/// communicator that is unknown.
 fn calls_on(
     alloc: Global,
     calls: &[CommCall],

@@ -55,7 +55,8 @@ is_among rank members = list_any (λ r. r == rank) members
 abbrev pub local_group : ℕ → Communicator → List ℕ
 local_group rank g = if is_inter g then (if is_among rank (first_group g) then first_group g else second_group g) else g.members
 
--- The group whose ranks a rank names, as peers and as roots: of an intercommunicator the one in which it isn't, its remote group (MPI 4.0, 7.6).
+-- The group whose ranks a rank names, as peers and as roots: of an intercommunicator the one in which it isn't, its
+-- remote group (MPI 4.0, 7.6).
 abbrev pub peers : ℕ → Communicator → List ℕ
 peers rank g = if is_inter g then (if is_among rank (first_group g) then second_group g else first_group g) else g.members
 

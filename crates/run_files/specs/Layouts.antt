@@ -42,8 +42,8 @@ plain g = record { members = g.members.items; remote_size = g.remote_size }
 abbrev pub alone : List ℕ → Groups
 alone members = record { members = members; remote_size = 0 }
 
--- Two groups, one behind the other. Where the second is told and has no rank, no member is left, so that the rule is broken that
--- asks each group for one.
+-- Two groups, one behind the other. Where the second is told and has no rank, no member is left, so that the rule is
+-- broken that asks each group for one.
 abbrev pub joined : List ℕ → List ℕ → Groups
 joined members remote = if length remote == 0 then alone [] else record { members = members ++ remote; remote_size = length remote }
 
@@ -70,8 +70,8 @@ communicator_from (Some comm) None members remote numbers = None
 communicator_from (Some comm) (Some object) None remote numbers = None
 communicator_from (Some comm) (Some object) (Some members) remote numbers = communicator_with comm object (groups_in object members remote) numbers
 
--- A communicator, a window or a file: its id, its sort, its members, the other group of an intercommunicator, and by which numbers all
--- of these name it.
+-- A communicator, a window or a file: its id, its sort, its members, the other group of an intercommunicator, and by
+-- which numbers all of these name it.
 abbrev pub communicator_in : Data → Option Communicator
 communicator_in value = communicator_from (option_and_then u32_in (get (codes "id") value))
     (object_in (get (codes "object") value))

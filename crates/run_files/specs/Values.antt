@@ -66,8 +66,8 @@ with_remote g others = if is_inter g then member (codes "remote") (array (items_
 abbrev pub remote_tokens : Communicator → List Token
 remote_tokens g = if is_inter g then tokens.key (codes "remote") ∷ tokens.begin_array ∷ items_tokens (items_of number_of (second_group g)) else []
 
--- `{"id":C,"object":"window","members":[..],"remote":[..],"numbers":[..]}`, without the second field for a communicator, and without
--- the fourth for what has one group
+-- `{"id":C,"object":"window","members":[..],"remote":[..],"numbers":[..]}`, without the second field for a
+-- communicator, and without the fourth for what has one group
 abbrev pub communicator_value : Communicator → Json
 communicator_value g = object (member (codes "id") (number_of g.comm) (with_object g.object (member (codes "members") (array (items_of number_of (first_group g))) (with_remote g (numbers_field g.numbers)))))
 

@@ -27,7 +27,8 @@ sort_text objects.File = codes "file "
 abbrev pub second_text : Communicator → List ℕ
 second_text g = if is_inter g then codes " and " ++ named_ranks_text (second_group g) else []
 
--- `  5: ranks 0, 2`, the members in their order, or `  window 9: ranks 0, 1`; `  7: ranks 0, 1 and ranks 2, 3` of an intercommunicator
+-- `  5: ranks 0, 2`, the members in their order, or `  window 9: ranks 0, 1`; `  7: ranks 0, 1 and ranks 2, 3` of an
+-- intercommunicator
 abbrev pub comm_text : Communicator → List ℕ
 comm_text g = codes "  " ++ sort_text g.object ++ decimal g.comm ++ codes ": " ++ named_ranks_text (first_group g) ++ second_text g ++ codes "\n"
 

@@ -48,8 +48,8 @@ told_of layout ops calls round function root =
 abbrev pub name_of : Round → RoundName
 name_of round = record { object = round.comm; k = round.k }
 
--- The same of a round: calls that don't match aren't compared, nor those on an intercommunicator, where what a group gives
--- is what the other one gets (MPI 4.0, 6.2.2).
+-- The same of a round: calls that don't match aren't compared, nor those on an intercommunicator, where what a group
+-- gives is what the other one gets (MPI 4.0, 6.2.2).
 abbrev pub told_in : Parts → List Ops → CallsTold → Round → List Heading
 told_in layout ops calls round = if is_intercomm layout.comms round.comm then [] else by round.standing
   where

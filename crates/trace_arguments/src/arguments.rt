@@ -170,8 +170,9 @@ fn told_among(
 }
 
 /// The rounds, among these, of calls that match but don't agree in their arguments: one for each line of the table of
-/// arguments in which two members have different values that are known, in the order of the rounds and then of the lines
-/// (MPI 4.0, 6). Rounds of an intercommunicator aren't compared. What the ranks did is given, and what their calls tell.
+/// arguments in which two members have different values that are known, in the order of the rounds and then of the
+/// lines (MPI 4.0, 6). Rounds of an intercommunicator aren't compared. What the ranks did is given, and what their
+/// calls tell.
 pub fn arguments_of(
     alloc: Global,
     layout: &Layout,

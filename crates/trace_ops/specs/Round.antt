@@ -12,8 +12,8 @@ use Rattle.trace_ops.specs.declared.entered.Entered.{Entered}
 use Rattle.trace_ops.specs.Foreign.{Group, group_of}
 use Rattle.trace_ops.specs.Steps.{Step}
 
--- The root of a round. On an intercommunicator each member names another: `MPI_ROOT`, `MPI_PROC_NULL` or a rank of the other
--- group (MPI 4.0, 6.2.3), so its rounds have none.
+-- The root of a round. On an intercommunicator each member names another: `MPI_ROOT`, `MPI_PROC_NULL` or a rank of the
+-- other group (MPI 4.0, 6.2.3), so its rounds have none.
 abbrev pub root_in : Group → CollectiveCall → Option ℕ
 root_in g c = if g.inter then None else c.root
 
@@ -45,8 +45,8 @@ abbrev pub is_barrier_kind : Kind → Bool
 is_barrier_kind Barrier = true
 is_barrier_kind kind = false
 
--- A Barrier, which no member leaves before all have entered it (MPI 4.0, 6.3). An Ibarrier may return at once (6.12.1), and one
--- on an intercommunicator waits for the other group alone (6.3).
+-- A Barrier, which no member leaves before all have entered it (MPI 4.0, 6.3). An Ibarrier may return at once (6.12.1),
+-- and one on an intercommunicator waits for the other group alone (6.3).
 abbrev pub is_barrier : Entered → Bool
 is_barrier x = is_barrier_kind x.function.kind && not x.function.nonblocking && not x.inter
 

@@ -130,8 +130,8 @@ may_be_owed_nothing sends.Buffer kind = (row kind).may_be_owed_nothing
 abbrev pub peers_first : Run → ℕ → Entered → ℕ → waits.Wait
 peers_first s r e k = if is_barrier_kind e.function.kind then absent_of s e.comm k (peers_on s e.comm r) else OnNothing
 
--- What a call on an intercommunicator waits for. Under `wait` the absent members of both groups; under `buffer` a barrier waits
--- for the other group (MPI 4.0, 6.3), and any other call for nothing.
+-- What a call on an intercommunicator waits for. Under `wait` the absent members of both groups; under `buffer` a
+-- barrier waits for the other group (MPI 4.0, 6.3), and any other call for nothing.
 abbrev pub across : Run → ℕ → Entered → ℕ → waits.Wait
 across s r e k = by s.layout.sends
   where

@@ -69,8 +69,8 @@ fn put_comms(out: &mut Writer, comms: &[Comm]) -> Result<(), AllocError>
     out.end_array()
 }
 
-/// Puts a communicator, a window or a file: its id, its sort, its members, the second group of an intercommunicator apart,
-/// and their entries where it has some.
+/// Puts a communicator, a window or a file: its id, its sort, its members, the second group of an intercommunicator
+/// apart, and their entries where it has some.
 fn put_comm(out: &mut Writer, comm: &Comm) -> Result<(), AllocError>
     ensures { Puts result out.old out.new (json_tokens (communicator_value comm.now)) }
 {
