@@ -1,5 +1,5 @@
 -- Offers as the program has them, by what is derived so far, and what it makes of intercommunicators.
-use Rattle.std.specs.Prelude.{◌≡◌, ℕ, Bool, false, List, [], ◌∷◌, Option, Some, Vec, length}
+use Rattle.std.specs.Prelude.{◌≡◌, ℕ, ℤ, Bool, false, List, [], ◌∷◌, Option, Some, Vec, length}
 use Rattle.std.specs.List.{slice_get}
 use Rattle.std.specs.Option.{option_and_then}
 use Rattle.std.specs.declared.alloc.Global.{Global}
@@ -40,6 +40,14 @@ IsPlace standing places.Unknown = Unit {0}
 -- the rank in the run of a rank of the derived communicator at a place
 abbrev pub rank_at : List Made → ℕ → ℕ → Option ℕ
 rank_at comms place rank = option_and_then (λ c. slice_get c.ranks.items rank) (slice_get comms place)
+
+-- A call that says this of the leaders names the other one, a rank of the run, over the derived communicator at a place,
+-- with this tag.
+pub record Asks (comms : List Made) (bridge : ℕ) (leaders : Leaders) (asked : ℕ × ℤ) : Type 0 where
+  pub remote : ℕ
+  pub remote_said : leaders.other ≡ Some remote
+  pub reaches : rank_at comms bridge remote ≡ Some asked.0
+  pub tagged : leaders.tag ≡ Some asked.1
 
 -- The offer is that of a leader's call, by the derived communicators that the call names.
 pub record IsOffer (ranks : List RankCalls) (views : List RankView) (stand : List (Vec HandleState Global)) (comms : List Made) (offer : Offer) : Type 0 where

@@ -7,7 +7,7 @@ ghost use Rattle.comm_groups.specs.Groups.{intersection_of};
 ghost use Rattle.comm_makings.specs.Derives.{comm_meant};
 ghost use Rattle.comm_makings.specs.Intercomms.{AreOwnCalls, IsMergedOf, IsOwnCall, SaysHigh, SaysLeader, first_size, high_at, high_of, inter_function, inter_here_at, is_copy, leaders_at, leaders_of, own_here};
 ghost use Rattle.comm_makings.specs.Makes.{IsOneMaking};
-ghost use Rattle.comm_makings.specs.Offering.{Answer, IfJoined, IfMerged, IsInterOf, IsMadeByMerge, IsOffer, IsOffered, IsPlace, MakesOfInter, rank_at};
+ghost use Rattle.comm_makings.specs.Offering.{Answer, Asks, IfJoined, IfMerged, IsInterOf, IsMadeByMerge, IsOffer, IsOffered, IsPlace, MakesOfInter, rank_at};
 ghost use Rattle.comm_makings.specs.Parts.{IsOne};
 ghost use Rattle.comm_makings.specs.State.{AreDerived, AreMembers, IfParts, IsDerivedInter, standing_at};
 
@@ -130,36 +130,12 @@ fn leads(comms: &[Made], place: usize, leader: u32, rank: u32) -> bool
     }
 }
 
-/// What a leader's call is, whose group is that of the derived communicator at this place.
-fn offer_over(
-    ranks: &[RankCalls],
-    views: &[RankView],
-    standings: &[Vec<HandleState>],
-    comms: &[Made],
-    rank: u32,
-    at: usize,
-    local: usize,
-    bridge: usize,
-) -> Offered
-    ensures { IsOffered ranks.now views.now standings.now comms.now rank at result }
+/// The other leader that a call names over the derived communicator at a place, as a rank of the run, and the tag.
+fn asked(comms: &[Made], bridge: usize, leaders: Leaders) -> Option<(u32, i32)>
+    ensures { IfSome result (Asks comms.now bridge leaders) }
 {
-    let Some(leaders) = leaders_at(ranks, rank, at) else {
-        return Offered::Unknown;
-    };
-    let (Some(other), Some(tag)) = (leaders.other, leaders.tag) else {
-        return Offered::Unknown;
-    };
-    match rank_at(comms, bridge, other) {
-        Some(other) => Offered::Offers(Offer {
-            rank,
-            at,
-            local,
-            bridge,
-            other,
-            tag,
-        }),
-        None => Offered::Unknown,
-    }
+    let other = rank_at(comms, bridge, leaders.other?)?;
+    Some((other, leaders.tag?))
 }
 
 /// What a call of MPI_Intercomm_create is to other groups. What it says of the other leader counts only where it is by
@@ -195,8 +171,16 @@ pub(crate) fn offer_at(
                 Place::Unknown => Offered::Unknown,
                 Place::Waits => Offered::Waits,
                 Place::Left => Offered::Nothing,
-                Place::At(bridge) => {
-                    offer_over(ranks, views, standings, comms, rank, at, local, bridge)
+                Place::At(bridge) => match asked(comms, bridge, leaders) {
+                    Some((other, tag)) => Offered::Offers(Offer {
+                        rank,
+                        at,
+                        local,
+                        bridge,
+                        other,
+                        tag,
+                    }),
+                    None => Offered::Unknown,
                 },
             }
         },
@@ -480,47 +464,6 @@ fn own_leader(ranks: &[RankCalls], offer: Offer) -> Option<u32>
     leaders_at(ranks, offer.rank, offer.at)?.own
 }
 
-/// The intercommunicator of two groups, of which all calls of each name one leader, where they give it.
-#[tactic(auto, using(crate::proofs::Joins::joined_derives))]
-fn joined_by(
-    alloc: Global,
-    ranks: &[RankCalls],
-    views: &[RankView],
-    standings: &[Vec<HandleState>],
-    comms: &[Made],
-    one: Offer,
-    other: Offer,
-    of_one: &[Option<Here>],
-    of_other: &[Option<Here>],
-    all: &[Option<Here>],
-) -> Result<Option<Made>, AllocError>
-    requires comms { AreDerived ranks.now views.now comms.now }
-    requires members { AreMembers comms.now standings.now }
-    requires offers { IsOffer ranks.now views.now standings.now comms.now one × IsOffer ranks.now views.now standings.now comms.now other }
-    requires answer { Answer one other }
-    requires calls { IfSome (slice_get comms.now one.local) (λ c. AreOwnCalls ranks.now views.now c.members.items of_one.now × (length of_one.now ≡ length c.members.items)) }
-    requires others { IfSome (slice_get comms.now other.local) (λ c. AreOwnCalls ranks.now views.now c.members.items of_other.now × (length of_other.now ≡ length c.members.items)) }
-    requires all { all.now ≡ of_one.now ++ of_other.now }
-    ensures { IfOk result (λ o. IfSome o (IsDerivedInter ranks.now views.now)) }
-{
-    let Some(first) = comm_at(comms, one.local) else {
-        return Ok(None);
-    };
-    let Some(second) = comm_at(comms, other.local) else {
-        return Ok(None);
-    };
-    if !say_leader(ranks, own_leader(ranks, one), of_one)
-        || !say_leader(ranks, own_leader(ranks, other), of_other)
-    {
-        return Ok(None);
-    }
-    if !are_one(all, MadeBy::IntercommCreate) || !are_apart(alloc, first, second)? {
-        return Ok(None);
-    }
-    let members = behind(alloc, &first.members, &second.members)?;
-    inter_of(alloc, &members, all, second.members.len(), false)
-}
-
 /// The calls of the members of the communicator at a place by which an offer joins its group with another.
 fn calls_at(
     alloc: Global,
@@ -537,7 +480,9 @@ fn calls_at(
     }
 }
 
-/// What two offers make that answer each other: an intercommunicator of the two local groups.
+/// What two offers make that answer each other: an intercommunicator of the two local groups, if all calls of each group
+/// name one leader, no rank is in both, and the calls give it.
+#[tactic(auto, using(crate::proofs::Joins::joined_derives))]
 pub(crate) fn join_groups(
     alloc: Global,
     ranks: &[RankCalls],
@@ -556,9 +501,22 @@ pub(crate) fn join_groups(
     let of_one = calls_at(alloc, ranks, views, comms, one)?;
     let of_other = calls_at(alloc, ranks, views, comms, other)?;
     let all = behind(alloc, &of_one, &of_other)?;
-    match joined_by(
-        alloc, ranks, views, standings, comms, one, other, &of_one, &of_other, &all,
-    )? {
+    let Some(first) = comm_at(comms, one.local) else {
+        return Ok(Joined::Left(all));
+    };
+    let Some(second) = comm_at(comms, other.local) else {
+        return Ok(Joined::Left(all));
+    };
+    if !say_leader(ranks, own_leader(ranks, one), &of_one)
+        || !say_leader(ranks, own_leader(ranks, other), &of_other)
+    {
+        return Ok(Joined::Left(all));
+    }
+    if !are_one(&all, MadeBy::IntercommCreate) || !are_apart(alloc, first, second)? {
+        return Ok(Joined::Left(all));
+    }
+    let members = behind(alloc, &first.members, &second.members)?;
+    match inter_of(alloc, &members, &all, second.members.len(), false)? {
         Some(inter) => Ok(Joined::Inter(inter)),
         None => Ok(Joined::Left(all)),
     }

@@ -98,6 +98,14 @@ pub(crate) fn leave(standings: &mut Vec<Vec<HandleState>>, all: &[Option<Here>],
     }
 }
 
+/// Which makings come behind an unsound one, or which merges: from this one on up to the end.
+#[derive(Clone, Copy)]
+struct Later {
+    first: usize,
+    end: usize,
+    merges: bool,
+}
+
 /// The k-th calls of the members that make communicators of all of them, or that merge two groups.
 fn calls_kth(
     alloc: Global,
@@ -114,22 +122,20 @@ fn calls_kth(
     }
 }
 
-/// What these members make from the k-th making on is left out, or what they merge.
+/// What these members make or merge later is left out.
 #[tactic(auto, using(crate::proofs::Standings::keeps_all, crate::proofs::Standings::keeps_more))]
 fn leave_behind(
     alloc: Global,
     ranks: &[RankCalls],
     views: &[RankView],
     members: &[Member],
-    k: usize,
-    end: usize,
-    merges: bool,
+    later: Later,
     standings: &mut Vec<Vec<HandleState>>,
 ) -> Result<(), AllocError>
     ensures { KeepsDerived standings.old.items standings.new.items }
 {
-    for later in k..end {
-        let all = calls_kth(alloc, ranks, views, members, later, merges)?;
+    for k in later.first..later.end {
+        let all = calls_kth(alloc, ranks, views, members, k, later.merges)?;
         leave(standings, &all, Why::Behind);
     }
     Ok(())
@@ -317,24 +323,30 @@ fn group_call_at(ranks: &[RankCalls], rank: usize, at: usize) -> Option<&GroupCa
     }
 }
 
+/// The communicators that are derived so far, and the intercommunicators.
+#[derive(Clone, Copy)]
+struct Known<'a> {
+    comms: &'a [Made],
+    inters: &'a [Made],
+}
+
 /// The group that a call of a rank gives, by what is known of the calls before it.
 #[tactic(auto, using(crate::proofs::Values::given_value))]
 fn value_at(
     alloc: Global,
     ranks: &[RankCalls],
     views: &[RankView],
-    comms: &[Made],
-    inters: &[Made],
+    known: Known<'_>,
     standings: &[HandleState],
     values: &[GroupValue],
     rank: usize,
     at: usize,
 ) -> Result<GroupValue, AllocError>
-    requires comms { AreDerived ranks.now views.now comms.now }
-    requires inters { AreInters ranks.now views.now inters.now }
-    requires standings { AreMembersIn comms.now inters.now rank standings.now }
-    requires groups { AreDerivedGroups ranks.now views.now comms.now rank values.now }
-    ensures { IfOk result (IsDerivedGroup ranks.now views.now comms.now rank at) }
+    requires comms { AreDerived ranks.now views.now known.comms.now }
+    requires inters { AreInters ranks.now views.now known.inters.now }
+    requires standings { AreMembersIn known.comms.now known.inters.now rank standings.now }
+    requires groups { AreDerivedGroups ranks.now views.now known.comms.now rank values.now }
+    ensures { IfOk result (IsDerivedGroup ranks.now views.now known.entry.comms.now rank at) }
 {
     let Some(group) = group_call_at(ranks, rank, at) else {
         return Ok(GroupValue::Unknown);
@@ -342,7 +354,15 @@ fn value_at(
     let Some(meant) = meant_at(views, rank, at) else {
         return Ok(GroupValue::Unknown);
     };
-    let value = value_of(alloc, group, &meant, values, standings, comms, inters)?;
+    let value = value_of(
+        alloc,
+        group,
+        &meant,
+        values,
+        standings,
+        known.comms,
+        known.inters,
+    )?;
     Ok(value)
 }
 
@@ -352,23 +372,20 @@ fn refresh(
     alloc: Global,
     ranks: &[RankCalls],
     views: &[RankView],
-    comms: &[Made],
-    inters: &[Made],
+    known: Known<'_>,
     standings: &[HandleState],
     rank: usize,
     values: &mut Vec<GroupValue>,
 ) -> Result<(), AllocError>
-    requires comms { AreDerived ranks.now views.now comms.now }
-    requires inters { AreInters ranks.now views.now inters.now }
-    requires standings { AreMembersIn comms.now inters.now rank standings.now }
-    requires groups { AreDerivedGroups ranks.now views.now comms.now rank values.old.items }
-    ensures { OnOk result (AreDerivedGroups ranks.now views.now comms.now rank values.new.items) }
+    requires comms { AreDerived ranks.now views.now known.comms.now }
+    requires inters { AreInters ranks.now views.now known.inters.now }
+    requires standings { AreMembersIn known.comms.now known.inters.now rank standings.now }
+    requires groups { AreDerivedGroups ranks.now views.now known.comms.now rank values.old.items }
+    ensures { OnOk result (AreDerivedGroups ranks.now views.now known.entry.comms.now rank values.new.items) }
 {
     for at in 0..values.len() {
         if let Some(GroupValue::Waits) = values.get(at) {
-            let value = value_at(
-                alloc, ranks, views, comms, inters, standings, values, rank, at,
-            )?;
+            let value = value_at(alloc, ranks, views, known, standings, values, rank, at)?;
             if at < values.len() {
                 values[at] = value;
             }
@@ -383,17 +400,16 @@ fn refresh_all(
     alloc: Global,
     ranks: &[RankCalls],
     views: &[RankView],
-    comms: &[Made],
-    inters: &[Made],
+    known: Known<'_>,
     standings: &[Vec<HandleState>],
     values: &mut Vec<Vec<GroupValue>>,
 ) -> Result<(), AllocError>
-    requires comms { AreDerived ranks.now views.now comms.now }
-    requires inters { AreInters ranks.now views.now inters.now }
-    requires standings { AreMembers comms.now standings.now }
-    requires sides { AreInterMembers inters.now standings.now }
-    requires groups { AreAllDerivedGroups ranks.now views.now comms.now values.old.items }
-    ensures { OnOk result (AreAllDerivedGroups ranks.now views.now comms.now values.new.items) }
+    requires comms { AreDerived ranks.now views.now known.comms.now }
+    requires inters { AreInters ranks.now views.now known.inters.now }
+    requires standings { AreMembers known.comms.now standings.now }
+    requires sides { AreInterMembers known.inters.now standings.now }
+    requires groups { AreAllDerivedGroups ranks.now views.now known.comms.now values.old.items }
+    ensures { OnOk result (AreAllDerivedGroups ranks.now views.now known.entry.comms.now values.new.items) }
 {
     for rank in 0..values.len() {
         if rank < standings.len() && rank < values.len() {
@@ -401,8 +417,7 @@ fn refresh_all(
                 alloc,
                 ranks,
                 views,
-                comms,
-                inters,
+                known,
                 &standings[rank],
                 rank,
                 &mut values[rank],
@@ -424,12 +439,15 @@ impl Run {
         requires { IsRun ranks.now views.now self.old }
         ensures { OnOk result (IsRun ranks.now views.now self.new) }
     {
+        let known = Known {
+            comms: &self.comms,
+            inters: &self.inters,
+        };
         refresh_all(
             alloc,
             ranks,
             views,
-            &self.comms,
-            &self.inters,
+            known,
             &self.standings,
             &mut self.values,
         )
@@ -553,14 +571,17 @@ impl Run {
         let Some(parent) = comm_at(&self.comms, at) else {
             return Ok(());
         };
+        let later = Later {
+            first: k,
+            end,
+            merges: false,
+        };
         leave_behind(
             alloc,
             ranks,
             views,
             &parent.members,
-            k,
-            end,
-            false,
+            later,
             &mut self.standings,
         )
     }
@@ -913,7 +934,7 @@ impl Run {
         self.take_of_inter(alloc, ranks, views, &all, made)
     }
 
-    /// What the members make of an intercommunicator from the k-th making on is left out, or what they merge of it.
+    /// What the members make or merge later of an intercommunicator is left out.
     #[tactic(auto, using(crate::proofs::Right::right_left))]
     fn leave_of_inter(
         &mut self,
@@ -921,9 +942,7 @@ impl Run {
         ranks: &[RankCalls],
         views: &[RankView],
         at: usize,
-        k: usize,
-        end: usize,
-        merges: bool,
+        later: Later,
     ) -> Result<(), AllocError>
         requires { IsRun ranks.now views.now self.old }
         ensures { OnOk result (IsRun ranks.now views.now self.new) }
@@ -936,9 +955,7 @@ impl Run {
             ranks,
             views,
             &inter.members,
-            k,
-            end,
-            merges,
+            later,
             &mut self.standings,
         )
     }
@@ -960,7 +977,12 @@ impl Run {
         };
         for k in 0..end {
             if !self.copy_kth(alloc, ranks, views, at, k)? {
-                return self.leave_of_inter(alloc, ranks, views, at, k + 1, end, false);
+                let later = Later {
+                    first: k + 1,
+                    end,
+                    merges: false,
+                };
+                return self.leave_of_inter(alloc, ranks, views, at, later);
             }
         }
         Ok(())
@@ -983,7 +1005,12 @@ impl Run {
         };
         for k in 0..end {
             if !self.merge_kth(alloc, ranks, views, at, k)? {
-                return self.leave_of_inter(alloc, ranks, views, at, k + 1, end, true);
+                let later = Later {
+                    first: k + 1,
+                    end,
+                    merges: true,
+                };
+                return self.leave_of_inter(alloc, ranks, views, at, later);
             }
         }
         Ok(())
