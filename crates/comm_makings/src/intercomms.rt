@@ -494,7 +494,8 @@ pub(crate) fn join_groups(
 ) -> Result<Joined, AllocError>
     requires comms { AreDerived ranks.now views.now comms.now }
     requires members { AreMembers comms.now standings.now }
-    requires offers { IsOffer ranks.now views.now standings.now comms.now one × IsOffer ranks.now views.now standings.now comms.now other }
+    requires one { IsOffer ranks.now views.now standings.now comms.now one }
+    requires other { IsOffer ranks.now views.now standings.now comms.now other }
     requires answer { Answer one other }
     ensures { IfOk result (IfJoined (IsDerivedInter ranks.now views.now)) }
 {

@@ -1037,28 +1037,22 @@ impl Run {
         Ok(())
     }
 
-    /// Joins the groups of two offers, of which the second was kept, where they still answer each other.
-    #[tactic(auto, using(crate::proofs::Right::right_left, crate::proofs::Sides::answer_back))]
-    fn join(
+    /// Joins the groups of two offers that answer each other, of which the first is of the smaller rank.
+    #[tactic(auto, using(crate::proofs::Right::right_left))]
+    fn join_two(
         &mut self,
         alloc: Global,
         ranks: &[RankCalls],
         views: &[RankView],
-        offer: Offer,
-        kept: Offer,
+        one: Offer,
+        other: Offer,
     ) -> Result<(), AllocError>
         requires right { IsRun ranks.now views.now self.old }
-        requires offers { IsOffer ranks.now views.now self.old.standings.items self.old.comms.items offer × IsOffer ranks.now views.now self.old.standings.items self.old.comms.items kept }
+        requires one { IsOffer ranks.now views.now self.old.standings.items self.old.comms.items one }
+        requires other { IsOffer ranks.now views.now self.old.standings.items self.old.comms.items other }
+        requires answer { Answer one other }
         ensures { OnOk result (IsRun ranks.now views.now self.new) }
     {
-        if !answer(offer, kept) {
-            return Ok(());
-        }
-        let (one, other) = if offer.rank < kept.rank {
-            (offer, kept)
-        } else {
-            (kept, offer)
-        };
         let first = self.inters.len();
         match join_groups(
             alloc,
@@ -1077,6 +1071,31 @@ impl Run {
                 leave(&mut self.standings, &all, Why::Unsound);
                 Ok(())
             },
+        }
+    }
+
+    /// Joins the groups of two offers, of which the second was kept, where they still answer each other.
+    #[tactic(auto, using(crate::proofs::Sides::answer_back))]
+    fn join(
+        &mut self,
+        alloc: Global,
+        ranks: &[RankCalls],
+        views: &[RankView],
+        offer: Offer,
+        kept: Offer,
+    ) -> Result<(), AllocError>
+        requires right { IsRun ranks.now views.now self.old }
+        requires offer { IsOffer ranks.now views.now self.old.standings.items self.old.comms.items offer }
+        requires kept { IsOffer ranks.now views.now self.old.standings.items self.old.comms.items kept }
+        ensures { OnOk result (IsRun ranks.now views.now self.new) }
+    {
+        if !answer(offer, kept) {
+            return Ok(());
+        }
+        if offer.rank < kept.rank {
+            self.join_two(alloc, ranks, views, offer, kept)
+        } else {
+            self.join_two(alloc, ranks, views, kept, offer)
         }
     }
 
@@ -1386,9 +1405,6 @@ fn begin(alloc: Global, calls: &RankCalls, view: &RankView, run: &mut Run) -> Re
     run.standings
         .push(first_standings(alloc, &calls.calls, view)?)?;
     run.values.push(first_values(alloc, &calls.calls)?)?;
-    if !view.all_joins.is_empty() {
-        run.joining.push((run.taken.len() as u32, 0))?;
-    }
     run.taken.push(vec![in alloc; false; calls.calls.len()]?)?;
     Ok(())
 }
@@ -1416,9 +1432,27 @@ fn begin_ranks(
     Ok(())
 }
 
+/// The ranks that have calls of MPI_Intercomm_create, none of which is read.
+fn joining_of(
+    alloc: Global,
+    ranks: &[RankCalls],
+    views: &[RankView],
+) -> Result<Vec<(u32, usize)>, AllocError>
+    requires { length ranks.now < 2 ^ 32 }
+{
+    let mut joining = Vec::new(alloc);
+    for rank in 0..ranks.len() as u32 {
+        if joins_in(views, rank) > 0 {
+            joining.push((rank, 0))?;
+        }
+    }
+    Ok(joining)
+}
+
 /// Nothing is derived yet.
 #[tactic(auto, using(crate::proofs::Right::stands_none, crate::proofs::Right::all_listed_none))]
 fn begin_all(alloc: Global, ranks: &[RankCalls], views: &[RankView]) -> Result<Run, AllocError>
+    requires { length ranks.now < 2 ^ 32 }
     ensures standings { IfOk result (λ run. NoneStandsAt run.standings.items) }
     ensures values { IfOk result (λ run. NoneListedAt run.values.items) }
     ensures comms { IfOk result (λ run. run.comms.items ≡ []) }
@@ -1430,7 +1464,7 @@ fn begin_all(alloc: Global, ranks: &[RankCalls], views: &[RankView]) -> Result<R
         values: Vec::new(alloc),
         comms: Vec::new(alloc),
         inters: Vec::new(alloc),
-        joining: Vec::new(alloc),
+        joining: joining_of(alloc, ranks, views)?,
         open: OpenOffers::new(alloc),
         next: Vec::new(alloc),
         taken: Vec::new(alloc),
