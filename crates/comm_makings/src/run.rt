@@ -7,7 +7,7 @@ ghost use Rattle.comm_makings.specs.Derives.{group_call_at, member_with, world_m
 ghost use Rattle.comm_makings.specs.Each.{list_in};
 ghost use Rattle.comm_makings.specs.Made.{IsFirstOf, IsMakingOrder, member_at, order_by, own_order, returned_at, smaller, world_order};
 ghost use Rattle.comm_makings.specs.State.{AreAllDerivedGroups, AreDerived, AreDerivedGroups, AreMadeOf, AreInterMembers, AreInters, AreMembers, AreMembersIn, BindsInter, BindsMember, IsDerivedInter, NamesInter, IsDerivedComm, IsDerivedGroup, IfComms, IsEnded, IsFirstComm, IsOfDerived, IsReadTo, IsRun, KeepsComms, KeepsDerived, NamesMembers, NoneListed, NoneListedAt, NoneStands, NoneStandsAt, SetsStanding, dims_of, is_gained};
-ghost use Rattle.comm_makings.specs.Offering.{IsOffer, MakesOfInter};
+ghost use Rattle.comm_makings.specs.Offering.{Answer, IsOffer, MakesOfInter};
 ghost use Rattle.comm_makings.specs.declared.run.Step.TheVariants as steps;
 ghost use Rattle.comm_makings.specs.declared.state.Progress.TheVariants as progress;
 
