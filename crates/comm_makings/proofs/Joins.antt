@@ -5,11 +5,11 @@ use Rattle.std.specs.declared.alloc.Global.{Global}
 use Rattle.std.proofs.lemmas.Option.{same_Some}
 use Rattle.comm_groups.specs.Groups.{intersection_of}
 use Rattle.comm_makings.specs.Derives.{Derives, communicator, copied, intercomm, joined, kth_calls, members_at, merged, ranks_in}
-use Rattle.comm_makings.specs.Here.{first_of, gives_later}
-use Rattle.comm_makings.specs.Intercomms.{AreOwnCalls, IsJoining, IsMerge, IsMergedOf, IsOwnCall, Offers, SaysHigh, SaysLeader, first_size, is_copy, leaders_at, whole}
+use Rattle.comm_makings.specs.Here.{first_of, gives_later, meant_at}
+use Rattle.comm_makings.specs.Intercomms.{AreOwnCalls, IsJoining, IsMerge, IsMergedOf, IsOwnCall, Offers, SaysHigh, SaysLeader, first_size, is_copy, leaders_at, own_here, whole}
 use Rattle.comm_makings.specs.Made.{IsMakingOrder}
 use Rattle.comm_makings.specs.Makes.{AreGiven, IsOneMaking}
-use Rattle.comm_makings.specs.Offering.{Answer, IfMerged, IsInterOf, IsMadeByMerge, IsOffer, MakesOfInter, rank_at}
+use Rattle.comm_makings.specs.Offering.{Answer, Asks, IfMerged, IsInterOf, IsMadeByMerge, IsOffer, MakesOfInter, SayAlike, rank_at}
 use Rattle.comm_makings.specs.Selection.{Selection}
 use Rattle.comm_makings.specs.State.{AreDerived, AreMembers, IsDerivedComm, IsDerivedInter, IsMember, IsMemberOf, StandsFor, dims_of, parts_in, standing_at}
 use Rattle.comm_makings.specs.declared.answer.MadeBy.{MadeBy}
@@ -30,7 +30,34 @@ use Rattle.comm_makings.specs.declared.view.RankView.{RankView}
 use Rattle.comm_makings.proofs.Derivations.{comm_is}
 use Rattle.comm_makings.proofs.Lists.{get_more}
 
+pub asks_so : (comms : List Made) (bridge remote other : ℕ) (leaders : Leaders) (tag : ℤ) → leaders.other ≡ Some remote → rank_at comms bridge remote ≡ Some other → leaders.tag ≡ Some tag
+    → Asks comms bridge leaders (other, tag)
+asks_so comms bridge remote other leaders tag said reaches tagged = record { remote = remote; remote_said = said; reaches = reaches; tagged = tagged }
+
 module _ (ranks : List RankCalls) (views : List RankView) where
+  -- ---- offers
+
+  pub offers_so : (stand : List (Vec HandleState Global)) (comms : List Made) (rank at local bridge other own : ℕ) (tag : ℤ) (leaders : Leaders) (meant : Meant)
+      → leaders_at ranks rank at ≡ Some leaders → leaders.own ≡ Some own → meant_at views rank at ≡ Some meant
+      → option_and_then (standing_at stand rank) meant.comm ≡ Some (standings.Derived local) → rank_at comms local own ≡ Some rank
+      → option_and_then (standing_at stand rank) meant.bridge ≡ Some (standings.Derived bridge) → Asks comms bridge leaders (other, tag)
+      → IsOffer ranks views stand comms (record { rank = rank; at = at; local = local; bridge = bridge; other = other; tag = tag })
+  offers_so stand comms rank at local bridge other own tag leaders meant said own_said means local_is leads bridge_is asks = record {
+    leaders = leaders;
+    said = said;
+    meant = meant;
+    means = means;
+    local_is = local_is;
+    own = own;
+    own_said = own_said;
+    leads = leads;
+    bridge_is = bridge_is;
+    remote = asks.remote;
+    remote_said = asks.remote_said;
+    reaches = asks.reaches;
+    tagged = asks.tagged;
+  }
+
   -- ---- the calls of members
 
   pub own_none : (members : List Member) → AreOwnCalls ranks views members []
@@ -38,6 +65,10 @@ module _ (ranks : List RankCalls) (views : List RankView) where
 
   own_of : (member : Member) (o : Option Here) (here : Here) → Some here ≡ o → IfSome o (IsOwnCall ranks views member) → IsOwnCall ranks views member here
   own_of member o here same own = subst (λ (p : Option Here). IfSome p (IsOwnCall ranks views member)) (sym same) own
+
+  pub own_there : (member : Member) (at : ℕ) (o : Option Here) → o ≡ own_here ranks views member at → IfSome o (IsOwnCall ranks views member)
+  own_there member at None e = tt
+  own_there member at (Some here) e = (at, sym e)
 
   -- the call of one member more
   pub own_more : (members : List Member) (all : List (Option Here)) (i : ℕ) (member : Member) (here : Option Here) → AreOwnCalls ranks views members all → length all ≡ i
@@ -108,7 +139,7 @@ module _ (ranks : List RankCalls) (views : List RankView) where
         (member.comm, member.here)
 
     alike_of : (offer : Offer) (is : IsOffer ranks views stand comms offer) (all : List (Option Here))
-        → IfSome (option_and_then (λ (l : Leaders). l.own) (leaders_at ranks offer.rank offer.at)) (λ l. All (SaysLeader ranks l) all) → All (SaysLeader ranks is.own) all
+        → SayAlike ranks offer all → All (SaysLeader ranks is.own) all
     alike_of offer is all say =
         subst (λ (o : Option ℕ). IfSome o (λ l. All (SaysLeader ranks l) all)) (ap (option_and_then (λ (l : Leaders). l.own)) is.said ∙ is.own_said) say
 
@@ -117,8 +148,7 @@ module _ (ranks : List RankCalls) (views : List RankView) where
         → slice_get comms one.local ≡ Some first → slice_get comms other.local ≡ Some second
         → AreOwnCalls ranks views first.members.items of_first → length of_first ≡ length first.members.items → AreOwnCalls ranks views second.members.items of_second
         → all ≡ of_first ++ of_second
-        → IfSome (option_and_then (λ (l : Leaders). l.own) (leaders_at ranks one.rank one.at)) (λ l. All (SaysLeader ranks l) of_first)
-        → IfSome (option_and_then (λ (l : Leaders). l.own) (leaders_at ranks other.rank other.at)) (λ l. All (SaysLeader ranks l) of_second)
+        → SayAlike ranks one of_first → SayAlike ranks other of_second
         → intersection_of first.ranks.items second.ranks.items ≡ [] → IsOneMaking functions.IntercommCreate all
         → both ≡ first.members.items ++ second.members.items → IsInterOf both all (length second.members.items) false inter → IsDerivedInter ranks views inter
     joined_derives one other first second inter of_first of_second all both is_one is_other answer first_here second_here first_calls first_each second_calls all_is first_say second_say apart making both_is of =

@@ -1,11 +1,11 @@
 -- Offers as the program has them, by what is derived so far, and what it makes of intercommunicators.
-use Rattle.std.specs.Prelude.{◌≡◌, ℕ, ℤ, Bool, false, List, [], ◌∷◌, Option, Some, Vec, length}
+use Rattle.std.specs.Prelude.{◌≡◌, ℕ, ℤ, All, Bool, false, IfSome, List, [], ◌∷◌, Option, Some, Vec, length}
 use Rattle.std.specs.List.{slice_get}
 use Rattle.std.specs.Option.{option_and_then}
 use Rattle.std.specs.declared.alloc.Global.{Global}
 use Rattle.comm_makings.specs.Derives.{members_at, ranks_in}
 use Rattle.comm_makings.specs.Here.{meant_at}
-use Rattle.comm_makings.specs.Intercomms.{leaders_at, whole}
+use Rattle.comm_makings.specs.Intercomms.{SaysLeader, leaders_at, whole}
 use Rattle.comm_makings.specs.Made.{IsMakingOrder}
 use Rattle.comm_makings.specs.Makes.{AreGiven}
 use Rattle.comm_makings.specs.Selection.{Selection}
@@ -71,6 +71,10 @@ IsOffered ranks views stand comms rank at (offered.Offers offer) = IsOffer ranks
 IsOffered ranks views stand comms rank at offered.Nothing = Unit {0}
 IsOffered ranks views stand comms rank at offered.Waits = Unit {0}
 IsOffered ranks views stand comms rank at offered.Unknown = Unit {0}
+
+-- All calls of a group name the leader of it that an offer names.
+abbrev pub SayAlike : List RankCalls → Offer → List (Option Here) → Type 0
+SayAlike ranks offer all = IfSome (option_and_then (λ l. l.own) (leaders_at ranks offer.rank offer.at)) (λ l. All (SaysLeader ranks l) all)
 
 -- Two offers answer each other.
 pub record Answer (one other : Offer) : Type 0 where

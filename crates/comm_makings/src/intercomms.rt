@@ -7,7 +7,7 @@ ghost use Rattle.comm_groups.specs.Groups.{intersection_of};
 ghost use Rattle.comm_makings.specs.Derives.{comm_meant};
 ghost use Rattle.comm_makings.specs.Intercomms.{AreOwnCalls, IsMergedOf, IsOwnCall, SaysHigh, SaysLeader, first_size, high_at, high_of, inter_function, inter_here_at, is_copy, leaders_at, leaders_of, own_here};
 ghost use Rattle.comm_makings.specs.Makes.{IsOneMaking};
-ghost use Rattle.comm_makings.specs.Offering.{Answer, Asks, IfJoined, IfMerged, IsInterOf, IsMadeByMerge, IsOffer, IsOffered, IsPlace, MakesOfInter, rank_at};
+ghost use Rattle.comm_makings.specs.Offering.{Answer, Asks, IfJoined, IfMerged, IsInterOf, IsMadeByMerge, IsOffer, IsOffered, IsPlace, MakesOfInter, SayAlike, rank_at};
 ghost use Rattle.comm_makings.specs.Parts.{IsOne};
 ghost use Rattle.comm_makings.specs.State.{AreDerived, AreMembers, IfParts, IsDerivedInter, standing_at};
 
@@ -97,7 +97,8 @@ fn standing_of(
 ) -> Option<HandleState>
     ensures { result ≡ option_and_then (standing_at standings.now rank) handle }
 {
-    standings.get(rank as usize)?.get(handle?).copied()
+    let handle = handle?;
+    standings.get(rank as usize)?.get(handle).copied()
 }
 
 /// Where the derived communicator of a handle stands that stands so. An intercommunicator joins no groups.
@@ -131,6 +132,7 @@ fn leads(comms: &[Made], place: usize, leader: u32, rank: u32) -> bool
 }
 
 /// The other leader that a call names over the derived communicator at a place, as a rank of the run, and the tag.
+#[tactic(auto, using(crate::proofs::Joins::asks_so))]
 fn asked(comms: &[Made], bridge: usize, leaders: Leaders) -> Option<(u32, i32)>
     ensures { IfSome result (Asks comms.now bridge leaders) }
 {
@@ -140,6 +142,7 @@ fn asked(comms: &[Made], bridge: usize, leaders: Leaders) -> Option<(u32, i32)>
 
 /// What a call of MPI_Intercomm_create is to other groups. What it says of the other leader counts only where it is by
 /// the leader of its own group.
+#[tactic(auto, using(crate::proofs::Joins::offers_so))]
 pub(crate) fn offer_at(
     ranks: &[RankCalls],
     views: &[RankView],
@@ -293,6 +296,7 @@ fn own_places(views: &[RankView], member: Member, merges: bool) -> &[usize] {
 }
 
 /// The k-th such call of a member.
+#[tactic(auto, using(crate::proofs::Joins::own_there))]
 fn own_call(
     ranks: &[RankCalls],
     views: &[RankView],
@@ -316,7 +320,7 @@ fn add_own_calls(
     merges: bool,
     all: &mut Vec<Option<Here>>,
 ) -> Result<(), AllocError>
-    requires none { all.old.items ≡ [] }
+    requires { all.old.items ≡ [] }
     ensures calls { OnOk result (AreOwnCalls ranks.now views.now members.now all.new.items) }
     ensures each { OnOk result (length all.new.items ≡ length members.now) }
 {
@@ -372,12 +376,26 @@ fn says_leader(ranks: &[RankCalls], leader: u32, here: Option<Here>) -> bool
     }
 }
 
-/// Whether all calls of a group name this leader.
-fn say_leader(ranks: &[RankCalls], leader: Option<u32>, all: &[Option<Here>]) -> bool
-    ensures { IsTrue result → IfSome leader (λ l. All (SaysLeader ranks.now l) all.now) }
+/// The leader of its own group that a call names.
+fn own_leader(ranks: &[RankCalls], offer: Offer) -> Option<u32>
+    ensures { result ≡ option_and_then (λ l. l.own) (leaders_at ranks.now offer.rank offer.at) }
 {
-    match leader {
-        Some(leader) => all.iter().all(|here| says_leader(ranks, leader, *here)),
+    leaders_at(ranks, offer.rank, offer.at)?.own
+}
+
+/// Whether all calls of a group name this leader.
+fn say_leader(ranks: &[RankCalls], leader: u32, all: &[Option<Here>]) -> bool
+    ensures { IsTrue result → All (SaysLeader ranks.now leader) all.now }
+{
+    all.iter().all(|here| says_leader(ranks, leader, *here))
+}
+
+/// Whether all calls of a group name the leader that an offer names.
+fn say_alike(ranks: &[RankCalls], offer: Offer, all: &[Option<Here>]) -> bool
+    ensures { IsTrue result → SayAlike ranks.now offer all.now }
+{
+    match own_leader(ranks, offer) {
+        Some(leader) => say_leader(ranks, leader, all),
         None => false,
     }
 }
@@ -457,29 +475,6 @@ fn calls_of(
     own_calls(alloc, ranks, views, &comm.members, k, false)
 }
 
-/// The leader of its own group that a call names.
-fn own_leader(ranks: &[RankCalls], offer: Offer) -> Option<u32>
-    ensures { result ≡ option_and_then (λ l. l.own) (leaders_at ranks.now offer.rank offer.at) }
-{
-    leaders_at(ranks, offer.rank, offer.at)?.own
-}
-
-/// The calls of the members of the communicator at a place by which an offer joins its group with another.
-fn calls_at(
-    alloc: Global,
-    ranks: &[RankCalls],
-    views: &[RankView],
-    comms: &[Made],
-    offer: Offer,
-) -> Result<Vec<Option<Here>>, AllocError>
-    ensures { IfOk result (λ v. IfSome (slice_get comms.now offer.local) (λ c. AreOwnCalls ranks.now views.now c.members.items v.items × (length v.items ≡ length c.members.items))) }
-{
-    match comm_at(comms, offer.local) {
-        Some(comm) => calls_of(alloc, ranks, views, comm, offer),
-        None => Ok(Vec::new(alloc)),
-    }
-}
-
 /// What two offers make that answer each other: an intercommunicator of the two local groups, if all calls of each group
 /// name one leader, no rank is in both, and the calls give it.
 #[tactic(auto, using(crate::proofs::Joins::joined_derives))]
@@ -499,18 +494,16 @@ pub(crate) fn join_groups(
     requires answer { Answer one other }
     ensures { IfOk result (IfJoined (IsDerivedInter ranks.now views.now)) }
 {
-    let of_one = calls_at(alloc, ranks, views, comms, one)?;
-    let of_other = calls_at(alloc, ranks, views, comms, other)?;
-    let all = behind(alloc, &of_one, &of_other)?;
     let Some(first) = comm_at(comms, one.local) else {
-        return Ok(Joined::Left(all));
+        return Ok(Joined::Left(Vec::new(alloc)));
     };
     let Some(second) = comm_at(comms, other.local) else {
-        return Ok(Joined::Left(all));
+        return Ok(Joined::Left(Vec::new(alloc)));
     };
-    if !say_leader(ranks, own_leader(ranks, one), &of_one)
-        || !say_leader(ranks, own_leader(ranks, other), &of_other)
-    {
+    let of_one = calls_of(alloc, ranks, views, first, one)?;
+    let of_other = calls_of(alloc, ranks, views, second, other)?;
+    let all = behind(alloc, &of_one, &of_other)?;
+    if !say_alike(ranks, one, &of_one) || !say_alike(ranks, other, &of_other) {
         return Ok(Joined::Left(all));
     }
     if !are_one(&all, MadeBy::IntercommCreate) || !are_apart(alloc, first, second)? {
