@@ -1,7 +1,7 @@
 //! Intercommunicators (MPI 4.0, 7.6.2): those of two groups whose leaders name each other, and what is made of one.
 
 ghost use Rattle.std.specs.Prelude.{◌≡◌, ◌↔◌, ◌≤◌, ◌<◌, ◌^◌, ◌+◌, ◌-◌, ◌++◌, [], All, IfOk, IfSome, IsTrue, None, OnOk, Some, length};
-ghost use Rattle.std.specs.List.{range_with_len, slice_get};
+ghost use Rattle.std.specs.List.{range_with_len};
 ghost use Rattle.std.specs.Option.{option_and_then};
 ghost use Rattle.comm_groups.specs.Groups.{intersection_of};
 ghost use Rattle.comm_makings.specs.Derives.{comm_meant};
@@ -449,6 +449,7 @@ fn inter_of(
 }
 
 /// Whether the calls are one making of this function: those that are there call it, and what they give can be read.
+#[tactic(auto, using(crate::proofs::Derivations::one_making))]
 fn are_one(all: &[Option<Here>], function: MadeBy) -> bool
     ensures { IsTrue result → IsOneMaking function all.now }
 {
