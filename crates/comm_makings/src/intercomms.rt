@@ -517,6 +517,14 @@ pub(crate) fn join_groups(
     }
 }
 
+/// How many members the first group of an intercommunicator has.
+pub(crate) fn first_size(inter: &Made) -> usize
+    ensures value { result ≡ first_size inter.now.members.items inter.now.remote_size }
+    ensures within { result ≤ length inter.now.members.items }
+{
+    inter.members.len().saturating_sub(inter.remote_size)
+}
+
 /// What the calls of an intercommunicator's members make of it.
 #[derive(Drop)]
 pub(crate) enum OfInter {
@@ -744,6 +752,5 @@ pub(crate) fn merged_of(
     ensures { IfOk result (MakesOfInter ranks.now views.now) }
 {
     let all = own_calls(alloc, ranks, views, &inter.members, k, true)?;
-    let size = inter.members.len().saturating_sub(inter.remote_size);
-    merged_in(alloc, ranks, views, inter, &all, size)
+    merged_in(alloc, ranks, views, inter, &all, first_size(inter))
 }

@@ -18,8 +18,8 @@ use crate::group_value::{GroupValue, value_of};
 use crate::handle::{Gives, Meant};
 use crate::here::{Here, all_kth, call_at, gives_some, handle_of, meant_at};
 use crate::intercomms::{
-    Joined, OfInter, Offer, Offered, OpenOffers, answer, answered, copied_of, join_groups,
-    merged_of, most_merges, offer_at, own_calls,
+    Joined, OfInter, Offer, Offered, OpenOffers, answer, answered, copied_of, first_size,
+    join_groups, merged_of, most_merges, offer_at, own_calls,
 };
 use crate::outcomes::outcome_in;
 use crate::part::Part;
@@ -852,7 +852,7 @@ impl Run {
         requires inter { IsDerivedInter ranks.now views.now inter }
         ensures { OnOk result (IsRun ranks.now views.now self.new) }
     {
-        let size = inter.members.len().saturating_sub(inter.remote_size);
+        let size = first_size(&inter);
         bind_inter(&mut self.standings, &inter.members, size, self.inters.len());
         self.inters.push(inter)?;
         Ok(())
