@@ -768,7 +768,7 @@ impl Run {
         Ok(next)
     }
 
-    /// Derives all that can be: each round but the last two reads some call.
+    /// Derives all that can be: each round but the last two reads some call, or passes over one.
     fn derive_all(
         &mut self,
         alloc: Global,
@@ -783,12 +783,16 @@ impl Run {
         for _ in 0..call_count(ranks).saturating_add(2) {
             let read = self.read;
             todo = self.round(alloc, ranks, views, &todo, last)?;
-            if self.read == read {
-                if last {
-                    return Ok(());
-                }
-                last = true;
+            if self.read != read {
+                continue;
             }
+            if self.pass_over(ranks, views) {
+                continue;
+            }
+            if last {
+                return Ok(());
+            }
+            last = true;
         }
         Ok(())
     }
@@ -805,6 +809,15 @@ enum Reading {
 /// The place of the i-th call of a rank that joins two groups.
 fn join_at(views: &[RankView], rank: u32, i: usize) -> Option<usize> {
     views.get(rank as usize)?.all_joins.get(i).copied()
+}
+
+/// Of each rank the next of these calls, behind the one that waits.
+fn pass_each(joining: &mut Vec<(u32, usize)>) {
+    for i in 0..joining.len() {
+        if let Some(waiting) = joining.get_mut(i) {
+            waiting.1 = waiting.1.saturating_add(1);
+        }
+    }
 }
 
 /// How many calls of a rank join two groups.
@@ -1169,7 +1182,19 @@ impl Run {
         Ok(None)
     }
 
-    /// Reads the calls that join two groups, as far as they don't wait: each once, whatever waits before it.
+    /// Passes over the calls that join two groups and wait: nothing more derives of which one of their communicators is.
+    /// Says whether there were some.
+    fn pass_over(&mut self, ranks: &[RankCalls], views: &[RankView]) -> bool
+        requires { IsRun ranks.now views.now self.old }
+        ensures { IsRun ranks.now views.now self.new }
+    {
+        let count = self.joining.len();
+        pass_each(&mut self.joining);
+        self.read = self.read.saturating_add(count as u64);
+        count > 0
+    }
+
+    /// Reads the calls that join two groups, as far as they don't wait: each of a rank behind those before it.
     fn advance_joins(
         &mut self,
         alloc: Global,
