@@ -34,6 +34,18 @@ pub asks_so : (comms : List Made) (bridge remote other : ℕ) (leaders : Leaders
     → Asks comms bridge leaders (other, tag)
 asks_so comms bridge remote other leaders tag said reaches tagged = record { remote = remote; remote_said = said; reaches = reaches; tagged = tagged }
 
+pub made_by_merge : (members : List Member) (all : List (Option Here)) (outcome : Outcome) (parts : List Selection) (part : Selection) (comm : Made) → parts_in outcome ≡ Some parts
+    → slice_get parts 0 ≡ Some part → AreGiven false all parts → comm.members.items ≡ members_at members all part.places → comm.ranks.items ≡ ranks_in comm.members.items
+    → dims_of comm ≡ part.dims → IsMakingOrder part.places all comm.order → comm.remote_size ≡ 0 → IsMadeByMerge members all outcome comm
+made_by_merge members all outcome parts part comm made first given chosen same_ranks dims order one_group = record {
+  parts = parts;
+  part = part;
+  made = made;
+  first = first;
+  given = given;
+  is_made = record { chosen = chosen; same_ranks = same_ranks; dims = dims; order = order; one_group = one_group };
+}
+
 module _ (ranks : List RankCalls) (views : List RankView) where
   -- ---- offers
 

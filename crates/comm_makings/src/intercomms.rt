@@ -669,16 +669,21 @@ fn merge_outcome(
     requires members { members ≡ length all.now }
     ensures { IfOk result (IfParts (IsMergedOf views.now all.now size first second)) }
 {
-    if first == second {
-        told_order(alloc, views, all)
-    } else if first {
-        second_first(alloc, size, members)
-    } else {
+    if first {
+        if second {
+            told_order(alloc, views, all)
+        } else {
+            second_first(alloc, size, members)
+        }
+    } else if second {
         first_part(alloc, members, None)
+    } else {
+        told_order(alloc, views, all)
     }
 }
 
 /// The communicator that the calls of both groups make, where they give it.
+#[tactic(auto, using(crate::proofs::Joins::made_by_merge))]
 fn merged_by(
     alloc: Global,
     inter: &Made,
