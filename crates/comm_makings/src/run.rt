@@ -325,7 +325,7 @@ fn group_call_at(ranks: &[RankCalls], rank: usize, at: usize) -> Option<&GroupCa
 
 /// The communicators that are derived so far, and the intercommunicators.
 #[derive(Clone, Copy)]
-struct Known<'a> {
+struct AllMade<'a> {
     comms: &'a [Made],
     inters: &'a [Made],
 }
@@ -336,17 +336,17 @@ fn value_at(
     alloc: Global,
     ranks: &[RankCalls],
     views: &[RankView],
-    known: Known<'_>,
+    made: AllMade<'_>,
     standings: &[HandleState],
     values: &[GroupValue],
     rank: usize,
     at: usize,
 ) -> Result<GroupValue, AllocError>
-    requires comms { AreDerived ranks.now views.now known.comms.now }
-    requires inters { AreInters ranks.now views.now known.inters.now }
-    requires standings { AreMembersIn known.comms.now known.inters.now rank standings.now }
-    requires groups { AreDerivedGroups ranks.now views.now known.comms.now rank values.now }
-    ensures { IfOk result (IsDerivedGroup ranks.now views.now known.entry.comms.now rank at) }
+    requires comms { AreDerived ranks.now views.now made.comms.now }
+    requires inters { AreInters ranks.now views.now made.inters.now }
+    requires standings { AreMembersIn made.comms.now made.inters.now rank standings.now }
+    requires groups { AreDerivedGroups ranks.now views.now made.comms.now rank values.now }
+    ensures { IfOk result (IsDerivedGroup ranks.now views.now made.entry.comms.now rank at) }
 {
     let Some(group) = group_call_at(ranks, rank, at) else {
         return Ok(GroupValue::Unknown);
@@ -360,8 +360,8 @@ fn value_at(
         &meant,
         values,
         standings,
-        known.comms,
-        known.inters,
+        made.comms,
+        made.inters,
     )?;
     Ok(value)
 }
@@ -372,20 +372,20 @@ fn refresh(
     alloc: Global,
     ranks: &[RankCalls],
     views: &[RankView],
-    known: Known<'_>,
+    made: AllMade<'_>,
     standings: &[HandleState],
     rank: usize,
     values: &mut Vec<GroupValue>,
 ) -> Result<(), AllocError>
-    requires comms { AreDerived ranks.now views.now known.comms.now }
-    requires inters { AreInters ranks.now views.now known.inters.now }
-    requires standings { AreMembersIn known.comms.now known.inters.now rank standings.now }
-    requires groups { AreDerivedGroups ranks.now views.now known.comms.now rank values.old.items }
-    ensures { OnOk result (AreDerivedGroups ranks.now views.now known.entry.comms.now rank values.new.items) }
+    requires comms { AreDerived ranks.now views.now made.comms.now }
+    requires inters { AreInters ranks.now views.now made.inters.now }
+    requires standings { AreMembersIn made.comms.now made.inters.now rank standings.now }
+    requires groups { AreDerivedGroups ranks.now views.now made.comms.now rank values.old.items }
+    ensures { OnOk result (AreDerivedGroups ranks.now views.now made.entry.comms.now rank values.new.items) }
 {
     for at in 0..values.len() {
         if let Some(GroupValue::Waits) = values.get(at) {
-            let value = value_at(alloc, ranks, views, known, standings, values, rank, at)?;
+            let value = value_at(alloc, ranks, views, made, standings, values, rank, at)?;
             if at < values.len() {
                 values[at] = value;
             }
@@ -400,16 +400,16 @@ fn refresh_all(
     alloc: Global,
     ranks: &[RankCalls],
     views: &[RankView],
-    known: Known<'_>,
+    made: AllMade<'_>,
     standings: &[Vec<HandleState>],
     values: &mut Vec<Vec<GroupValue>>,
 ) -> Result<(), AllocError>
-    requires comms { AreDerived ranks.now views.now known.comms.now }
-    requires inters { AreInters ranks.now views.now known.inters.now }
-    requires standings { AreMembers known.comms.now standings.now }
-    requires sides { AreInterMembers known.inters.now standings.now }
-    requires groups { AreAllDerivedGroups ranks.now views.now known.comms.now values.old.items }
-    ensures { OnOk result (AreAllDerivedGroups ranks.now views.now known.entry.comms.now values.new.items) }
+    requires comms { AreDerived ranks.now views.now made.comms.now }
+    requires inters { AreInters ranks.now views.now made.inters.now }
+    requires standings { AreMembers made.comms.now standings.now }
+    requires sides { AreInterMembers made.inters.now standings.now }
+    requires groups { AreAllDerivedGroups ranks.now views.now made.comms.now values.old.items }
+    ensures { OnOk result (AreAllDerivedGroups ranks.now views.now made.entry.comms.now values.new.items) }
 {
     for rank in 0..values.len() {
         if rank < standings.len() && rank < values.len() {
@@ -417,7 +417,7 @@ fn refresh_all(
                 alloc,
                 ranks,
                 views,
-                known,
+                made,
                 &standings[rank],
                 rank,
                 &mut values[rank],
@@ -439,7 +439,7 @@ impl Run {
         requires { IsRun ranks.now views.now self.old }
         ensures { OnOk result (IsRun ranks.now views.now self.new) }
     {
-        let known = Known {
+        let made = AllMade {
             comms: &self.comms,
             inters: &self.inters,
         };
