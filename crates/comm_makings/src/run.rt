@@ -443,14 +443,7 @@ impl Run {
             comms: &self.comms,
             inters: &self.inters,
         };
-        refresh_all(
-            alloc,
-            ranks,
-            views,
-            known,
-            &self.standings,
-            &mut self.values,
-        )
+        refresh_all(alloc, ranks, views, made, &self.standings, &mut self.values)
     }
 
     /// Adds a communicator. Its members' handles name it.
