@@ -899,7 +899,6 @@ impl Run {
     }
 
     /// Reads the k-th of the calls that make communicators of an intercommunicator. Says whether more may be made so.
-    #[tactic(auto, using(crate::proofs::Sides::right_inter))]
     fn copy_kth(
         &mut self,
         alloc: Global,
@@ -920,7 +919,6 @@ impl Run {
     }
 
     /// Reads the k-th of the calls that merge the groups of an intercommunicator. Says whether more may be made so.
-    #[tactic(auto, using(crate::proofs::Sides::right_inter))]
     fn merge_kth(
         &mut self,
         alloc: Global,
