@@ -83,11 +83,6 @@ module _ (ranks : List RankCalls) (views : List RankView) where
     };
   }
 
-  -- one of the intercommunicators
-  pub right_inter : (stand : List (Vec HandleState Global)) (rows : List (Vec GroupValue Global)) (comms : List Made) (next : List Progress) (inters : List Made) (at : ℕ) (inter : Made)
-      → IsRight ranks views stand rows comms next inters → slice_get inters at ≡ Some inter → IsDerivedInter ranks views inter
-  right_inter stand rows comms next inters at inter right here = right.inters_derive.each at inter here
-
   -- what is made of an intercommunicator
   pub inter_made : (made : OfInter) (inter : Made) → MakesOfInter ranks views made → made ≡ made_of.Inter inter → IsDerivedInter ranks views inter
   inter_made made inter makes is = subst (MakesOfInter ranks views) is makes
