@@ -1,0 +1,4 @@
+pub mod Partners
+pub mod Slots
+pub mod Rows
+pub mod Spans

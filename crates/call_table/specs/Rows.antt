@@ -1,0 +1,50 @@
+-- What a row of the table tells of the other end of its message, and of its round.
+use Rattle.std.specs.Prelude.{ℕ, Option, Some, None, List}
+use Rattle.mpi_model.specs.declared.event.OpName.{OpName}
+use Rattle.mpi_model.specs.declared.message.Message.{Message}
+use Rattle.mpi_model.specs.declared.message.Receive.{Receive}
+use Rattle.trace_ops.specs.Ops.{Ops}
+use Rattle.trace_pair.specs.Table.{given_by, taken_by}
+use Rattle.trace_pair.specs.declared.pair.Pair.{Pair}
+use Rattle.trace_wait.specs.Parts.{receive_of, send_of}
+use Rattle.trace_wait.specs.Ranks.{ops_of}
+use Rattle.call_table.specs.declared.row.Row.{Row}
+use Rattle.call_table.specs.declared.slot.Side.{Side}
+use Rattle.call_table.specs.declared.slot.Side.TheVariants.{Send, Receive as Receiving}
+use Rattle.call_table.specs.declared.slot.Slot.{Slot}
+
+-- what all ranks did, and the pairs of their messages and receives
+pub record Told : Type 0 where
+  pub ops : List Ops
+  pub pairs : List Pair
+
+-- the operation of a row
+abbrev pub name_of : ℕ → ℕ → Slot → OpName
+name_of rank call slot = record { rank = rank; call = call; part = slot.part }
+
+-- the message that an operation makes, on a side where it can make one
+abbrev pub message_on : Option Side → Ops → OpName → Option Message
+message_on (Some Receiving) own name = None
+message_on (Some Send) own name = send_of own name
+message_on None own name = send_of own name
+
+-- the receive that an operation posts, on a side where it can post one
+abbrev pub receive_on : Option Side → Ops → OpName → Option Receive
+receive_on (Some Send) own name = None
+receive_on (Some Receiving) own name = receive_of own name
+receive_on None own name = receive_of own name
+
+-- The other end: of a message the receive that takes it, and of a receive the message. A row makes no message and posts no receive
+-- at once, but for a Sendrecv, whose rows are one of each.
+abbrev pub partner_of : List Pair → OpName → Option Message → Option Receive → Option OpName
+partner_of pairs name (Some m) receive = taken_by pairs name
+partner_of pairs name None (Some q) = given_by pairs name
+partner_of pairs name None None = None
+
+-- a row with its other end
+abbrev pub row_with : List Pair → OpName → Option Message → Option Receive → Row
+row_with pairs name message receive = record { name = name; message = message; receive = receive; partner = partner_of pairs name message receive }
+
+-- the row of a call of a rank
+abbrev pub row_of : Told → OpName → Option Side → Row
+row_of told name side = row_with told.pairs name (message_on side (ops_of told.ops name.rank) name) (receive_on side (ops_of told.ops name.rank) name)
