@@ -50,7 +50,7 @@ mod timeline;
 pub use arrows::Arrows;
 pub use completion::Completions;
 pub use fields::{Fields, RankCalls};
-pub use known::{Called, times_of};
+pub use known::{Called, count_of, times_of};
 pub use lines::{CSV_HEADER, RowForm, put_row};
 pub use partners::Partners;
 pub use received::{ReceivedBytes, bytes_of};

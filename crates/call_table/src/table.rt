@@ -4,7 +4,6 @@ ghost use Rattle.std.specs.Prelude.{◌≡◌, IfOk};
 ghost use Rattle.trace_ops.specs.Ops.{AreOwn};
 ghost use Rattle.trace_wait.specs.Collectives.{round_of_call};
 ghost use Rattle.trace_wait.specs.Ranks.{ops_of};
-ghost use Rattle.call_table.specs.Partners.{IsAnswered};
 ghost use Rattle.call_table.specs.Rows.{name_of, row_of};
 
 use crate::partners::Partners;
@@ -13,7 +12,6 @@ use crate::slot::Slot;
 use mpi_model::OpName;
 use std::alloc::{AllocError, Global};
 use std::marker::Model;
-use trace_node::Answer;
 use trace_ops::RankOps;
 use trace_wait::{Entries, RoundName, entries_of};
 
@@ -38,18 +36,16 @@ impl<'a> Model for CallTable<'a> {
 }
 
 impl<'a> CallTable<'a> {
-    /// The table of what the ranks did, rank r at place r, and of the answer to it. Fails with `AllocError` when memory
-    /// is refused.
+    /// The table of what the ranks did, rank r at place r, and of the pairs of it. Fails with `AllocError` when memory is
+    /// refused.
     pub fn new(
         alloc: Global,
         ops: &'a [RankOps],
-        answer: &'a Answer,
+        partners: Partners<'a>,
     ) -> Result<CallTable<'a>, AllocError>
-        requires own { AreOwn 0 ops.now }
-        requires answered { IsAnswered answer.now }
-        ensures { IfOk result (λ t. t ≡ record { ops = ops.now; pairs = answer.now.pairs }) }
+        requires { AreOwn 0 ops.now }
+        ensures { IfOk result (λ t. t ≡ record { ops = ops.now; pairs = partners }) }
     {
-        let partners = Partners::of_answer(alloc, answer)?;
         let entries = entries_of(alloc, ops)?;
         Ok(CallTable {
             ops,

@@ -11,6 +11,7 @@ pub mod Notes
 pub mod OneByOne
 pub mod Opening
 pub mod Ordered
+pub mod OwnOps
 pub mod OwnPieces
 pub mod PackedShares
 pub mod Packing

@@ -1,0 +1,7 @@
+-- What the next rank did, behind what those before it did.
+use Rattle.std.proofs.Common.{◌≡◌, ℕ, ◌+◌, List, [], ◌∷◌, ◌++◌, arith, length, subst, sym}
+use Rattle.trace_ops.specs.Ops.{AreOwn, IsOwn, Ops}
+
+pub own_more : (first count : ℕ) (ops : List Ops) (o : Ops) → AreOwn first ops → first + length ops ≡ count → IsOwn count o → AreOwn first (ops ++ o ∷ [])
+own_more first count [] o own e is = let f : count ≡ first = omega (arith, e) in (subst (λ (n : ℕ). IsOwn n o) f is, tt)
+own_more first count (p ∷ ops) o own e is = (own.0, own_more (first + 1) count ops o own.1 (omega (arith, e)) is)
