@@ -40,8 +40,8 @@ fn received_at(events: &Readable<'_>, receive: &Receive) -> u64 {
 
 /// Sets the moment at a place.
 fn set(moments: &mut Vec<u64>, place: usize, moment: u64) {
-    if let Some(at) = moments.get_mut(place) {
-        *at = moment;
+    if place < moments.len() {
+        moments[place] = moment;
     }
 }
 

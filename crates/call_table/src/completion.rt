@@ -4,11 +4,11 @@
 //! is also known from the answer; this is for sends and collective calls too, and tells which status of that call it is.
 
 use crate::known::{Called, called_at, count_of};
-use mpi_model::{Call, NULL_REQUEST, Outs};
+use mpi_model::{Call, Element, NULL_REQUEST, Outs};
 use std::alloc::{AllocError, Global};
 use std::collections::{BTreeMap, BTreeSet};
 use trace_know::Readable;
-use trace_ops::{is_init, started_by};
+use trace_ops::started_by;
 
 /// The operation that a call, or a part of a Startall, has posted, with what completes it.
 #[derive(Clone, Copy, Debug)]
@@ -50,7 +50,8 @@ impl Completions {
                 requests.go_on(number, &called)?;
             }
         }
-        let Requests { mut list, .. } = requests;
+        let Requests { list, .. } = requests;
+        let mut list = list;
         list.sort_by_key(|one| (one.call, one.part))?;
         Ok(Completions { list })
     }
@@ -58,12 +59,10 @@ impl Completions {
     /// The call that completes what a part of a call has posted, and the place of its status among those of that call;
     /// `None` if no outcome that can be read does.
     pub fn of_part(&self, call: u64, part: u32) -> Option<(u64, u32)> {
-        match self
-            .list
-            .binary_search_by_key(&(call, part), |one| (one.call, one.part))
-        {
+        let list = self.list.as_slice();
+        match list.binary_search_by_key(&(call, part), |one| (one.call, one.part)) {
             Ok(at) => {
-                let found = self.list.get(at)?;
+                let found = list.get(at)?;
                 Some((found.by, found.status))
             }
             Err(_) => None,
@@ -121,22 +120,37 @@ impl Requests {
         }
     }
 
+    /// The requests at the positions of these elements are complete.
+    fn end_some(
+        &mut self,
+        requests: &[i64],
+        elements: &[Element],
+        by: u64,
+    ) -> Result<(), AllocError> {
+        for (at, element) in elements.iter().enumerate() {
+            self.end_at(requests, element.position, by, place_of(at))?;
+        }
+        Ok(())
+    }
+
     /// What the outcome of a call completes. A request that is freed goes on, and nothing completes it.
     fn complete(&mut self, number: u64, call: &Call, outs: &Outs) -> Result<(), AllocError> {
         match (call, outs) {
             (Call::Wait(request), Outs::Status(_)) => self.end(*request, number, 0),
             (Call::Test(request), Outs::Flag(true, _)) => self.end(*request, number, 0),
-            (Call::Waitall(list) | Call::Testall(list), Outs::Statuses(_)) => {
-                self.end_all(list.as_slice(), number)
-            }
-            (Call::Waitany(list) | Call::Testany(list), Outs::Index(Some(position), _)) => {
+            (Call::Waitall(list), Outs::Statuses(_)) => self.end_all(list.as_slice(), number),
+            (Call::Testall(list), Outs::Statuses(_)) => self.end_all(list.as_slice(), number),
+            (Call::Waitany(list), Outs::Index(Some(position), _)) => {
                 self.end_at(list.as_slice(), *position, number, 0)
             }
-            (Call::Waitsome(list) | Call::Testsome(list), Outs::Several(elements)) => {
-                for (at, element) in elements.as_slice().iter().enumerate() {
-                    self.end_at(list.as_slice(), element.position, number, place_of(at))?;
-                }
-                Ok(())
+            (Call::Testany(list), Outs::Index(Some(position), _)) => {
+                self.end_at(list.as_slice(), *position, number, 0)
+            }
+            (Call::Waitsome(list), Outs::Several(elements)) => {
+                self.end_some(list.as_slice(), elements.as_slice(), number)
+            }
+            (Call::Testsome(list), Outs::Several(elements)) => {
+                self.end_some(list.as_slice(), elements.as_slice(), number)
             }
             (Call::Free(request), _) => {
                 self.posted.remove(request);
@@ -150,12 +164,14 @@ impl Requests {
     /// What a call that has returned posts.
     fn post(&mut self, number: u64, call: &Call, outs: &Outs) -> Result<(), AllocError> {
         match (call, outs) {
-            (_, Outs::Posted(request)) if is_init(call) => self.hold(*request),
-            (
-                Call::Isend(_, _) | Call::Irecv(_) | Call::Icollective(_) | Call::Imrecv,
-                Outs::Posted(request),
-            ) => self.give(*request, number),
-            (Call::Start(_) | Call::Startall(_), _) => self.start(number, started_by(call)),
+            (Call::SendInit(_, _), Outs::Posted(request)) => self.hold(*request),
+            (Call::RecvInit(_), Outs::Posted(request)) => self.hold(*request),
+            (Call::Isend(_, _), Outs::Posted(request)) => self.give(*request, number),
+            (Call::Irecv(_), Outs::Posted(request)) => self.give(*request, number),
+            (Call::Icollective(_), Outs::Posted(request)) => self.give(*request, number),
+            (Call::Imrecv, Outs::Posted(request)) => self.give(*request, number),
+            (Call::Start(_), _) => self.start(number, started_by(call)),
+            (Call::Startall(_), _) => self.start(number, started_by(call)),
             _ => Ok(()),
         }
     }

@@ -26,10 +26,10 @@ fn event_at<'a>(events: &Readable<'a>, place: u64) -> Option<&'a Event> {
     }
 }
 
-/// What the Return at a place brought back, and when.
-fn returned_at<'a>(events: &Readable<'a>, place: u64) -> Option<(&'a Outs, u64)> {
+/// What the Return at a place brought back.
+fn outs_at<'a>(events: &Readable<'a>, place: u64) -> Option<&'a Outs> {
     match event_at(events, place)? {
-        Event::Return(outs, stamp) => Some((outs, stamp.wall())),
+        Event::Return(outs, _) => Some(outs),
         Event::Enter(_, _) => None,
     }
 }
@@ -39,12 +39,12 @@ pub fn called_at<'a>(events: &Readable<'a>, number: u64) -> Option<Called<'a>> {
     let place = number.checked_mul(2)?;
     match event_at(events, place)? {
         Event::Enter(call, stamp) => {
-            let returned = returned_at(events, place.saturating_add(1));
+            let behind = place.saturating_add(1);
             Some(Called {
                 call,
-                outs: returned.map(|one| one.0),
+                outs: outs_at(events, behind),
                 enter: stamp.wall(),
-                exit: returned.map(|one| one.1),
+                exit: wall_at(events, behind),
             })
         }
         Event::Return(_, _) => None,

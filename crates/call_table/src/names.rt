@@ -12,8 +12,10 @@ pub(crate) struct Names {
 
 /// The name of a number.
 fn name_in(list: &[Vec<u8>], number: u32) -> &[u8] {
-    let at = (number as usize).wrapping_sub(1);
-    match list.get(at) {
+    let Some(at) = number.checked_sub(1) else {
+        return &[];
+    };
+    match list.get(at as usize) {
         Some(name) => name.as_slice(),
         None => &[],
     }

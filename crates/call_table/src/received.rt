@@ -56,8 +56,8 @@ impl ReceivedBytes {
         let Some(place) = partners.place_of(message) else {
             return;
         };
-        if let Some(told) = self.bytes.get_mut(place) {
-            *told = bytes;
+        if place < self.bytes.len() {
+            self.bytes[place] = bytes;
         }
     }
 

@@ -70,14 +70,35 @@ fn first_of<'a>(raw: &'a RawCall, one: &[u8], other: &[u8]) -> Option<&'a [u8]> 
     }
 }
 
-/// The name that a value's note has, as `MPI_INT` in `11 (MPI_INT)`; where it has none, the value itself.
+/// What stands behind the first such byte.
+fn behind(stop: u8, text: &[u8]) -> Option<&[u8]> {
+    for (at, byte) in text.iter().enumerate() {
+        if *byte == stop {
+            return Some(&text[at + 1..]);
+        }
+    }
+    None
+}
+
+/// What stands before the first such byte.
+fn before(stop: u8, text: &[u8]) -> Option<&[u8]> {
+    for (at, byte) in text.iter().enumerate() {
+        if *byte == stop {
+            return Some(&text[..at]);
+        }
+    }
+    None
+}
+
+/// The name that a value's note has, as `MPI_INT` in `11 (MPI_INT)`.
+fn note_in(value: &[u8]) -> Option<&[u8]> {
+    before(b')', behind(b'(', value)?)
+}
+
+/// The same; where it has none, the value itself.
 fn noted_name(value: &[u8]) -> &[u8] {
-    let Some(open) = value.iter().position(|byte| *byte == b'(') else {
-        return value;
-    };
-    let behind = &value[open + 1..];
-    match behind.iter().position(|byte| *byte == b')') {
-        Some(close) => &behind[..close],
+    match note_in(value) {
+        Some(name) => name,
         None => value,
     }
 }
@@ -153,11 +174,13 @@ impl RankTexts {
             texts: self,
             next: first,
         };
-        match walk_raw(alloc, reader, &mut sink) {
-            Ok(_) => Ok(sink.texts),
+        let walked = walk_raw(alloc, reader, &mut sink);
+        let TextSink { texts, .. } = sink;
+        match walked {
+            Ok(_) => Ok(texts),
             Err(fault) => match fault.cause {
                 WalkCause::Memory | WalkCause::Sink(_) => Err(AllocError),
-                _ => Ok(sink.texts),
+                _ => Ok(texts),
             },
         }
     }
@@ -223,8 +246,9 @@ impl RankTexts {
             return Ok(());
         }
         let text = self.text_of(alloc, raw)?;
-        if let Some(place) = self.calls.get_mut(call as usize) {
-            *place = text;
+        let at = call as usize;
+        if at < self.calls.len() {
+            self.calls[at] = text;
         }
         Ok(())
     }
@@ -234,11 +258,15 @@ impl RankTexts {
         let statuses = self.bytes.len();
         self.push_statuses(alloc, raw)?;
         let told = self.bytes.len().saturating_sub(statuses);
+        let function = self.names.number(raw.name())?;
+        let caller = self.names.number_of(first_of(raw, b"caller", b"*caller"))?;
+        let datatype = self.type_of(first_of(raw, b"datatype", b"sendtype"))?;
+        let received = self.type_of(first_of(raw, b"recvtype", b"datatype"))?;
         Ok(CallText {
-            function: self.names.number(raw.name())?,
-            caller: self.names.number_of(first_of(raw, b"caller", b"*caller"))?,
-            datatype: self.type_of(first_of(raw, b"datatype", b"sendtype"))?,
-            received: self.type_of(first_of(raw, b"recvtype", b"datatype"))?,
+            function,
+            caller,
+            datatype,
+            received,
             count: number_in(first_of(raw, b"count", b"sendcount")),
             statuses,
             told: u32::try_from(told).unwrap_or(0),

@@ -105,7 +105,6 @@ pub(crate) fn texts_of_rank<O: Opener>(
 }
 
 /// What the next rank did, behind what those before it did.
-#[tactic(auto, using(crate::proofs::OwnOps::own_more))]
 pub(crate) fn push_own(
     alloc: Global,
     layout: &Layout,
@@ -117,6 +116,7 @@ pub(crate) fn push_own(
     ensures { OnOk result (HoldsRanks (rank + 1) ops.new.items) }
 {
     ops_laws();
-    ops.push(ops_of(alloc, layout, know, rank)?)?;
+    let own = ops_of(alloc, layout, know, rank)?;
+    ops.push(own)?;
     Ok(())
 }
