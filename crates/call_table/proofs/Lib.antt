@@ -1,2 +1,3 @@
 pub mod BothEnds
+pub mod Ordered
 pub mod Own

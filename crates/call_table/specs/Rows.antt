@@ -1,9 +1,9 @@
 -- What a row of the table tells of the other end of its message, and of its round.
-use Rattle.std.specs.Prelude.{ℕ, Option, Some, None, List}
+use Rattle.std.specs.Prelude.{◌≡◌, ℕ, Option, Some, None, List}
 use Rattle.mpi_model.specs.declared.event.OpName.{OpName}
 use Rattle.mpi_model.specs.declared.message.Message.{Message}
 use Rattle.mpi_model.specs.declared.message.Receive.{Receive}
-use Rattle.trace_ops.specs.Ops.{Ops}
+use Rattle.trace_ops.specs.Ops.{AreOwn, Ops}
 use Rattle.trace_pair.specs.Table.{given_by, taken_by}
 use Rattle.trace_pair.specs.declared.pair.Pair.{Pair}
 use Rattle.trace_wait.specs.Parts.{receive_of, send_of}
@@ -17,6 +17,12 @@ use Rattle.call_table.specs.declared.slot.Slot.{Slot}
 pub record Told : Type 0 where
   pub ops : List Ops
   pub pairs : List Pair
+
+-- What the ranks did, and the same in which rounds are looked up.
+pub record IsTable (ops entries : List Ops) : Type 0 where
+  pub own : AreOwn 0 ops
+  pub entered : AreOwn 0 entries
+  pub same : entries ≡ ops
 
 -- the operation of a row
 abbrev pub name_of : ℕ → ℕ → Slot → OpName

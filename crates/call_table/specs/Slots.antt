@@ -1,15 +1,15 @@
 -- The rows of a call: one, or of a Sendrecv one for each side, and of a Startall one for each of its requests.
-use Rattle.std.specs.Prelude.{ℕ, ◌==◌, ◌-◌, ◌^◌, Option, Some, None, if◌then◌else◌, length, max, min}
+use Rattle.std.specs.Prelude.{ℕ, ◌==◌, Option, Some, None, if◌then◌else◌, length, max}
 use Rattle.mpi_model.specs.declared.call.Call.{Call}
 use Rattle.mpi_model.specs.declared.call.Call.TheVariants.{Sendrecv, Startall}
 use Rattle.call_table.specs.declared.slot.Side.{Side}
 use Rattle.call_table.specs.declared.slot.Side.TheVariants.{Send, Receive}
 use Rattle.call_table.specs.declared.slot.Slot.{Slot}
 
--- how many rows a call has: one at least, and no more than a part's number counts
+-- how many rows a call has: one at least
 abbrev pub slot_count : Call → ℕ
 slot_count (Sendrecv both) = 2
-slot_count (Startall requests) = min (max (length requests) 1) (2 ^ 32 - 1)
+slot_count (Startall requests) = max (length requests) 1
 slot_count call = 1
 
 -- the side of a Sendrecv by the place of its row: its send stands before its receive

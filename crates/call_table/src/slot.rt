@@ -1,6 +1,6 @@
 //! The rows of a call: of which part, and of which side of a Sendrecv.
 
-ghost use Rattle.std.specs.Prelude.{◌≡◌, ◌-◌, ◌^◌, max, min};
+ghost use Rattle.std.specs.Prelude.{◌≡◌};
 ghost use Rattle.call_table.specs.Slots.{side_at, slot_at, slot_count};
 
 use mpi_model::Call;
@@ -23,20 +23,13 @@ pub struct Slot {
     pub side: Option<Side>,
 }
 
-/// The rows of a Startall of so many requests.
-fn rows_of_parts(count: usize) -> u32
-    ensures { result ≡ min (max count 1) (2 ^ 32 - 1) }
-{
-    count.max(1).min(4_294_967_295) as u32
-}
-
 /// How many rows a call has: one, two of a Sendrecv, and of a Startall one for each of its requests.
-pub fn slot_count(call: &Call) -> u32
+pub fn slot_count(call: &Call) -> usize
     ensures { result ≡ slot_count call.now }
 {
     match call {
         Call::Sendrecv(_) => 2,
-        Call::Startall(requests) => rows_of_parts(requests.as_slice().len()),
+        Call::Startall(requests) => requests.as_slice().len().max(1),
         _ => 1,
     }
 }

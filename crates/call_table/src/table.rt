@@ -24,15 +24,13 @@ pub struct CallTable<'a> {
 }
 
 impl<'a> Model for CallTable<'a> {
-    ghost use Rattle.std.specs.Prelude.{◌≡◌};
-    ghost use Rattle.trace_ops.specs.Ops.{AreOwn};
-    ghost use Rattle.call_table.specs.Rows.{Told};
+    ghost use Rattle.call_table.specs.Rows.{IsTable, Told};
 
     ghost Value = { Told };
 
     ghost view = { λ t. record { ops = t.ops.now; pairs = t.partners } };
 
-    ghost invariant = { λ t. AreOwn 0 t.ops.now × (t.entries ≡ t.ops.now) };
+    ghost invariant = { λ t. IsTable t.ops.now t.entries };
 }
 
 impl<'a> CallTable<'a> {

@@ -131,8 +131,9 @@ fn tells_bytes(field: &Field) -> bool {
 /// The bytes that a status tells.
 fn bytes_in(group: &Group) -> u64 {
     for field in group.as_slice() {
-        if tells_bytes(field) && field.number.value >= 0 {
-            return field.number.value as u64;
+        let value = field.number.value;
+        if tells_bytes(field) && value >= 0 {
+            return value as u64;
         }
     }
     NOT_TOLD

@@ -132,7 +132,7 @@ fn put_arguments(
 ) -> Result<(), AllocError> {
     match called.call {
         Call::Startall(_) => {
-            put_argument(out, b"parts", Some(u64::from(slot_count(called.call))))?;
+            put_argument(out, b"parts", Some(slot_count(called.call) as u64))?;
         }
         Call::Sendrecv(_) => {
             put_first(

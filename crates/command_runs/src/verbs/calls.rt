@@ -89,7 +89,10 @@ fn put_rows(
 ) -> Result<(), RunFault>
     ensures { IfErr result (λ fault. fault ≡ RunFault.Memory) }
 {
-    for place in 0..slot_count(called.call) {
+    for at in 0..slot_count(called.call) {
+        let Ok(place) = u32::try_from(at) else {
+            break;
+        };
         put_row(lines, form, &calls.fields(number, called, place, received))?;
     }
     Ok(())
