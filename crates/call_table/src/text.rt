@@ -3,11 +3,10 @@
 
 use crate::names::Names;
 use crate::slot::Side;
-use dumpi_calls::{Memory, RawSink, WalkCause, walk_raw};
-use dumpi_text::{Field, Group, RawCall, Value, ValueFault, parse_value};
-use mpi_model::{Call, Read};
+use dumpi_calls::next_call;
+use dumpi_text::{Field, Group, RawCall, TextFault, Texts, Value, ValueFault, parse_value};
+use mpi_model::Read;
 use std::alloc::{AllocError, Global};
-use std::marker::Model;
 
 /// The bytes of a status that doesn't tell them.
 const NOT_TOLD: u64 = u64::MAX;
@@ -47,19 +46,6 @@ pub struct RankTexts {
     /// The numbers of datatypes, with the numbers of their names.
     types: Vec<(u32, u32)>,
     bytes: Vec<u64>,
-}
-
-/// What takes the calls of a text, which are numbered from `next` on.
-#[derive(Debug, Drop)]
-struct TextSink {
-    texts: RankTexts,
-    next: u64,
-}
-
-impl Model for TextSink {
-    ghost Value = { Unit {0} };
-
-    ghost view = { λ s. tt };
 }
 
 /// The first of these parameters that a call has.
@@ -171,18 +157,18 @@ impl RankTexts {
         reader: R,
         first: u64,
     ) -> Result<RankTexts, AllocError> {
-        let mut sink = TextSink {
-            texts: self,
-            next: first,
-        };
-        let walked = walk_raw(alloc, reader, &mut sink);
-        let TextSink { texts, .. } = sink;
-        match walked {
-            Ok(_) => Ok(texts),
-            Err(fault) => match fault.cause {
-                WalkCause::Memory | WalkCause::Sink(_) => Err(AllocError),
-                _ => Ok(texts),
-            },
+        let mut told = self;
+        let mut texts = Texts::new(alloc, reader)?;
+        let mut raw = RawCall::new(alloc);
+        let mut call = first;
+        'each: loop {
+            match next_call(&mut texts, &mut raw) {
+                Ok(true) => told.note(alloc, call, &raw)?,
+                Ok(false) => return Ok(told),
+                Err(TextFault::Memory) => return Err(AllocError),
+                Err(_) => return Ok(told),
+            }
+            call = call.saturating_add(1);
         }
     }
 
@@ -295,20 +281,6 @@ impl RankTexts {
         for group in groups.as_slice() {
             self.bytes.push(bytes_in(group))?;
         }
-        Ok(())
-    }
-}
-
-impl RawSink for TextSink {
-    type Fault = Memory;
-
-    ghost step = { λ old raw call new. Unit {0} };
-
-    fn on_call(&mut self, raw: &RawCall, _call: Call) -> Result<(), Memory> {
-        let alloc = *self.texts.bytes.allocator();
-        let call = self.next;
-        self.texts.note(alloc, call, raw)?;
-        self.next = call.saturating_add(1);
         Ok(())
     }
 }
