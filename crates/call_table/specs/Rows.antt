@@ -40,8 +40,8 @@ receive_on (Some Send) own name = None
 receive_on (Some Receiving) own name = receive_of own name
 receive_on None own name = receive_of own name
 
--- The other end: of a message the receive that takes it, and of a receive the message. A row makes no message and posts no receive
--- at once, but for a Sendrecv, whose rows are one of each.
+-- The other end: of a message the receive that takes it, and of a receive the message. A row makes no message and posts
+-- no receive at once, but for a Sendrecv, whose rows are one of each.
 abbrev pub partner_of : List Pair → OpName → Option Message → Option Receive → Option OpName
 partner_of pairs name (Some m) receive = taken_by pairs name
 partner_of pairs name None (Some q) = given_by pairs name

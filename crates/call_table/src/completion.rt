@@ -1,7 +1,8 @@
 //! By which call each request of a rank is completed.
 //!
 //! The calls of the rank are gone through once, from the first to the last. The call whose outcome completes a receive
-//! is also known from the answer; this is for sends and collective calls too, and tells which status of that call it is.
+//! is also known from the answer; this is for sends and collective calls too, and tells which status of that call it
+//! is.
 
 use crate::known::{Called, called_at, count_of};
 use mpi_model::{Call, Element, NULL_REQUEST, Outs};

@@ -1,17 +1,17 @@
 //! Every readable call of a run with its partner: as a table, and as a timeline.
 //!
 //! A [`CallTable`] is what all ranks did, with the pairs and the rounds of the answer to it. It says of each row of a
-//! call which operation stands at the other end of its message, and which round it entered: that is proved. Beside it
-//! stands what the texts of the rank say of the call ([`RankTexts`]): its function, its caller, its datatype, and how
-//! many bytes came. Rows and slices are written one by one, so memory doesn't grow with the output: the table takes what
-//! the ranks did and eight bytes a pair, the texts of one rank some fifty bytes a call. The contracts of what is
-//! written say no more than that it ends; cases show it.
+//! call which operation is at the other end of its message, and which round it entered: that is proved. The texts of
+//! the rank ([`RankTexts`]) say its function, its caller, its datatype, and how many bytes came. Rows and slices are
+//! written one by one, so memory doesn't grow with the output: the table takes what the ranks did and eight bytes a
+//! pair, the texts of one rank some fifty bytes a call. The contracts of what is written say no more than that it ends;
+//! cases show it.
 //!
 //! - [`partners`]: the pairs, asked by either end; [`slot`]: the rows that a call has; [`row`]: a row with its partner;
 //!   [`table`]: all of them, with their rounds
 //! - [`known`]: the calls of a rank by its events; [`completion`]: by which call a request is completed; [`text`]: what
-//!   texts say of calls, with each name kept once ([`names`]); [`received`]: the bytes of messages; [`functions`]: names
-//!   of functions where no text has them
+//!   texts say of calls, with each name kept once ([`names`]); [`received`]: the bytes of messages; [`functions`]: the
+//!   names of functions if no text has them
 //! - [`fields`]: all fields of a row; [`lines`]: a row as CSV and as JSON
 //! - [`span`]: from when to when a call is shown; [`arrows`]: when messages were sent and received; [`timeline`]: trace
 //!   events; [`put`]: bytes that grow

@@ -10,7 +10,8 @@ pub struct Span {
     pub end: u64,
 }
 
-/// Where a call ends that was entered at a time. Clocks may be set back while a call lasts: then it ends where it begins.
+/// Where a call ends that was entered at a time. Clocks may be set back while a call lasts: then it ends where it
+/// begins.
 fn end_of(enter: u64, exit: Option<u64>, last: u64) -> u64
     ensures { result ≡ end_of enter exit last }
 {

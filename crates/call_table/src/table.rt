@@ -34,8 +34,8 @@ impl<'a> Model for CallTable<'a> {
 }
 
 impl<'a> CallTable<'a> {
-    /// The table of what the ranks did, rank r at place r, and of the pairs of it. Fails with `AllocError` when memory is
-    /// refused.
+    /// The table of what the ranks did, rank r at place r, and of the pairs of it. Fails with `AllocError` when memory
+    /// is refused.
     pub fn new(
         alloc: Global,
         ops: &'a [RankOps],

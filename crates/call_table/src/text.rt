@@ -1,5 +1,5 @@
-//! What the texts of a rank say of its calls, beside what is known of them: names, callers, datatypes, and the bytes that
-//! statuses tell.
+//! What the texts of a rank say of its calls, beside what is known of them: names, callers, datatypes, and the bytes
+//! that statuses tell.
 
 use crate::names::Names;
 use crate::slot::Side;
@@ -89,8 +89,8 @@ fn noted_name(value: &[u8]) -> &[u8] {
     }
 }
 
-/// The number that digits in front of a value say, and one more: 0 where there are none. The greatest one stands for all
-/// that are greater.
+/// The number that digits in front of a value say, and one more: 0 where there are none. The greatest one stands for
+/// all that are greater.
 fn number_in(value: Option<&[u8]>) -> u32 {
     let Some(value) = value else {
         return 0;

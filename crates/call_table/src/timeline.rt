@@ -151,8 +151,8 @@ fn put_arguments(
     put_text(out, b"site", calls.texts.caller(number))
 }
 
-/// Adds a call as a slice: it is open to the end of the trace where the call didn't return. Fails with `AllocError` when
-/// memory is refused.
+/// Adds a call as a slice: it is open to the end of the trace where the call didn't return. Fails with `AllocError`
+/// when memory is refused.
 pub fn put_slice(
     out: &mut Vec<u8>,
     calls: &RankCalls<'_>,

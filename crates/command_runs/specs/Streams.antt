@@ -18,8 +18,9 @@ abbrev pub WritesOn : {W T : Type 0} → Result T RunFault → (W → Option (Li
 WritesOn (Ok done) written failures old new = Grows (written old) (written new) × (failures new ≡ failures old)
 WritesOn (Err fault) written failures old new = Grows (written old) (written new) × ((fault ≡ Write) → HasFailed (failures old) (failures new))
 
--- A run answered so that writes while it reads a second time: its output was written whole; or the writer failed, and the
--- output broke off; or the run is refused for this fault, and nothing was written; or it is refused so later, and some of the output was written.
+-- A run answered so that writes while it reads a second time: its output was written whole; or the writer failed, and
+-- the output broke off; or the run is refused for this fault, and nothing was written; or it is refused so later, and
+-- some of the output was written.
 abbrev pub RanOn : {W : Type 0} → (List ℕ → Type 0) → (Refuses Later : RunFault → Type 0) → Result Outcome RunFault → (W → Option (List ℕ)) → (W → ℕ) → W → W → Type 0
 RanOn Is Refuses Later (Ok outcome) written failures old new = (outcome ≡ Good) × Writes Is (written old) (written new)
 RanOn Is Refuses Later (Err fault) written failures old new = ((fault ≡ Write) × BreaksOff Is written failures old new)

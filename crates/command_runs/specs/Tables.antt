@@ -9,8 +9,8 @@ use Rattle.command_runs.specs.Said.{IsDiagnosed}
 use Rattle.command_runs.specs.declared.faults.fault.RunFault.{RunFault}
 use Rattle.command_runs.specs.declared.faults.fault.RunFault.TheVariants.{Memory}
 
--- Every call is told of, by the answer to all that the pieces tell, for the layout. How a row is written has no definition; which
--- operation stands at its other end, and which round it entered, is defined in `call_table`.
+-- Every call is told of, by the answer to all that the pieces tell, for the layout. How a row is written has no
+-- definition; which operation stands at its other end, and which round it entered, is defined in `call_table`.
 abbrev pub IsTableOf : (List ℕ → Option (List ℕ)) → Parts → ManifestParts → List ℕ → Type 0
 IsTableOf file l m text = OfAllTold file l m (λ view. IsDiagnosed l view)
 

@@ -73,8 +73,8 @@ fn keep_freed_memory(alloc: Global) {
     drop(block);
 }
 
-/// Runs a verb. Nothing is written before all pieces were read and the answer is made; `calls` and `timeline` read them a
-/// second time while they write. A cluster, which takes threads, is run by
+/// Runs a verb. Nothing is written before all pieces were read and the answer is made; `calls` and `timeline` read them
+/// a second time while they write. A cluster, which takes threads, is run by
 /// [`cluster`](crate::verbs::cluster::cluster). [`RunFault`] says why a run was refused.
 pub fn run_with<O: Opener, V: Watcher, W: Write>(
     verb: Verb,
