@@ -4,7 +4,8 @@ use Rattle.mpi_model.specs.declared.event.OpName.{OpName}
 use Rattle.mpi_model.specs.declared.message.Message.{Message}
 use Rattle.mpi_model.specs.declared.message.Receive.{Receive}
 use Rattle.trace_ops.specs.Ops.{AreOwn, Ops}
-use Rattle.trace_pair.specs.Table.{given_by, taken_by}
+use Rattle.trace_ops.specs.Order.{Has}
+use Rattle.trace_pair.specs.Table.{given_by, table_of, taken_by}
 use Rattle.trace_pair.specs.declared.pair.Pair.{Pair}
 use Rattle.trace_wait.specs.Parts.{receive_of, send_of}
 use Rattle.trace_wait.specs.Ranks.{ops_of}
@@ -54,3 +55,15 @@ row_with pairs name message receive = record { name = name; message = message; r
 -- the row of a call of a rank
 abbrev pub row_of : Told → OpName → Option Side → Row
 row_of told name side = row_with told.pairs name (message_on side (ops_of told.ops name.rank) name) (receive_on side (ops_of told.ops name.rank) name)
+
+-- The pair stands in two rows, one of either side: its message is sent in the one and its receive is posted in the
+-- other, and each tells the other end.
+pub record HasTwoRows (told : Told) (p : Pair) : Type 0 where
+  pub sent : (m : Message) × ((row_of told p.message (Some Send)).message ≡ Some m)
+  pub at_message : (row_of told p.message (Some Send)).partner ≡ Some p.receive
+  pub received : (q : Receive) × ((row_of told p.receive (Some Receiving)).receive ≡ Some q)
+  pub at_receive : (row_of told p.receive (Some Receiving)).partner ≡ Some p.message
+
+-- so does each pair of what the ranks did
+abbrev pub HaveTwoRows : Type 0
+HaveTwoRows = (ops : List Ops) → AreOwn 0 ops → (p : Pair) → Has (table_of ops).pairs p → HasTwoRows (record { ops = ops; pairs = (table_of ops).pairs }) p

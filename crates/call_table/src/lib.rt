@@ -8,7 +8,7 @@
 //! cases show it.
 //!
 //! - [`partners`]: the pairs, asked by either end; [`slot`]: the rows that a call has; [`row`]: a row with its partner;
-//!   [`table`]: all of them, with their rounds
+//!   [`table`]: all of them, with their rounds; [`laws`]: that each pair stands in two rows
 //! - [`known`]: the calls of a rank by its events; [`completion`]: by which call a request is completed; [`text`]: what
 //!   texts say of calls, with each name kept once ([`names`]); [`received`]: the bytes of messages; [`functions`]: the
 //!   names of functions if no text has them
@@ -35,6 +35,7 @@ mod completion;
 mod fields;
 mod functions;
 mod known;
+mod laws;
 mod lines;
 mod names;
 mod partners;
@@ -51,6 +52,7 @@ pub use arrows::Arrows;
 pub use completion::Completions;
 pub use fields::{Fields, RankCalls};
 pub use known::{Called, count_of, times_of};
+pub use laws::pairs_have_two_rows;
 pub use lines::{CSV_HEADER, RowForm, put_row};
 pub use partners::Partners;
 pub use received::{ReceivedBytes, bytes_of};
