@@ -1,5 +1,5 @@
 -- Each pair stands in two rows.
-use Rattle.std.proofs.Common.{◌≡◌, ◌∙◌, ℕ, zero, suc, ◌+◌, ◌&&◌, Bool, true, List, [], ◌∷◌, ◌++◌, Option, Some, None, ⊎_elim, add-zero, ap, ap₂, arith, refl, subst, sym}
+use Rattle.std.proofs.Common.{◌≡◌, ◌∙◌, ℕ, zero, suc, ◌+◌, ◌&&◌, Bool, true, List, [], ◌∷◌, ◌++◌, Option, Some, None, ⊎_elim, ap, ap₂, arith, refl, subst, sym}
 use Rattle.std.specs.Prelude.{◌==◌}
 use Rattle.std.specs.List.{find, flat_map}
 use Rattle.std.proofs.lemmas.Bool.Decides.{nat_tests}
@@ -38,13 +38,13 @@ module _ {X : Type 0} (part : Ops → List X) (name : X → OpName) (none : part
   by_own [] first own x i = absurd i
   by_own (o ∷ os) first own x i =
       ⊎_elim
-      (λ (j : Has (part o) x). (0, owned first o own.0 x j ∙ sym (add-zero first), j))
+      (λ (j : Has (part o) x). let e = owned first o own.0 x j in (0, omega (arith, e), j))
       (λ (j : Has (flat_map part os) x). let w = by_own os (first + 1) own.1 x j in (suc w.0, omega (arith, w.1), w.2))
       (has_either (part o) (flat_map part os) x i)
 
   own_rank : (os : List Ops) (first : ℕ) → AreOwn first os → (r : ℕ) (x : X) → Has (part (ops_of os r)) x → (name x).rank ≡ first + r
   own_rank [] first own r x i = absurd (nothing x i)
-  own_rank (o ∷ os) first own zero x i = owned first o own.0 x i ∙ sym (add-zero first)
+  own_rank (o ∷ os) first own zero x i = let e = owned first o own.0 x i in omega (arith, e)
   own_rank (o ∷ os) first own (suc r) x i = let e = own_rank os (first + 1) own.1 r x i in omega (arith, e)
 
   of_all : (os : List Ops) (r : ℕ) (x : X) → Has (part (ops_of os r)) x → Has (flat_map part os) x
