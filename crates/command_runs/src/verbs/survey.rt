@@ -37,7 +37,7 @@ pub(crate) enum Events {
 
 /// The answer to all that the pieces tell, and where the events of each rank come from then.
 #[derive(Drop)]
-pub(crate) struct Answered {
+pub(crate) struct Survey {
     pub answer: Answer,
     pub events: Events,
 }
@@ -46,14 +46,14 @@ pub(crate) struct Answered {
 pub(crate) fn answered<O: Opener, V: Watcher>(
     run: &Run<'_, O>,
     watcher: &mut V,
-) -> Result<Answered, RunFault>
+) -> Result<Survey, RunFault>
     ensures ok { IfOk result (λ told. AnswersAll (O.file run.now.files.now) run.now.layout.now run.now.manifest.now told.answer) }
     ensures err { IfErr result (RefusesNamed (O.file run.now.files.now) run.now.layout.now.ranks run.now.manifest.now) }
     ensures failed { IfErr result (NamesFailed (Fails O.R.failures)) }
 {
     if run.manifest.packed().is_empty() && have_lengths(run.manifest.pieces(), run.files) {
         let answer = answer_of(run, watcher)?;
-        return Ok(Answered {
+        return Ok(Survey {
             answer,
             events: Events::Pieces,
         });
@@ -61,7 +61,7 @@ pub(crate) fn answered<O: Opener, V: Watcher>(
     let know = known_of(run, watcher)?;
     let told = RankByRank::of_all(run.alloc, run.layout, &know)?;
     let answer = told.into_answer(run.alloc, run.layout)?;
-    Ok(Answered {
+    Ok(Survey {
         answer,
         events: Events::Kept(know),
     })
