@@ -58,8 +58,8 @@ module _ {X : Type 0} (part : Ops → List X) (name : X → OpName) (none : part
   found_own os own up x i =
       let r = (name x).rank in
       let w = by_own os 0 own x i in
-      let at : w.0 ≡ r = omega (arith, w.1) in
-      let here : Has (part (ops_of os r)) x = subst (λ (n : ℕ). Has (part (ops_of os n)) x) at w.2 in
+      let there : w.0 ≡ r = omega (arith, w.1) in
+      let here : Has (part (ops_of os r)) x = subst (λ (n : ℕ). Has (part (ops_of os n)) x) there w.2 in
       let f = finds (λ y. is_of (name x) (name y)) (part (ops_of os r)) x here (itself (name x)) in
       let g = found (λ y. is_of (name x) (name y)) (part (ops_of os r)) f.0 f.1 in
       let e = own_rank os 0 own r f.0 g.0 in
@@ -68,10 +68,10 @@ module _ {X : Type 0} (part : Ops → List X) (name : X → OpName) (none : part
       f.1 ∙ ap (λ (y : X). Some y) (one_named name (flat_map part os) f.0 x up (of_all os r f.0 g.0) i same)
 
 found_send : (os : List Ops) → AreOwn 0 os → (m : Message) → Has (sends_of os) m → send_of (ops_of os m.name.rank) m.name ≡ Some m
-found_send os own m i = found_own (λ o. o.sends) (λ m. m.name) refl (λ rank o is m i. is.sent m i) os own (all_sends_rise os 0 own) m i
+found_send os own m i = found_own {X = Message} (λ (o : Ops). o.sends) (λ (m : Message). m.name) refl (λ rank o is m i. is.sent m i) os own (all_sends_rise os 0 own) m i
 
 found_receive : (os : List Ops) → AreOwn 0 os → (q : Receive) → Has (receives_of os) q → receive_of (ops_of os q.name.rank) q.name ≡ Some q
-found_receive os own q i = found_own (λ o. o.receives) (λ q. q.name) refl (λ rank o is q i. is.posted q i) os own (all_receives_rise os 0 own) q i
+found_receive os own q i = found_own {X = Receive} (λ (o : Ops). o.receives) (λ (q : Receive). q.name) refl (λ rank o is q i. is.posted q i) os own (all_receives_rise os 0 own) q i
 
 pub two_rows : HaveTwoRows
 two_rows ops own p i =
