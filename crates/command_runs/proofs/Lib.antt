@@ -21,6 +21,7 @@ pub mod Runs
 pub mod Segments
 pub mod Sharing
 pub mod Stops
+pub mod Streaming
 pub mod Told
 pub mod Traces
 pub mod Unpacking

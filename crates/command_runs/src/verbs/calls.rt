@@ -12,15 +12,24 @@ use crate::load::opener::Opener;
 use crate::load::watch::Watcher;
 use crate::run::{Outcome, Run};
 use crate::verbs::streaming::{write_full, write_gathered};
-use crate::verbs::survey::{Events, answered, known_of_rank, push_own, texts_of_rank};
+use crate::verbs::survey::{Events, answered, known_in, push_own, read_again, texts_of_rank};
 use call_table::{
     CSV_HEADER, CallTable, Called, Completions, Partners, RankCalls, ReceivedBytes, RowForm,
     put_row, slot_count,
 };
 use command_line::TableForm;
 use mpi_model::Write;
+use std::alloc::{AllocError, Global};
 use trace_know::Knowledge;
 use trace_ops::RankOps;
+
+/// Of what rows are made, beside the calls of a rank, and how they are written.
+#[derive(Clone, Copy)]
+struct Rows<'a> {
+    table: &'a CallTable<'a>,
+    form: RowForm,
+    received: &'a ReceivedBytes,
+}
 
 /// How rows are written.
 fn form_of(form: TableForm) -> RowForm {
@@ -67,13 +76,9 @@ fn all_ranks<O: Opener>(
     let mut ops = Vec::new(run.alloc);
     let mut buffer = Vec::new(run.alloc);
     for rank in 0..run.layout.ranks() {
-        match events {
-            Events::Kept(know) => add_rank(run, know, rank, partners, received, &mut ops)?,
-            Events::Pieces => {
-                let know = known_of_rank(run, rank, &mut buffer)?;
-                add_rank(run, &know, rank, partners, received, &mut ops)?;
-            }
-        }
+        let own = read_again(run, events, rank, &mut buffer)?;
+        let know = known_in(events, &own);
+        add_rank(run, know, rank, partners, received, &mut ops)?;
     }
     Ok(ops)
 }
@@ -81,11 +86,10 @@ fn all_ranks<O: Opener>(
 /// Adds the rows of a call.
 fn put_rows(
     lines: &mut Vec<u8>,
-    form: RowForm,
+    rows: &Rows<'_>,
     calls: &RankCalls<'_>,
     number: u64,
     called: &Called<'_>,
-    received: &ReceivedBytes,
 ) -> Result<(), RunFault>
     ensures { IfErr result (λ fault. fault ≡ RunFault.Memory) }
 {
@@ -93,7 +97,8 @@ fn put_rows(
         let Ok(place) = u32::try_from(at) else {
             break;
         };
-        put_row(lines, form, &calls.fields(number, called, place, received))?;
+        let fields = calls.fields(number, called, place, rows.received);
+        put_row(lines, rows.form, &fields)?;
     }
     Ok(())
 }
@@ -102,9 +107,8 @@ fn put_rows(
 fn write_rank<O: Opener, W: Write>(
     run: &Run<'_, O>,
     know: &Knowledge,
-    table: &CallTable<'_>,
-    (rank, form): (u32, RowForm),
-    received: &ReceivedBytes,
+    rank: u32,
+    rows: &Rows<'_>,
     lines: &mut Vec<u8>,
     out: &mut W,
 ) -> Result<(), RunFault>
@@ -116,51 +120,50 @@ fn write_rank<O: Opener, W: Write>(
     let texts = texts_of_rank(run, rank, call_table::count_of(&events))?;
     let calls = RankCalls {
         layout: run.layout,
-        table,
+        table: rows.table,
         rank,
         events: &events,
         texts: &texts,
         completions: &completions,
     };
     for number in 0..calls.count() {
-        if let Some(called) = calls.called(number) {
-            put_rows(lines, form, &calls, number, &called, received)?;
-            write_full(lines, out)?;
-        }
+        let Some(called) = calls.called(number) else {
+            continue;
+        };
+        put_rows(lines, rows, &calls, number, &called)?;
+        write_full(lines, out)?;
     }
     Ok(())
+}
+
+/// The lines in front of the rows: a header of CSV.
+fn first_lines(alloc: Global, form: RowForm) -> Result<Vec<u8>, AllocError> {
+    match form {
+        RowForm::Csv => Vec::from_slice(alloc, CSV_HEADER),
+        RowForm::Json => Ok(Vec::new(alloc)),
+    }
 }
 
 /// Writes the rows of all ranks, and the header in front of them.
 fn write_ranks<O: Opener, W: Write>(
     run: &Run<'_, O>,
     events: &Events,
-    table: &CallTable<'_>,
-    form: RowForm,
-    received: &ReceivedBytes,
+    rows: &Rows<'_>,
     out: &mut W,
 ) -> Result<(), RunFault>
     ensures written { WritesOn result W.written W.failures out.old out.new }
     ensures fault { IfErr result (λ fault. (fault ≡ RunFault.Write) ⊎ RefusesAgain (O.file run.now.files.now) run.now.manifest.now.pieces fault) }
     ensures failed { IfErr result (NamesFailed (Fails O.R.failures)) }
 {
-    let mut lines = Vec::new(run.alloc);
+    let mut lines = first_lines(run.alloc, rows.form)?;
     let mut buffer = Vec::new(run.alloc);
-    if form == RowForm::Csv {
-        lines.extend_from_slice(CSV_HEADER)?;
-    }
     for rank in 0..run.layout.ranks() {
-        match events {
-            Events::Kept(know) => {
-                write_rank(run, know, table, (rank, form), received, &mut lines, out)?;
-            }
-            Events::Pieces => {
-                let know = known_of_rank(run, rank, &mut buffer)?;
-                write_rank(run, &know, table, (rank, form), received, &mut lines, out)?;
-            }
-        }
+        let own = read_again(run, events, rank, &mut buffer)?;
+        let know = known_in(events, &own);
+        write_rank(run, know, rank, rows, &mut lines, out)?;
     }
-    write_gathered(&mut lines, out)
+    write_gathered(&mut lines, out)?;
+    Ok(())
 }
 
 /// Writes every call with its partner, by rank and number. A piece that was read before and is refused when it is read
@@ -180,6 +183,11 @@ pub(crate) fn calls<O: Opener, V: Watcher, W: Write>(
     let mut received = ReceivedBytes::new(run.alloc, partners.pairs().len())?;
     let ops = all_ranks(run, &told.events, &partners, &mut received)?;
     let table = CallTable::new(run.alloc, &ops, partners)?;
-    write_ranks(run, &told.events, &table, form_of(form), &received, out)?;
+    let rows = Rows {
+        table: &table,
+        form: form_of(form),
+        received: &received,
+    };
+    write_ranks(run, &told.events, &rows, out)?;
     Ok(Outcome::Good)
 }

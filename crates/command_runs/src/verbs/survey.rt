@@ -21,6 +21,7 @@ use crate::pieces::piece::ready_piece_of;
 use crate::run::Run;
 use call_table::RankTexts;
 use mpi_model::Layout;
+use run_files::Piece;
 use std::alloc::{AllocError, Global};
 use trace_know::Knowledge;
 use trace_node::{Answer, RankByRank};
@@ -67,24 +68,50 @@ pub(crate) fn answered<O: Opener, V: Watcher>(
     })
 }
 
-/// What the pieces of a rank tell, which were read before.
-pub(crate) fn known_of_rank<O: Opener>(
+/// What these pieces tell of a rank, which were read before.
+fn known_of_rank<O: Opener>(
     run: &Run<'_, O>,
+    pieces: &[Piece],
+    rank: u32,
+    buffer: &mut Vec<u8>,
+) -> Result<Knowledge, RunFault>
+    ensures err { IfErr result (RefusesAgain (O.file run.now.files.now) pieces.now) }
+    ensures failed { IfErr result (NamesFailed (Fails O.R.failures)) }
+{
+    let mut gathered = Gathered::new(run.alloc, run.layout);
+    for piece in pieces {
+        if piece.rank() != rank {
+            continue;
+        }
+        let whole = ready_piece_of(run.alloc, piece, run.files, &mut Unwatched, buffer)?;
+        gathered = take_whole(gathered, whole)?;
+    }
+    let know = gathered.know.into_knowledge()?;
+    Ok(know)
+}
+
+/// What the pieces of a rank tell, which are read once more; nothing where all that is known is kept.
+pub(crate) fn read_again<O: Opener>(
+    run: &Run<'_, O>,
+    events: &Events,
     rank: u32,
     buffer: &mut Vec<u8>,
 ) -> Result<Knowledge, RunFault>
     ensures err { IfErr result (RefusesAgain (O.file run.now.files.now) run.now.manifest.now.pieces) }
     ensures failed { IfErr result (NamesFailed (Fails O.R.failures)) }
 {
-    let mut gathered = Gathered::new(run.alloc, run.layout);
-    for piece in run.manifest.pieces() {
-        if piece.rank() == rank {
-            let whole = ready_piece_of(run.alloc, piece, run.files, &mut Unwatched, buffer)?;
-            gathered = take_whole(gathered, whole)?;
-        }
+    match events {
+        Events::Kept(_) => Ok(Knowledge::new(run.alloc)),
+        Events::Pieces => known_of_rank(run, run.manifest.pieces(), rank, buffer),
     }
-    let know = gathered.know.into_knowledge()?;
-    Ok(know)
+}
+
+/// What is known of a rank: all that is kept, or what was read once more.
+pub(crate) fn known_in<'a>(events: &'a Events, own: &'a Knowledge) -> &'a Knowledge {
+    match events {
+        Events::Kept(know) => know,
+        Events::Pieces => own,
+    }
 }
 
 /// What the texts of a rank say of so many calls: nothing where a text can't be looked at.

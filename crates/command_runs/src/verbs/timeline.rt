@@ -12,12 +12,12 @@ use crate::load::opener::Opener;
 use crate::load::watch::Watcher;
 use crate::run::{Outcome, Run};
 use crate::verbs::streaming::{write_full, write_gathered};
-use crate::verbs::survey::{Events, answered, known_of_rank, push_own, texts_of_rank};
+use crate::verbs::survey::{Events, answered, known_in, push_own, read_again, texts_of_rank};
 use call_table::{
     Arrows, CallTable, Completions, Partners, RankCalls, ReceivedBytes, Window, put_arrow,
     put_slice, put_stuck, put_timeline_end, put_timeline_head, put_track, span_of, times_of,
 };
-use mpi_model::Write;
+use mpi_model::{OpName, Write};
 use trace_know::Knowledge;
 use trace_node::Answer;
 use trace_ops::RankOps;
@@ -42,6 +42,12 @@ impl View {
             Some((first, last)) => first <= rank && rank <= last,
             None => true,
         }
+    }
+
+    /// Whether a pair with these ends is shown that was sent and received at these moments: both ends are.
+    fn has_arrow(self, ends: (OpName, OpName), moments: (u64, u64)) -> bool {
+        let are_ranks = self.has_rank(ends.0.rank) && self.has_rank(ends.1.rank);
+        are_ranks && self.window.has(moments.0) && self.window.has(moments.1)
     }
 }
 
@@ -106,14 +112,10 @@ fn all_ranks<O: Opener>(
     let mut buffer = Vec::new(run.alloc);
     let mut times = None;
     for rank in 0..run.layout.ranks() {
-        let own = match events {
-            Events::Kept(know) => add_rank(run, know, rank, partners, arrows, &mut ops)?,
-            Events::Pieces => {
-                let know = known_of_rank(run, rank, &mut buffer)?;
-                add_rank(run, &know, rank, partners, arrows, &mut ops)?
-            }
-        };
-        times = both_times(times, own);
+        let own = read_again(run, events, rank, &mut buffer)?;
+        let know = known_in(events, &own);
+        let more = add_rank(run, know, rank, partners, arrows, &mut ops)?;
+        times = both_times(times, more);
     }
     Ok((ops, times))
 }
@@ -130,13 +132,15 @@ fn write_slices<W: Write>(
     ensures fault { IfErr result (λ fault. (fault ≡ RunFault.Write) ⊎ (fault ≡ RunFault.Memory)) }
 {
     for number in 0..calls.count() {
-        if let Some(called) = calls.called(number) {
-            let span = span_of(called.enter, called.exit, view.end);
-            if view.window.shows(span) {
-                put_slice(lines, calls, number, &called, span, view.begin, received)?;
-                write_full(lines, out)?;
-            }
+        let Some(called) = calls.called(number) else {
+            continue;
+        };
+        let span = span_of(called.enter, called.exit, view.end);
+        if !view.window.shows(span) {
+            continue;
         }
+        put_slice(lines, calls, number, &called, span, view.begin, received)?;
+        write_full(lines, out)?;
     }
     Ok(())
 }
@@ -185,15 +189,12 @@ fn write_ranks<O: Opener, W: Write>(
 {
     let mut buffer = Vec::new(run.alloc);
     for rank in 0..run.layout.ranks() {
-        if view.has_rank(rank) {
-            match events {
-                Events::Kept(know) => write_rank(run, know, table, rank, view, lines, out)?,
-                Events::Pieces => {
-                    let know = known_of_rank(run, rank, &mut buffer)?;
-                    write_rank(run, &know, table, rank, view, lines, out)?;
-                }
-            }
+        if !view.has_rank(rank) {
+            continue;
         }
+        let own = read_again(run, events, rank, &mut buffer)?;
+        let know = known_in(events, &own);
+        write_rank(run, know, table, rank, view, lines, out)?;
     }
     Ok(())
 }
@@ -225,12 +226,12 @@ fn write_arrows<W: Write>(
         let Some(moments) = arrows.at(place) else {
             continue;
         };
-        let are_ranks = view.has_rank(pair.message.rank) && view.has_rank(pair.receive.rank);
-        if are_ranks && view.window.has(moments.0) && view.window.has(moments.1) {
-            let ends = (pair.message, pair.receive);
-            put_arrow(lines, ends, moments, view.begin, place as u64)?;
-            write_full(lines, out)?;
+        let ends = (pair.message, pair.receive);
+        if !view.has_arrow(ends, moments) {
+            continue;
         }
+        put_arrow(lines, ends, moments, view.begin, place as u64)?;
+        write_full(lines, out)?;
     }
     Ok(())
 }
@@ -255,7 +256,8 @@ fn write_events<O: Opener, W: Write>(
     put_marks(&mut lines, answer, view)?;
     write_arrows(table.partners(), arrows, view, &mut lines, out)?;
     put_timeline_end(&mut lines)?;
-    write_gathered(&mut lines, out)
+    write_gathered(&mut lines, out)?;
+    Ok(())
 }
 
 /// Writes the calls of all ranks in time, as far as they are shown. A piece that was read before and is refused when it
