@@ -8,7 +8,7 @@ pub of_answer-requires : goal.of_answer-requires
 of_answer-requires g c = let answers = c.in_ok-told.ensures.ok in (c.args.run.now.layout.now, answers.0, answers.2)
 
 pub new-requires : goal.new-requires
-new-requires g c = subst (λ (os : List Ops). AreOwn 0 os) (sym c.deref.ensures.value) c.in_ok-all_ranks.ensures.ok.1
+new-requires g c = subst (λ (os : List Ops). AreOwn 0 os) (sym c.deref.ensures.value) c.in_ok-ops.ensures.ok.1
 
 pub returns-in_err-told-clause-ran : goal.returns-in_err-told-clause-ran
 returns-in_err-told-clause-ran g c =
@@ -20,9 +20,9 @@ returns-in_err-partners-clause-ran g c = refused_first _ _ _ c.from_residual-in_
 pub returns-in_err-arrows-clause-ran : goal.returns-in_err-arrows-clause-ran
 returns-in_err-arrows-clause-ran g c = refused_first _ _ _ c.from_residual-in_err-arrows.result Memory g.W.Write.written g.W.Write.failures c.args.out.now c.from_residual-in_err-arrows.ensures.1 (inl refl)
 
-pub returns-in_err-all_ranks-clause-ran : goal.returns-in_err-all_ranks-clause-ran
-returns-in_err-all_ranks-clause-ran g c =
-    refused_again _ _ _ c.from_residual-in_err-all_ranks.result c.in_err-all_ranks.field-0.0 g.W.Write.written g.W.Write.failures c.args.out.now c.from_residual-in_err-all_ranks.ensures.1 c.in_err-all_ranks.ensures.err
+pub returns-in_err-ops-clause-ran : goal.returns-in_err-ops-clause-ran
+returns-in_err-ops-clause-ran g c =
+    refused_again _ _ _ c.from_residual-in_err-ops.result c.in_err-ops.field-0.0 g.W.Write.written g.W.Write.failures c.args.out.now c.from_residual-in_err-ops.ensures.1 c.in_err-ops.ensures.err
 
 pub returns-in_err-table-clause-ran : goal.returns-in_err-table-clause-ran
 returns-in_err-table-clause-ran g c = refused_first _ _ _ c.from_residual-in_err-table.result Memory g.W.Write.written g.W.Write.failures c.args.out.now c.from_residual-in_err-table.ensures.1 (inl refl)
