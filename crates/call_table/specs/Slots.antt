@@ -1,5 +1,5 @@
 -- The rows of a call: one, or of a Sendrecv one for each side, and of a Startall one for each of its requests.
-use Rattle.std.specs.Prelude.{ℕ, ◌==◌, Option, Some, None, if◌then◌else◌, length, max}
+use Rattle.std.specs.Prelude.{ℕ, ◌==◌, Some, None, if◌then◌else◌, length, max}
 use Rattle.mpi_model.specs.declared.call.Call.{Call}
 use Rattle.mpi_model.specs.declared.call.Call.TheVariants.{Sendrecv, Startall}
 use Rattle.call_table.specs.declared.slot.Side.{Side}

@@ -17,7 +17,6 @@ use Rattle.command_runs.specs.Writing.{BreaksOff}
 use Rattle.command_runs.specs.declared.faults.fault.RunFault.{RunFault}
 use Rattle.command_runs.specs.declared.faults.fault.RunFault.TheVariants.{Memory, Write}
 use Rattle.command_runs.specs.declared.run.Outcome.{Outcome}
-use Rattle.command_runs.specs.declared.run.Outcome.TheVariants.{Good}
 use Rattle.command_runs.proofs.Nodes.{appends_both, appends_none}
 
 -- one failure more is one

@@ -1,4 +1,4 @@
-use Rattle.std.proofs.Common.{◌+◌, List, arith, subst, sym}
+use Rattle.std.proofs.Common.{◌+◌, List, subst, sym}
 use Rattle.trace_ops.specs.Ops.{IsOwn, Ops}
 use Rattle.command_runs.specs.Tables.{HoldsRanks}
 use Rattle.command_runs.proofs.OwnOps.{one_more}
