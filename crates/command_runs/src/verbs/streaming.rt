@@ -15,7 +15,7 @@ pub(crate) fn write_gathered<W: Write>(lines: &mut Vec<u8>, out: &mut W) -> Resu
     ensures written { WritesOn result W.written W.failures out.old out.new }
     ensures fault { IfErr result (λ fault. fault ≡ RunFault.Write) }
 {
-    match write_piece(lines, out) {
+    match write_piece(lines.as_slice(), out) {
         Ok(()) => {
             lines.clear();
             Ok(())
