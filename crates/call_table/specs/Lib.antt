@@ -2,3 +2,4 @@ pub mod Partners
 pub mod Slots
 pub mod Rows
 pub mod Spans
+pub mod Completed

@@ -1,5 +1,6 @@
 -- What a row of the table tells of the other end of its message, and of its round.
 use Rattle.std.specs.Prelude.{◌≡◌, ℕ, Option, Some, None, List}
+use Rattle.mpi_model.specs.declared.call.Call.{Call}
 use Rattle.mpi_model.specs.declared.event.OpName.{OpName}
 use Rattle.mpi_model.specs.declared.message.Message.{Message}
 use Rattle.mpi_model.specs.declared.message.Receive.{Receive}
@@ -9,6 +10,7 @@ use Rattle.trace_pair.specs.Table.{given_by, table_of, taken_by}
 use Rattle.trace_pair.specs.declared.pair.Pair.{Pair}
 use Rattle.trace_wait.specs.Parts.{receive_of, send_of}
 use Rattle.trace_wait.specs.Ranks.{ops_of}
+use Rattle.call_table.specs.Slots.{slot_at}
 use Rattle.call_table.specs.declared.row.Row.{Row}
 use Rattle.call_table.specs.declared.slot.Side.{Side}
 use Rattle.call_table.specs.declared.slot.Side.TheVariants.{Send, Receive as Receiving}
@@ -55,6 +57,10 @@ row_with pairs name message receive = record { name = name; message = message; r
 -- the row of a call of a rank
 abbrev pub row_of : Told → OpName → Option Side → Row
 row_of told name side = row_with told.pairs name (message_on side (ops_of told.ops name.rank) name) (receive_on side (ops_of told.ops name.rank) name)
+
+-- the row at a place of a call, from 0
+abbrev pub row_at : Told → ℕ → ℕ → Call → ℕ → Row
+row_at told rank call what place = row_of told (name_of rank call (slot_at what place)) (slot_at what place).side
 
 -- The pair stands in two rows, one of either side: its message is sent in the one and its receive is posted in the
 -- other, and each tells the other end.

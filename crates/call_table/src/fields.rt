@@ -1,5 +1,11 @@
 //! The fields of a row: what the table, the call and its text say, together.
 
+ghost use Rattle.std.specs.Prelude.{◌≡◌, option_map};
+ghost use Rattle.trace_wait.specs.Collectives.{round_of_call};
+ghost use Rattle.trace_wait.specs.Ranks.{ops_of};
+ghost use Rattle.call_table.specs.Completed.{IsCompletion, posts};
+ghost use Rattle.call_table.specs.Rows.{row_at};
+
 use crate::completion::Completions;
 use crate::functions::function_name;
 use crate::known::{Called, called_at, count_of};
@@ -11,6 +17,7 @@ use crate::text::RankTexts;
 use mpi_model::{Call, CommRef, Envelope, Layout, NULL_REQUEST, OpName, Outs, Peer, ProbeEnvelope};
 use trace_know::Readable;
 use trace_ops::started_by;
+use trace_wait::RoundName;
 
 /// The fields of a row. What doesn't apply, or isn't told, is `None`.
 #[derive(Clone, Copy, Debug)]
@@ -148,7 +155,9 @@ fn is_matched_probe(call: &Call) -> bool {
 }
 
 /// Whether what a call starts is completed by another call.
-fn posts(call: &Call) -> bool {
+fn posts(call: &Call) -> bool
+    ensures { result ≡ posts call.now }
+{
     matches!(
         call,
         Call::Isend(_, _)
@@ -158,6 +167,16 @@ fn posts(call: &Call) -> bool {
             | Call::Start(_)
             | Call::Startall(_)
     )
+}
+
+/// The number of a round on its object.
+fn number_of(round: Option<RoundName>) -> Option<u64>
+    ensures { result ≡ option_map (λ r. r.k) round }
+{
+    match round {
+        Some(round) => Some(round.k),
+        None => None,
+    }
 }
 
 /// The side on which a row stands: that of its message or its receive.
@@ -189,12 +208,19 @@ impl<'a> RankCalls<'a> {
         called: &Called<'a>,
         place: u32,
         received: &ReceivedBytes,
-    ) -> Fields<'a> {
+    ) -> Fields<'a>
+        ensures name { result.name ≡ (row_at self.now.table.now self.now.rank number called.now.call.now place).name }
+        ensures partner { result.partner ≡ (row_at self.now.table.now self.now.rank number called.now.call.now place).partner }
+        ensures round { result.round ≡ option_map (λ r. r.k) (round_of_call (ops_of self.now.table.now.ops self.now.rank) number) }
+        ensures completed { IsCompletion (posts called.now.call.now) (row_at self.now.table.now self.now.rank number called.now.call.now place).receive result.completed_by }
+    {
         let slot = slot_at(called.call, place);
         let row = self.table.row(self.rank, number, slot);
         let named = named_by(called.call, slot.side);
         let object = self.object_of(number, called.call, &row);
         let (datatype, type_number) = self.type_of(number, slot, &row, named);
+        let entered = self.table.round(self.rank, number);
+        let by = self.completed_by(called.call, &row);
         Fields {
             name: row.name,
             side: side_of(&row),
@@ -210,8 +236,8 @@ impl<'a> RankCalls<'a> {
             bytes: self.bytes_of(&row, received),
             request: request_of(called, slot.part),
             partner: row.partner,
-            round: self.table.round(self.rank, number).map(|round| round.k),
-            completed_by: self.completed_by(called.call, &row),
+            round: number_of(entered),
+            completed_by: by,
             site: self.texts.caller(number),
         }
     }
@@ -316,14 +342,19 @@ impl<'a> RankCalls<'a> {
     }
 
     /// The call that completes what a row posts: of a receive as the answer has it.
-    fn completed_by(&self, call: &Call, row: &Row) -> Option<u64> {
-        if !posts(call) {
-            return None;
+    fn completed_by(&self, call: &Call, row: &Row) -> Option<u64>
+        ensures { IsCompletion (posts call.now) row.now.receive result }
+    {
+        match (posts(call), row.receive) {
+            (false, _) => None,
+            (true, Some(receive)) => receive.ended,
+            (true, None) => self.sent_by(row.name),
         }
-        if let Some(receive) = row.receive {
-            return receive.ended;
-        }
-        let (by, _) = self.completions.of_part(row.name.call, row.name.part)?;
+    }
+
+    /// The call that completes a send or a collective call, by the pass over the rank's calls.
+    fn sent_by(&self, name: OpName) -> Option<u64> {
+        let (by, _) = self.completions.of_part(name.call, name.part)?;
         Some(by)
     }
 }

@@ -1,11 +1,11 @@
 //! Every readable call of a run with its partner: as a table, and as a timeline.
 //!
 //! A [`CallTable`] is what all ranks did, with the pairs and the rounds of the answer to it. It says of each row of a
-//! call which operation is at the other end of its message, and which round it entered: that is proved. The texts of
-//! the rank ([`RankTexts`]) say its function, its caller, its datatype, and how many bytes came. Rows and slices are
-//! written one by one, so memory doesn't grow with the output: the table takes what the ranks did and eight bytes a
-//! pair, the texts of one rank some fifty bytes a call. The contracts of what is written say no more than that it ends;
-//! cases show it.
+//! call which operation is at the other end of its message, and which round it entered; the [`Fields`] of the row say
+//! the same, and by which call its receive is completed: that is proved. The texts of the rank ([`RankTexts`]) say its
+//! function, its caller, its datatype, and how many bytes came. Rows and slices are written one by one, so memory
+//! doesn't grow with the output: the table takes what the ranks did and eight bytes a pair, the texts of one rank some
+//! fifty bytes a call. The contracts of what is written say no more than that it ends; cases show it.
 //!
 //! - [`partners`]: the pairs, asked by either end; [`slot`]: the rows that a call has; [`row`]: a row with its partner;
 //!   [`table`]: all of them, with their rounds; [`laws`]: that each pair stands in two rows
@@ -18,7 +18,8 @@
 //!
 //! To change something, open:
 //!
-//! - which rows a call has, and what their partner is: `specs/Slots.antt`, `specs/Rows.antt`; [`slot`], [`row`]
+//! - which rows a call has, and what their partner is: `specs/Slots.antt`, `specs/Rows.antt`; [`slot`], [`row`]; by
+//!   which call they are completed: `specs/Completed.antt`
 //! - what a field says, and how it is written: [`fields`], [`lines`]
 //! - what a slice shows: [`timeline`]
 //!
