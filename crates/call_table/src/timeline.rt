@@ -123,11 +123,11 @@ fn put_received(out: &mut Vec<u8>, fields: &Fields<'_>) -> Result<(), AllocError
 }
 
 /// Adds what a call says beside its number.
-fn put_arguments(
+fn put_arguments<'a>(
     out: &mut Vec<u8>,
-    calls: &RankCalls<'_>,
+    calls: &RankCalls<'a>,
     number: u64,
-    called: &Called<'_>,
+    called: &Called<'a>,
     received: &ReceivedBytes,
 ) -> Result<(), AllocError> {
     match called.call {
@@ -153,11 +153,11 @@ fn put_arguments(
 
 /// Adds a call as a slice: it is open to the end of the trace where the call didn't return. Fails with `AllocError`
 /// when memory is refused.
-pub fn put_slice(
+pub fn put_slice<'a>(
     out: &mut Vec<u8>,
-    calls: &RankCalls<'_>,
+    calls: &RankCalls<'a>,
     number: u64,
-    called: &Called<'_>,
+    called: &Called<'a>,
     span: Span,
     begin: u64,
     received: &ReceivedBytes,
