@@ -42,7 +42,7 @@ impl<'a> CallTable<'a> {
         partners: Partners<'a>,
     ) -> Result<CallTable<'a>, AllocError>
         requires { AreOwn 0 ops.now }
-        ensures { IfOk result (λ t. t ≡ record { ops = ops.now; pairs = partners }) }
+        ensures { IfOk result (λ t. t ≡ record { ops = ops.now; pairs = partners.entry }) }
     {
         let entries = entries_of(alloc, ops)?;
         Ok(CallTable {
