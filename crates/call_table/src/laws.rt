@@ -3,7 +3,6 @@
 ghost use Rattle.call_table.specs.Rows.{HaveTwoRows};
 
 /// Each pair of what the ranks did stands in two rows, one of either side, and each of them tells the other end.
-#[tactic(auto, using(crate::proofs::TwoRows::two_rows))]
 pub fn pairs_have_two_rows()
     ensures { HaveTwoRows }
 {}
