@@ -56,10 +56,13 @@ def compiled(room):
 
 class Refuser:
     """Runs the program, with one request refused by a compiled library, in the folder of a case; what it notes lies in
-    a room."""
+    a room. It runs on one processor, unless it is to run on all: several threads would make their requests in another
+    order each time."""
 
-    def __init__(self, program, library, room):
+    def __init__(self, program, library, room, on_all=False):
         self.program, self.library, self.room, self.runs = program, library, room, 0
+        processors = sorted(os.sched_getaffinity(0))
+        self.processors = processors if on_all else [processors[os.getpid() % len(processors)]]
         with open(room / "seen", "wb+") as file:
             file.truncate(HEAD.size + 8 * STACK)
             self.seen = mmap.mmap(file.fileno(), 0)
@@ -73,7 +76,10 @@ class Refuser:
         streams += [(os.POSIX_SPAWN_OPEN, n, it, os.O_WRONLY | os.O_CREAT | os.O_TRUNC, 0o644) for n, it in ((1, out), (2, err))]
         told = {"LD_PRELOAD": str(self.library), "REFUSE": f"{kind}:{at}:{how}", "REFUSE_SEEN": str(self.room / "seen"),
                 "REFUSE_SECONDS": str(SECONDS)}
+        processors = os.sched_getaffinity(0)
+        os.sched_setaffinity(0, self.processors)
         process = os.posix_spawn(self.program, ["mpimatch", *case.words], told, file_actions=streams)
+        os.sched_setaffinity(0, processors)
         _, status, used = os.wait4(process, 0)
         base, met, before, refused, moved, path, count = HEAD.unpack_from(self.seen)
         stack = struct.unpack_from(f"{count}Q", self.seen, HEAD.size)

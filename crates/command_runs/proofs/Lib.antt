@@ -19,6 +19,7 @@ pub mod Replaying
 pub mod Runs
 pub mod Segments
 pub mod Sharing
+pub mod SideBySide
 pub mod Stops
 pub mod Told
 pub mod Traces

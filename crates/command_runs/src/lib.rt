@@ -11,9 +11,9 @@
 //! be proved and tested over files in memory; the program opens those of the system.
 //!
 //! The work is linear in the texts, but for the joins of their pieces (`trace_know`) and the answer
-//! (`trace_node`). Memory holds what is known and the events of one piece; that of a replay also all
-//! pieces' segments, a copy of them for each post, and the mails, and that of a cluster the bytes of all
-//! texts, what packed files tell, and a copy of each node.
+//! (`trace_node`). Memory holds what is known and the events of one piece, in a report of texts those of one rank for
+//! each thread; that of a replay also all pieces' segments, a copy of them for each post, and the mails, and that of a
+//! cluster the bytes of all texts, what packed files tell, and a copy of each node.
 //!
 //! ```text
 //! ending_of ─▶ input_at ─────────▶ a layout and a manifest ─▶ run_with ─▶ a verb ─▶ pieces ─▶ texts, packed files
@@ -34,8 +34,8 @@
 //! - how a piece is read ([`pieces::piece`], with notes in [`pieces::noted`]), and in which order pieces are refused:
 //!   `specs/Pieces.antt`, `Traces.antt`, `Refusals.antt`, `Notes.antt`
 //! - what all pieces tell ([`pieces::known`], [`pieces::knowing`]), and the answer to it rank by rank
-//!   ([`pieces::answering`], [`pieces::by_rank`], [`pieces::any_order`]): `specs/Known.antt`, `Nodes.antt`,
-//!   `Ranks.antt`
+//!   ([`pieces::answering`], [`pieces::by_rank`], [`pieces::side_by_side`], [`pieces::any_order`]): `specs/Known.antt`,
+//!   `Nodes.antt`, `Ranks.antt`
 //! - packed files ([`pieces::packed`]), and which node of a cluster has what ([`pieces::shares`],
 //!   [`pieces::node_texts`]): `specs/Packed.antt`, `Shares.antt`, `NodeTexts.antt`
 //! - a fault and its line ([`faults::fault`], of texts [`faults::init_fault`]): `specs/FaultLines.antt`,
@@ -53,7 +53,10 @@
 //!   piece of a strange rank aside, since a node sees no pieces; the piece of a crew's fault is counted once more.
 //! - A cluster runs by a function of its own: it may wait for threads and a socket, and its promises hold if it
 //!   returns. `report` and `replay` promise that they return.
-//! - Files are opened through a shared reference, so no clause has to say that a run leaves its files as they were.
+//! - Files are opened through a shared reference, so no clause has to say that a run leaves its files as they were, and
+//!   each thread opens its own.
+//! - Ranks are read side by side by jobs whose results stand in their order, so nothing is told in the order in which threads
+//!   are done. A job counts what it reads, for the watcher, which is told when its rank's turn comes.
 //! - A check rebuilds its index if there are packed files, since the index follows pieces of one rank.
 //! - The names of a fault of `init` are copied before a file is kept, so want of memory hides none that is left.
 //!

@@ -6,6 +6,7 @@ pub(crate) mod opener;
 pub(crate) mod prepared;
 pub(crate) mod reason;
 pub(crate) mod second_look;
+pub(crate) mod tally;
 pub(crate) mod terminal;
 pub(crate) mod texts;
 pub(crate) mod watch;

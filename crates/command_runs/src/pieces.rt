@@ -13,3 +13,4 @@ pub(crate) mod packed;
 pub(crate) mod piece;
 pub(crate) mod segments;
 pub(crate) mod shares;
+pub(crate) mod side_by_side;

@@ -13,19 +13,24 @@ use command_runs::{
 use mpi_model::{MemoryReader, MemoryWriter, Write};
 use std::alloc::Global;
 use std::process::Abort;
+use std::thread::Threads;
 
-/// The files of a run of one piece, and how many bytes of the piece are read before its reader fails. It
-/// tells their bytes.
+/// The files of a run whose pieces are one file, how many bytes of it are read before its reader fails, and how many
+/// threads read. It tells their bytes.
 #[derive(Drop)]
-struct Shelf {
+struct Shelf<'a, H: Threads + Sync> {
+    handle: &'a H,
+    threads: usize,
     layout: &'static [u8],
     manifest: &'static [u8],
     piece: &'static [u8],
     until_failure: usize,
 }
 
-impl Opener for Shelf {
+impl<'a, H: Threads + Sync> Opener for Shelf<'a, H> {
     type R = MemoryReader<'static>;
+
+    type Handle = H;
 
     ghost file = { λ shelf path.
         if bytes_eq path (codes "layout.json") then Some shelf.layout.now
@@ -58,6 +63,14 @@ impl Opener for Shelf {
         }
         Some(self.piece.len() as u64)
     }
+
+    fn handle(&self) -> &H {
+        self.handle
+    }
+
+    fn threads(&self) -> usize {
+        self.threads
+    }
 }
 
 const LAYOUT: &[u8] = br#"{"ranks":1,"world":2,"sends":"wait","comms":[{"id":2,"members":[0]}]}"#;
@@ -65,6 +78,13 @@ const LAYOUT: &[u8] = br#"{"ranks":1,"world":2,"sends":"wait","comms":[{"id":2,"
 // (the piece goes to the second of two nodes)
 const MANIFEST: &[u8] =
     br#"{"pieces":[{"rank":0,"first":0,"file":"r0.txt"}],"nodes":2,"schedule":[["post",0,1,0],["take",1]]}"#;
+
+const LAYOUT_OF_THREE: &[u8] =
+    br#"{"ranks":3,"world":2,"sends":"wait","comms":[{"id":2,"members":[0,1,2]}]}"#;
+
+// (the ranks fall)
+const MANIFEST_OF_THREE: &[u8] =
+    br#"{"pieces":[{"rank":2,"first":0,"file":"r0.txt"},{"rank":0,"first":0,"file":"r0.txt"},{"rank":1,"first":0,"file":"r0.txt"}]}"#;
 
 const PIECE: &[u8] = b"MPI_Barrier entering at walltime 1.5, cputime 0.25 seconds in thread 0.
 MPI_Comm comm=2
@@ -88,16 +108,21 @@ fn ran<O: Opener, W: Write>(
 }
 
 /// What a run writes, and then its fault line. Its output has room for so many bytes.
-fn told<R: Abort>(
+fn told<R: Abort + Threads + Sync>(
     rt: &R,
     alloc: Global,
     replays: bool,
+    input: (&'static [u8], &'static [u8]),
+    threads: usize,
     until_failure: usize,
     room: usize,
 ) -> String {
+    let (layout, manifest) = input;
     let files = Shelf {
-        layout: LAYOUT,
-        manifest: MANIFEST,
+        handle: rt,
+        threads,
+        layout,
+        manifest,
         piece: PIECE,
         until_failure,
     };
@@ -161,7 +186,44 @@ static RUNS: [(&str, bool, usize, usize, &str); 5] = [
 fn runs_over_files_that_tell_their_bytes(rt: HostRuntime) {
     for row in &RUNS {
         let (name, replays, until_failure, room, want) = *row;
-        let found = told(&rt, rt.alloc(), replays, until_failure, room);
-        assert!(rt; found.as_str() == want, "{name}: {found}");
+        let input = (LAYOUT, MANIFEST);
+        for threads in [1, 3] {
+            let found = told(
+                &rt,
+                rt.alloc(),
+                replays,
+                input,
+                threads,
+                until_failure,
+                room,
+            );
+            assert!(rt;
+                found.as_str() == want,
+                "{name} by {threads} threads: {found}"
+            );
+        }
+    }
+}
+
+/// How many threads read, how many bytes of each piece are read before a failure, and what is told
+static SIDE_BY_SIDE: [(usize, usize, &str); 6] = [
+    (1, ALL, OF_THREE),
+    (2, ALL, OF_THREE),
+    (3, ALL, OF_THREE),
+    (1000, ALL, OF_THREE),
+    (1, 80, "mpimatch: F1 Read at r0.txt:2\n"),
+    (3, 80, "mpimatch: F1 Read at r0.txt:2\n"),
+];
+
+const OF_THREE: &str =
+    "mpimatch report 1\nranks 3 sends wait\nrank 0 prefix 2 free\nrank 1 prefix 2 free\nrank 2 prefix 2 free\nround 2:0 barrier complete\nstuck none\nforeign 0\nend\n";
+
+#[test]
+fn ranks_that_are_read_side_by_side(rt: HostRuntime) {
+    for row in &SIDE_BY_SIDE {
+        let (threads, until_failure, want) = *row;
+        let input = (LAYOUT_OF_THREE, MANIFEST_OF_THREE);
+        let found = told(&rt, rt.alloc(), false, input, threads, until_failure, ALL);
+        assert!(rt; found.as_str() == want, "{threads} threads: {found}");
     }
 }

@@ -7,6 +7,7 @@ use crate::load::reason::Reason;
 use mpi_model::{Device, Read};
 use std::fs::Files;
 use std::io;
+use std::thread::{Threads, available_parallelism};
 
 /// Why a file couldn't be opened.
 #[derive(Clone, Copy, Debug, PartialEq, Eq)]
@@ -20,10 +21,13 @@ pub enum OpenFault {
 /// What opens the files of a run.
 ///
 /// A contract knows the bytes of the files of some openers; of others (a disk, which other programs write to) it
-/// doesn't. A file whose bytes it knows can be opened.
-pub trait Opener: Drop {
+/// doesn't. A file whose bytes it knows can be opened. An opener opens files from any thread.
+pub trait Opener: Drop + Sync {
     /// A file that was opened.
-    type R: Read;
+    type R: Read + Send;
+
+    /// What starts the threads that read files.
+    type Handle: Threads + Sync;
 
     /// The bytes of the file of a name; `None` if no contract can know them.
     ghost file: { Self → List ℕ → Option (List ℕ) } = { λ _ _. None };
@@ -46,6 +50,14 @@ pub trait Opener: Drop {
     fn reason(&self, _path: &str) -> Option<Reason> {
         None
     }
+
+    /// What starts the threads that read files.
+    fn handle(&self) -> &Self::Handle;
+
+    /// How many threads read files side by side, at least 1. Nothing that a run answers hangs on it.
+    fn threads(&self) -> usize {
+        1
+    }
 }
 
 /// The files of the system.
@@ -61,8 +73,13 @@ impl<'a, F: Files> Disk<'a, F> {
     }
 }
 
-impl<'a, F: Files> Opener for Disk<'a, F> {
+impl<'a, F: Files + Threads + Sync> Opener for Disk<'a, F>
+where
+    F::File: Send,
+{
     type R = Device<F::File>;
+
+    type Handle = F;
 
     fn open(&self, path: &str) -> Result<Device<F::File>, OpenFault> {
         match std::fs::open(self.rt, path) {
@@ -91,6 +108,18 @@ impl<'a, F: Files> Opener for Disk<'a, F> {
             },
             Ok(_) => None,
             Err(error) => reason_of(error.kind()),
+        }
+    }
+
+    fn handle(&self) -> &F {
+        self.rt
+    }
+
+    /// As many as there are processors for the program.
+    fn threads(&self) -> usize {
+        match available_parallelism(self.rt) {
+            Ok(count) => count.get(),
+            Err(_) => 1,
         }
     }
 }

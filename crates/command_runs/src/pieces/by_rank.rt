@@ -8,6 +8,7 @@ ghost use Rattle.std.specs.List.Sorted.{IsNonDecreasingBy};
 ghost use Rattle.dumpi_text.specs.Failing.{Fails};
 ghost use Rattle.trace_know.specs.View.{View};
 ghost use Rattle.trace_node.specs.Answer.{IsAnswer};
+ghost use Rattle.trace_node.specs.ByRank.{IsOfRank};
 ghost use Rattle.command_runs.specs.Files.{NamesFailed};
 ghost use Rattle.command_runs.specs.Ranks.{TellNext, TellRanks};
 ghost use Rattle.command_runs.specs.Refusals.{RefusesFirst, RefusesPieces};
@@ -18,10 +19,11 @@ use crate::load::opener::Opener;
 use crate::load::watch::Watcher;
 use crate::pieces::gatherer::Gathered;
 use crate::pieces::knowing::know_of;
+use crate::pieces::side_by_side::told_side_by_side;
 use crate::run::Run;
 use run_files::Piece;
 use std::alloc::Global;
-use trace_know::{join_laws, view_laws};
+use trace_know::{Knowledge, join_laws, view_laws};
 use trace_node::{Answer, RankByRank};
 
 /// Whether the ranks of the pieces never fall: then all pieces of one rank stand together.
@@ -39,7 +41,7 @@ pub(crate) fn are_by_rank(pieces: &[Piece]) -> bool
 }
 
 /// Where the pieces of a rank end that begin at a place, if there are any.
-fn end_of_rank(pieces: &[Piece], start: usize, rank: u32) -> usize
+pub(crate) fn end_of_rank(pieces: &[Piece], start: usize, rank: u32) -> usize
     requires { start ≤ length pieces.now }
     ensures bound { (start ≤ result) × (result ≤ length pieces.now) }
     ensures own { AllWithin (λ p. p.rank ≡ rank) pieces.now start result }
@@ -50,6 +52,28 @@ fn end_of_rank(pieces: &[Piece], start: usize, rank: u32) -> usize
         end += 1;
     }
     end
+}
+
+/// What the pieces of one rank tell together.
+pub(crate) fn known_of_rank<O: Opener, V: Watcher>(
+    run: &Run<'_, O>,
+    rank: u32,
+    pieces: &[Piece],
+    watcher: &mut V,
+    buffer: &mut Vec<u8>,
+) -> Result<Knowledge, RunFault>
+    requires rank { rank < run.now.layout.now.ranks }
+    requires own { All (λ p. p.rank ≡ rank) pieces.now }
+    ensures ok { IfOk result (IsKnown (O.file run.now.files.now) pieces.now) }
+    ensures of { IfOk result (λ know. IsOfRank know rank) }
+    ensures err { IfErr result (λ fault. (fault ≡ RunFault.Memory) ⊎ RefusesFirst (O.file run.now.files.now) pieces.now fault) }
+    ensures failed { IfErr result (NamesFailed (Fails O.R.failures)) }
+{
+    view_laws();
+    let nothing = Gathered::new(run.alloc, run.layout);
+    let gathered = know_of(run, pieces, watcher, buffer, nothing)?;
+    let know = gathered.know.into_knowledge()?;
+    Ok(know)
 }
 
 /// What was told of the ranks before, and what these pieces of the next rank tell.
@@ -67,15 +91,12 @@ fn with_rank<O: Opener, V: Watcher>(
     ensures err { IfErr result (λ fault. (fault ≡ RunFault.Memory) ⊎ RefusesFirst (O.file run.now.files.now) pieces.now fault) }
     ensures failed { IfErr result (NamesFailed (Fails O.R.failures)) }
 {
-    view_laws();
-    let nothing = Gathered::new(run.alloc, run.layout);
-    let gathered = know_of(run, pieces, watcher, buffer, nothing)?;
-    let know = gathered.know.into_knowledge()?;
+    let know = known_of_rank(run, rank, pieces, watcher, buffer)?;
     let more = told.telling(run.alloc, run.layout, rank, &know)?;
     Ok(more)
 }
 
-/// What the pieces of the layout's ranks tell, and where these pieces end.
+/// What the pieces of the layout's ranks tell, read in this thread, and where these pieces end.
 fn told_of<O: Opener, V: Watcher>(
     run: &Run<'_, O>,
     pieces: &[Piece],
@@ -99,6 +120,27 @@ fn told_of<O: Opener, V: Watcher>(
         start = end;
     }
     Ok((told, start))
+}
+
+/// What the pieces of the layout's ranks tell, read by as many threads as the opener has, and where these pieces end.
+fn told_of_all<O: Opener, V: Watcher>(
+    run: &Run<'_, O>,
+    pieces: &[Piece],
+    watcher: &mut V,
+    buffer: &mut Vec<u8>,
+) -> Result<(RankByRank, usize), RunFault>
+    requires { IsNonDecreasingBy (λ p. p.rank) pieces.now }
+    ensures bound { IfOk result (λ told. told.1 ≤ length pieces.now) }
+    ensures ok { IfOk result (λ told. TellRanks (O.file run.now.files.now) run.now.layout.now (take told.1 pieces.now) run.now.layout.now.ranks told.0) }
+    ensures rest { IfOk result (λ told. AllWithin (λ p. run.now.layout.now.ranks ≤ p.rank) pieces.now told.1 (length pieces.now)) }
+    ensures err { IfErr result (λ fault. (fault ≡ RunFault.Memory) ⊎ RefusesFirst (O.file run.now.files.now) pieces.now fault) }
+    ensures failed { IfErr result (NamesFailed (Fails O.R.failures)) }
+{
+    let threads = run.files.threads();
+    if threads > 1 {
+        return told_side_by_side(run, pieces, watcher, threads);
+    }
+    told_of(run, pieces, watcher, buffer)
 }
 
 /// Reads pieces of ranks that the layout doesn't have: they may tell no call.
@@ -136,7 +178,7 @@ pub(crate) fn answer_by_rank<O: Opener, V: Watcher>(
     view_laws();
     join_laws();
     let mut buffer = Vec::new(run.alloc);
-    let (told, end) = told_of(run, pieces, watcher, &mut buffer)?;
+    let (told, end) = told_of_all(run, pieces, watcher, &mut buffer)?;
     read_strangers(run, &pieces[end..], watcher, &mut buffer)?;
     let answer = told.into_answer(run.alloc, run.layout)?;
     Ok(answer)
