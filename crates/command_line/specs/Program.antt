@@ -39,13 +39,25 @@ file_rule id = record (new_rule id) { required = true }
 abbrev pub several_rule : Text → Rule
 several_rule id = record (file_rule id) { action = Some Append }
 
+-- how many threads read texts: a number from 1 to 1024
+abbrev pub threads_parser : ValueParser
+threads_parser = Unsigned 1 1024
+
+-- `--threads`, a number
+abbrev pub threads_rule : Rule
+threads_rule = record (new_rule (codes "threads")) { long = Some (codes "threads"); value_names = 1; parser = Some threads_parser }
+
 -- a verb over a layout and a manifest
 abbrev pub pair_app : Text → App
 pair_app name = with_rule (with_rule (new_app name) (file_rule (codes "LAYOUT"))) (file_rule (codes "MANIFEST"))
 
+-- a verb that reads the pieces of a layout and a manifest
+abbrev pub pieces_app : Text → App
+pieces_app name = with_rule (pair_app name) threads_rule
+
 -- a verb over its files
 abbrev pub files_app : Text → App
-files_app name = with_rule (new_app name) (several_rule (codes "FILE"))
+files_app name = with_rule (with_rule (new_app name) (several_rule (codes "FILE"))) threads_rule
 
 -- the flag for a report as JSON
 abbrev pub json_rule : Rule
@@ -91,6 +103,10 @@ with_report app = with_subcommand app report_app.top
 abbrev pub with_pair : App → Text → App
 with_pair app name = with_subcommand app (pair_app name).top
 
+-- the program with a verb that reads the pieces of a layout and a manifest
+abbrev pub with_pieces : App → Text → App
+with_pieces app name = with_subcommand app (pieces_app name).top
+
 -- the program with a verb over texts or a layout and a manifest
 abbrev pub with_files : App → Text → App
 with_files app name = with_subcommand app (files_app name).top
@@ -117,7 +133,7 @@ force_rule = record (new_rule (codes "force")) { long = Some (codes "force"); ac
 
 -- `init` over texts, with its options
 abbrev pub init_app : App
-init_app = with_rule (with_rule (with_rule (with_rule (with_rule (new_app (codes "init")) (several_rule (codes "TEXT"))) sends_rule) layout_rule) manifest_rule) force_rule
+init_app = with_rule (with_rule (with_rule (with_rule (with_rule (with_rule (new_app (codes "init")) (several_rule (codes "TEXT"))) sends_rule) layout_rule) manifest_rule) force_rule) threads_rule
 
 -- the program with `init`
 abbrev pub with_init : App → App
@@ -133,7 +149,7 @@ answering = with_report (with_files (with_graph (with_explain bare)) (codes "pag
 
 -- all verbs of the program
 abbrev pub program : App
-program = with_init (with_pair (with_files (with_pair (with_pair answering (codes "replay")) (codes "cluster")) (codes "check")) (codes "pack"))
+program = with_init (with_pieces (with_files (with_pair (with_pieces answering (codes "replay")) (codes "cluster")) (codes "check")) (codes "pack"))
 
 -- the verb of a name
 abbrev pub verb_named : Text → Option Verb
@@ -266,6 +282,18 @@ asks_for name rows = if bytes_eq name (codes "init") then init_in rows else if b
 -- what the subcommand that was met asks for
 abbrev pub request_in : Option (Text × List Row) → Option Request
 request_in met = option_and_then (λ m. asks_for m.0 m.1) met
+
+-- the number of threads that a text writes, where it is one
+abbrev pub thread_count : Text → Option ℕ
+thread_count text = if accepts false threads_parser text then Some (digits_value 10 (without_leading_plus text)) else None
+
+-- by how many threads texts are read, where the values of a subcommand say it
+abbrev pub threads_by : List Row → Option ℕ
+threads_by rows = option_and_then thread_count (first_of (codes "threads") rows)
+
+-- the same where a subcommand was met
+abbrev pub threads_in : Option (Text × List Row) → Option ℕ
+threads_in met = option_and_then threads_by (option_map (λ m. m.1) met)
 
 -- Why the words ask for nothing. An error that is shown has one of the kinds that clap gives for
 -- them.

@@ -9,10 +9,10 @@
 //! Its tests are rows of `tests/rows/inputs.txt` and cases of `tests/cases/`, which the built program runs.
 #![tactic(auto)]
 
-ghost use Rattle.std.specs.Prelude.{◌≡◌, [], IfErr, IfOk, OnOk, Some, codes, false, option_and_then, option_map};
+ghost use Rattle.std.specs.Prelude.{◌≡◌, ◌≤◌, [], IfErr, IfOk, IfSome, None, OnOk, Some, codes, false, option_and_then, option_map};
 ghost use Rattle.clap.specs.Words.{app_of, fault_of, found_of, new_app, rows_of, rule_of, subcommand_of, subcommand_rows_of};
 ghost use Rattle.clap.specs.declared.builder.command.Command.TheViews.{out-Command};
-ghost use Rattle.command_line.specs.Program.{Refuses, all_rule, answering, bare, cluster_in, cluster_of, explain_app, extent_in, explain_in, file_rule, files_app, files_in, force_rule, form_in, graph_app, in_form, init_app, init_in, json_rule, layout_rule, wanted_of, wish_in, wish_of, manifest_rule, option_rule, pair_app, pair_in, pair_of, program, rank_rule, report_app, report_in, request_in, request_of, sends_named, sends_rule, several_rule, shown_status_of, text_of, told_in, verb_in, texts_of, verb_named, with_explain as and_explain, with_files as and_files, with_graph as and_graph, with_init as and_init, with_pair as and_pair, with_report as and_report};
+ghost use Rattle.command_line.specs.Program.{Refuses, all_rule, answering, bare, cluster_in, cluster_of, explain_app, extent_in, explain_in, file_rule, files_app, files_in, force_rule, form_in, graph_app, in_form, init_app, init_in, json_rule, layout_rule, wanted_of, wish_in, wish_of, manifest_rule, option_rule, pair_app, pair_in, pair_of, pieces_app, program, rank_rule, report_app, report_in, request_in, request_of, sends_named, sends_rule, several_rule, shown_status_of, text_of, thread_count, threads_by, threads_in, threads_rule, told_in, verb_in, texts_of, verb_named, with_explain as and_explain, with_files as and_files, with_graph as and_graph, with_init as and_init, with_pair as and_pair, with_pieces as and_pieces, with_report as and_report};
 
 use clap::builder::ValueParser;
 use clap::error::ErrorKind;
@@ -111,6 +111,14 @@ pub enum Asked<'a> {
     },
 }
 
+/// What the words ask for, and how.
+#[derive(Debug, Drop)]
+pub struct CommandLine<'a> {
+    pub asked: Asked<'a>,
+    /// By how many threads texts are read, where the words say it.
+    pub threads: Option<u32>,
+}
+
 /// Why the words ask for nothing that can be run.
 #[derive(Debug, Drop, Error)]
 pub enum CommandFault {
@@ -154,8 +162,9 @@ fn shown_status(kind: ErrorKind) -> u8
 
 /// What the words ask for; the first word is the name of the program. [`CommandFault`] comes for a mistake, for the
 /// help and the version, whose text it has, and when memory is refused.
-pub fn command_of<'a>(alloc: Global, words: &'a [&'a str]) -> Result<Asked<'a>, CommandFault>
-    ensures asked { IfOk result (λ a. request_in (subcommand_of program (texts_of words.entry.now)) ≡ Some (request_of a)) }
+pub fn command_of<'a>(alloc: Global, words: &'a [&'a str]) -> Result<CommandLine<'a>, CommandFault>
+    ensures asked { IfOk result (λ line. request_in (subcommand_of program (texts_of words.entry.now)) ≡ Some (request_of line.asked)) }
+    ensures threads { IfOk result (λ line. line.threads ≡ threads_in (subcommand_of program (texts_of words.entry.now))) }
     ensures taken { OnOk result (fault_of program (texts_of words.entry.now) ≡ []) }
     ensures refused { IfErr result (Refuses (texts_of words.entry.now)) }
 {
@@ -169,7 +178,10 @@ pub fn command_of<'a>(alloc: Global, words: &'a [&'a str]) -> Result<Asked<'a>, 
         Err(error) => return Err(CommandFault::Shown(error)),
     };
     match asked_in(alloc, &matches) {
-        Ok(Some(asked)) => Ok(asked),
+        Ok(Some(asked)) => {
+            let threads = threads_of(&matches);
+            Ok(CommandLine { asked, threads })
+        }
         Ok(None) => Err(CommandFault::Unread),
         Err(_) => Err(CommandFault::Memory),
     }
@@ -348,7 +360,7 @@ fn program_command<'a>(alloc: Global) -> Result<Command<'a>, AllocError>
     ensures { IfOk result (λ c. app_of c ≡ program) }
 {
     let command = answering_command(alloc)?;
-    let command = with_pair(
+    let command = with_pieces(
         command,
         alloc,
         "replay",
@@ -369,7 +381,7 @@ fn program_command<'a>(alloc: Global) -> Result<Command<'a>, AllocError>
         "Makes pairs and stuck ranks once more straight from the rules, and prints whether they agree",
         CHECK_HELP,
     )?;
-    let command = with_pair(
+    let command = with_pieces(
         command,
         alloc,
         "pack",
@@ -417,6 +429,20 @@ fn with_pair<'a>(
     ensures { IfOk result (λ c. app_of c ≡ and_pair (app_of command.entry) name.now) }
 {
     let verb = pair_command(alloc, name, about, more)?;
+    command.subcommand(verb)
+}
+
+/// Adds a verb that reads the pieces of a layout and a manifest.
+fn with_pieces<'a>(
+    command: Command<'a>,
+    alloc: Global,
+    name: &'a str,
+    about: &'a str,
+    more: &'a str,
+) -> Result<Command<'a>, AllocError>
+    ensures { IfOk result (λ c. app_of c ≡ and_pieces (app_of command.entry) name.now) }
+{
+    let verb = pieces_command(alloc, name, about, more)?;
     command.subcommand(verb)
 }
 
@@ -553,7 +579,8 @@ fn init_command<'a>(alloc: Global) -> Result<Command<'a>, AllocError>
     let sends = texts.arg(sends_argument(alloc))?;
     let layout = sends.arg(layout_argument(alloc))?;
     let manifest = layout.arg(manifest_argument(alloc))?;
-    manifest.arg(force_argument(alloc))
+    let force = manifest.arg(force_argument(alloc))?;
+    force.arg(threads_argument(alloc))
 }
 
 /// `init`, without its texts and options.
@@ -622,6 +649,34 @@ fn force_argument<'a>(alloc: Global) -> Arg<'a>
         .action(ArgAction::SetTrue)
 }
 
+/// `--threads`, a number.
+fn threads_argument<'a>(alloc: Global) -> Arg<'a>
+    ensures rule { rule_of result ≡ threads_rule }
+    ensures local { result.global ≡ false }
+{
+    Arg::new(alloc, "threads")
+        .long("threads")
+        .value_name("N")
+        .help(
+            "Reads texts by so many threads, 1 to 1024, and else by as many as there are processors",
+        )
+        .value_parser(ValueParser::unsigned(1, 1024))
+}
+
+/// A verb that reads the pieces of a layout and a manifest.
+fn pieces_command<'a>(
+    alloc: Global,
+    name: &'a str,
+    about: &'a str,
+    more: &'a str,
+) -> Result<Command<'a>, AllocError>
+    ensures shape { IfOk result (λ c. app_of c ≡ pieces_app name.now) }
+    ensures local { IfOk result (λ c. (out-Command c).has_globals ≡ false) }
+{
+    let pair = pair_command(alloc, name, about, more)?;
+    pair.arg(threads_argument(alloc))
+}
+
 /// A verb over a layout and a manifest.
 fn pair_command<'a>(
     alloc: Global,
@@ -664,10 +719,9 @@ fn files_command<'a>(
         "FILE",
         "A layout and a manifest (JSON), or the texts of all ranks, rank 0 first",
     );
-    Command::new(alloc, name)
-        .about(about)
-        .after_help(more)
-        .arg(files)
+    let bare = Command::new(alloc, name).about(about).after_help(more);
+    let named = bare.arg(files)?;
+    named.arg(threads_argument(alloc))
 }
 
 /// A file that has to be named.
@@ -934,5 +988,55 @@ fn verb_in<'a>(
     match form_in(name, inner) {
         Some(verb) => files_in(alloc, verb, inner),
         None => Ok(None),
+    }
+}
+
+/// By how many threads texts are read, where the words say it.
+fn threads_of(matches: &ArgMatches<'_>) -> Option<u32>
+    ensures { result ≡ threads_in (subcommand_rows_of matches.now) }
+{
+    match matches.subcommand() {
+        Some((_, inner)) => threads_by(inner),
+        None => None,
+    }
+}
+
+/// The same by the words of a verb.
+fn threads_by(inner: &ArgMatches<'_>) -> Option<u32>
+    ensures { result ≡ threads_by (rows_of (found_of inner.now)) }
+{
+    let word = inner.get_str("threads");
+    named_threads(word)
+}
+
+/// The number of threads, where a word says it.
+fn named_threads(word: Option<&str>) -> Option<u32>
+    ensures { result ≡ option_and_then thread_count (text_of word.entry) }
+{
+    match word {
+        Some(word) => thread_count(word),
+        None => None,
+    }
+}
+
+/// The number of threads that a word says; none where it is no number from 1 to 1024, which `clap` has seen to.
+fn thread_count(word: &str) -> Option<u32>
+    ensures { result ≡ thread_count word.now }
+{
+    match word.parse::<u32>() {
+        Ok(count) => in_range(count),
+        Err(_) => None,
+    }
+}
+
+/// The number, where it is one from 1 to 1024.
+fn in_range(count: u32) -> Option<u32>
+    ensures some { IfSome result (λ n. (n ≡ count) × (1 ≤ count) × (count ≤ 1024)) }
+    ensures none { result ≡ None → (1 ≤ count) × (count ≤ 1024) → ⊥ }
+{
+    if 1 <= count && count <= 1024 {
+        Some(count)
+    } else {
+        None
     }
 }
