@@ -1,5 +1,6 @@
 pub mod AllTold
 pub mod AnyOrder
+pub mod ByNumber
 pub mod ByPlace
 pub mod ByRank
 pub mod Ended
@@ -14,6 +15,7 @@ pub mod Ordered
 pub mod OwnPieces
 pub mod PackedShares
 pub mod Packing
+pub mod ReadAhead
 pub mod Reading
 pub mod Replaying
 pub mod Runs

@@ -9,6 +9,7 @@ pub mod InitAdvice
 pub mod InitFaults
 pub mod Inits
 pub mod Inputs
+pub mod Jobs
 pub mod Known
 pub mod Looks
 pub mod NodeTexts
@@ -20,6 +21,7 @@ pub mod Pages
 pub mod Pieces
 pub mod Prepared
 pub mod Ranks
+pub mod Reads
 pub mod Refusals
 pub mod Replays
 pub mod Said

@@ -66,6 +66,7 @@
 
 mod ending;
 mod faults;
+mod jobs;
 mod load;
 mod pieces;
 mod run;
@@ -74,7 +75,7 @@ mod verbs;
 pub use ending::{Ending, ending_of, ending_without_words};
 pub use faults::fault::{RunFault, fault_line};
 pub use load::input::input_at;
-pub use load::opener::{Disk, OpenFault, Opener};
+pub use load::opener::{Disk, OpenFault, Opener, ThreadCount};
 pub use load::reason::Reason;
 pub use load::terminal::Terminal;
 pub use load::watch::{Unwatched, Watcher};

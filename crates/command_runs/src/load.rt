@@ -1,5 +1,6 @@
 //! Where the input of a run comes from: files, and texts of all ranks.
 
+pub(crate) mod crewed;
 pub(crate) mod first_look;
 pub(crate) mod input;
 pub(crate) mod opener;

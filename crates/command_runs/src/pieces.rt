@@ -11,6 +11,7 @@ pub(crate) mod node_texts;
 pub(crate) mod noted;
 pub(crate) mod packed;
 pub(crate) mod piece;
+pub(crate) mod reads;
 pub(crate) mod segments;
 pub(crate) mod shares;
 pub(crate) mod side_by_side;

@@ -18,6 +18,15 @@ pub enum OpenFault {
     Memory,
 }
 
+/// How many threads read files side by side.
+#[derive(Clone, Copy, Debug, PartialEq, Eq)]
+pub enum ThreadCount {
+    /// As many, if so many pay: fewer where there is little to read.
+    UpTo(usize),
+    /// As many, if there are so many files.
+    Exactly(usize),
+}
+
 /// What opens the files of a run.
 ///
 /// A contract knows the bytes of the files of some openers; of others (a disk, which other programs write to) it
@@ -54,9 +63,9 @@ pub trait Opener: Drop + Sync {
     /// What starts the threads that read files.
     fn handle(&self) -> &Self::Handle;
 
-    /// How many threads read files side by side, at least 1. Nothing that a run answers hangs on it.
-    fn threads(&self) -> usize {
-        1
+    /// How many threads read files side by side. No output of a run depends on it.
+    fn threads(&self) -> ThreadCount {
+        ThreadCount::UpTo(1)
     }
 }
 
@@ -116,10 +125,10 @@ where
     }
 
     /// As many as there are processors for the program.
-    fn threads(&self) -> usize {
+    fn threads(&self) -> ThreadCount {
         match available_parallelism(self.rt) {
-            Ok(count) => count.get(),
-            Err(_) => 1,
+            Ok(count) => ThreadCount::UpTo(count.get()),
+            Err(_) => ThreadCount::UpTo(1),
         }
     }
 }

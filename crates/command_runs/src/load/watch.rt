@@ -4,18 +4,22 @@ use crate::load::opener::Opener;
 use dumpi_calls::Walked;
 use run_files::Piece;
 
-/// Observes how far the reading of a run's pieces has come. No output of a run depends on it.
-pub trait Watcher: Drop {
+/// Observes how far the reading of a run's pieces has come. No output of a run depends on it. Several threads may tell
+/// what they read.
+pub trait Watcher: Drop + Sync {
     /// Whether anything is shown to anyone. If not, the files' lengths are not added up before they are read.
     fn is_watching(&self) -> bool;
 
     /// From here on this many pieces are read, with this many bytes in all; `None` if a file doesn't have a length.
     fn begin(&mut self, pieces: usize, bytes: Option<u64>);
 
-    /// This many more bytes were read.
-    fn has_taken(&mut self, bytes: usize);
+    /// This many more bytes were read, by any thread.
+    fn has_taken(&self, bytes: usize);
 
-    /// The text of one more piece was read to its end.
+    /// The text of one more piece was read to its end, by any thread.
+    fn has_ended(&self);
+
+    /// How the text of a piece was walked to its end: told in the order of the pieces.
     fn has_read(&mut self, path: &str, walked: &Walked);
 
     /// From here on this many messages and receives are paired by the rules.
@@ -33,7 +37,9 @@ impl Watcher for Unwatched {
 
     fn begin(&mut self, _pieces: usize, _bytes: Option<u64>) {}
 
-    fn has_taken(&mut self, _bytes: usize) {}
+    fn has_taken(&self, _bytes: usize) {}
+
+    fn has_ended(&self) {}
 
     fn has_read(&mut self, _path: &str, _walked: &Walked) {}
 

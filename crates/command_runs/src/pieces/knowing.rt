@@ -6,6 +6,7 @@ ghost use Rattle.std.specs.List.{All};
 ghost use Rattle.dumpi_text.specs.Failing.{Fails};
 ghost use Rattle.command_runs.specs.Files.{NamesFailed};
 ghost use Rattle.command_runs.specs.Pieces.{facts_of_piece};
+ghost use Rattle.command_runs.specs.Reads.{ArePiecesGiven};
 ghost use Rattle.command_runs.specs.Refusals.{RefusesPieces};
 ghost use Rattle.command_runs.specs.Traces.{IsInside, IsKnown, KeepsFirst};
 ghost use Rattle.trace_know.specs.Trace.{view_of};
@@ -13,18 +14,55 @@ ghost use Rattle.trace_know.specs.View.{join};
 ghost use Rattle.trace_node.specs.Node.{IsWithin};
 
 use crate::faults::fault::RunFault;
+use crate::jobs::next_given;
 use crate::load::opener::Opener;
-use crate::load::watch::Watcher;
+use crate::load::watch::{Watcher, announce};
 use crate::pieces::gatherer::Gatherer;
-use crate::pieces::piece::ready_piece_of;
+use crate::pieces::reads::{PieceRead, pieces_given, whole_of};
 use crate::run::Run;
 use mpi_model::Layout;
 use run_files::Piece;
 use std::alloc::{AllocError, Global};
 use trace_know::{ReadyPiece, join_laws, view_laws};
 
-/// What the pieces of a run of this layout say together, collected by `gatherer`. All of them are read before a piece
-/// is refused for its rank. The buffer is one for all texts.
+/// What the pieces of a run of this layout say together, collected by `gatherer`: those that threads have read are
+/// given. All of them are read before a piece is refused for its rank. The buffer is one for all texts that aren't.
+fn know_given<G: Gatherer, O: Opener, V: Watcher>(
+    run: &Run<'_, O>,
+    pieces: &[Piece],
+    watcher: &mut V,
+    buffer: &mut Vec<u8>,
+    gatherer: G,
+    given: Vec<Option<PieceRead>>,
+) -> Result<G, RunFault>
+    requires known { G.known gatherer ≡ empty }
+    requires given { ArePiecesGiven (O.file run.now.files.now) (Fails O.R.failures) pieces.now given.items }
+    ensures ok { IfOk result (λ g. IsKnown (O.file run.now.files.now) pieces.now (G.known g)) }
+    ensures inside { IfOk result (λ g. All (IsInside (O.file run.now.files.now) run.now.layout.now.ranks) pieces.now) }
+    ensures within { IfOk result (λ g. IsWithin run.now.layout.now (G.known g)) }
+    ensures layout { IfOk result (λ g. G.layout g ≡ G.layout gatherer) }
+    ensures err { IfErr result (RefusesPieces (O.file run.now.files.now) run.now.layout.now.ranks pieces.now) }
+    ensures failed { IfErr result (NamesFailed (Fails O.R.failures)) }
+{
+    join_laws();
+    view_laws();
+    let mut know = gatherer;
+    let mut stranger = None;
+    let mut given = given.into_iter();
+    for piece in pieces {
+        let read = next_given(&mut given);
+        let whole = whole_of(run.alloc, piece, read, run.files, watcher, buffer)?;
+        stranger = with_stranger(run.alloc, stranger, run.layout, piece, &whole)?;
+        know = take_whole(know, whole)?;
+    }
+    match stranger {
+        Some(path) => Err(RunFault::Rank { path }),
+        None => Ok(know),
+    }
+}
+
+/// What pieces of a run of this layout say together, collected by `gatherer`, and read by this thread alone. The buffer
+/// is one for all texts.
 pub(crate) fn know_of<G: Gatherer, O: Opener, V: Watcher>(
     run: &Run<'_, O>,
     pieces: &[Piece],
@@ -40,19 +78,29 @@ pub(crate) fn know_of<G: Gatherer, O: Opener, V: Watcher>(
     ensures err { IfErr result (RefusesPieces (O.file run.now.files.now) run.now.layout.now.ranks pieces.now) }
     ensures failed { IfErr result (NamesFailed (Fails O.R.failures)) }
 {
-    join_laws();
-    view_laws();
-    let mut know = gatherer;
-    let mut stranger = None;
-    for piece in pieces {
-        let whole = ready_piece_of(run.alloc, piece, run.files, watcher, buffer)?;
-        stranger = with_stranger(run.alloc, stranger, run.layout, piece, &whole)?;
-        know = take_whole(know, whole)?;
-    }
-    match stranger {
-        Some(path) => Err(RunFault::Rank { path }),
-        None => Ok(know),
-    }
+    let none = Vec::new(run.alloc);
+    know_given(run, pieces, watcher, buffer, gatherer, none)
+}
+
+/// The same of all pieces of a run, which several threads read.
+pub(crate) fn know_of_all<G: Gatherer, O: Opener, V: Watcher>(
+    run: &Run<'_, O>,
+    pieces: &[Piece],
+    watcher: &mut V,
+    gatherer: G,
+) -> Result<G, RunFault>
+    requires { G.known gatherer ≡ empty }
+    ensures ok { IfOk result (λ g. IsKnown (O.file run.now.files.now) pieces.now (G.known g)) }
+    ensures inside { IfOk result (λ g. All (IsInside (O.file run.now.files.now) run.now.layout.now.ranks) pieces.now) }
+    ensures within { IfOk result (λ g. IsWithin run.now.layout.now (G.known g)) }
+    ensures layout { IfOk result (λ g. G.layout g ≡ G.layout gatherer) }
+    ensures err { IfErr result (RefusesPieces (O.file run.now.files.now) run.now.layout.now.ranks pieces.now) }
+    ensures failed { IfErr result (NamesFailed (Fails O.R.failures)) }
+{
+    announce(pieces, run.files, watcher);
+    let given = pieces_given(run.alloc, pieces, run.files, &*watcher)?;
+    let mut buffer = Vec::new(run.alloc);
+    know_given(run, pieces, watcher, &mut buffer, gatherer, given)
 }
 
 /// The file of the first piece that has calls of a rank outside the layout.

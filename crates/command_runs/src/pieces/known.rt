@@ -9,9 +9,9 @@ ghost use Rattle.command_runs.specs.Refusals.{RefusesNamed};
 
 use crate::faults::fault::RunFault;
 use crate::load::opener::Opener;
-use crate::load::watch::{Watcher, announce};
+use crate::load::watch::Watcher;
 use crate::pieces::gatherer::Gathered;
-use crate::pieces::knowing::know_of;
+use crate::pieces::knowing::know_of_all;
 use crate::pieces::packed::{joined, packed_of};
 use crate::run::Run;
 use std::alloc::Global;
@@ -30,10 +30,8 @@ pub(crate) fn known_of<O: Opener, V: Watcher>(
 {
     let packed = packed_of(run, run.manifest.packed())?;
     let pieces = run.manifest.pieces();
-    announce(pieces, run.files, watcher);
-    let mut buffer = Vec::new(run.alloc);
     let nothing = Gathered::new(run.alloc, run.layout);
-    let gathered = know_of(run, pieces, watcher, &mut buffer, nothing)?;
+    let gathered = know_of_all(run, pieces, watcher, nothing)?;
     let texts = gathered.know.into_knowledge()?;
     let all = joined(run.layout, packed, texts)?;
     Ok(all)

@@ -74,11 +74,12 @@ fn noted_piece<O: Opener, V: Watcher>(
     let path = piece.file();
     let reader = opened(alloc, path, files)?;
     let mut noting = Noting::new(alloc);
-    let watched = Watched::new(reader, watcher);
+    let watched = Watched::new(reader, &*watcher);
     let walked = match walk_with_buffer(alloc, watched, &mut noting, buffer) {
         Ok(walked) => walked,
         Err(fault) => return Err(fault_of_walk(alloc, path, fault)?),
     };
+    watcher.has_ended();
     watcher.has_read(path, &walked);
     let (collect, unread) = noting.into_parts();
     let whole = match collect.into_piece(piece.rank(), piece.first()) {

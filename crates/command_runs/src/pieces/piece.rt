@@ -38,11 +38,12 @@ fn events_of<O: Opener, V: Watcher>(
     let path = piece.file();
     let reader = opened(alloc, path, files)?;
     let mut collect = Collect::for_text(alloc, files.length(path).unwrap_or(0));
-    let watched = Watched::new(reader, watcher);
+    let watched = Watched::new(reader, &*watcher);
     let walked = match walk_with_buffer(alloc, watched, &mut collect, buffer) {
         Ok(walked) => walked,
         Err(fault) => return Err(fault_of_walk(alloc, path, fault)?),
     };
+    watcher.has_ended();
     watcher.has_read(path, &walked);
     Ok(collect)
 }

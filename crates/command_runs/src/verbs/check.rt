@@ -10,8 +10,8 @@ ghost use Rattle.command_runs.specs.Verbs.{Ran};
 
 use crate::faults::fault::RunFault;
 use crate::load::opener::Opener;
-use crate::load::watch::{Watcher, announce};
-use crate::pieces::knowing::know_of;
+use crate::load::watch::Watcher;
+use crate::pieces::knowing::know_of_all;
 use crate::pieces::packed::packed_of;
 use crate::run::{Outcome, Run};
 use crate::verbs::writing::write_text;
@@ -62,9 +62,7 @@ fn checker_of<'a, O: Opener, V: Watcher>(
     let packed = packed_of(run, listed)?;
     let nothing = Checker::new(run.alloc, run.layout)?;
     let pieces = run.manifest.pieces();
-    announce(pieces, run.files, watcher);
-    let mut buffer = Vec::new(run.alloc);
-    let checker = know_of(run, pieces, watcher, &mut buffer, nothing)?;
+    let checker = know_of_all(run, pieces, watcher, nothing)?;
     if listed.is_empty() {
         return Ok(checker);
     }

@@ -1,8 +1,12 @@
 use Rattle.std.proofs.Common.{◌≡◌, is_none, take, true}
+use Rattle.std.specs.Vec.Iter.{into_iter_items}
+use Rattle.dumpi_text.specs.Failing.{Fails}
+use Rattle.command_runs.specs.Jobs.{AreGiven}
+use Rattle.command_runs.specs.Reads.{IsPieceGiven}
 use Rattle.command_runs.specs.Traces.{IsKnown}
 use Rattle.trace_node.specs.Node.{IsWithin}
 use Rattle.command_runs.proofs.Traces.{IsOutside}
-use Rattle.command_runs.proofs.pieces.knowing.know_of.Given as goal
+use Rattle.command_runs.proofs.pieces.knowing.know_given.Given as goal
 
 abbrev pub invariant-loop-piece : goal.invariant-loop-piece
 invariant-loop-piece g l = record {
@@ -10,4 +14,5 @@ invariant-loop-piece g l = record {
   within : is_none l.stranger ≡ true → IsWithin l.run.layout.now (g.G.Gatherer.known l.know);
   layout : g.G.Gatherer.layout l.know ≡ g.G.Gatherer.layout l.initial.know;
   outside : IsOutside (g.O.Opener.file l.run.files.now) l.run.layout.now.ranks (take l.piece-index l.pieces) l.stranger;
+  given : AreGiven (IsPieceGiven (g.O.Opener.file l.run.files.now) (Fails g.O.R.Read.failures) l.pieces) l.piece-index (into_iter_items l.given);
 }

@@ -1,0 +1,56 @@
+//! Files that are read by as many threads as the words say.
+
+ghost use Rattle.std.specs.Prelude.{◌≡◌, IfOk, IfSome, None};
+ghost use Rattle.command_runs.specs.Files.{IsLength, StandsAtFirst};
+
+use crate::load::opener::{OpenFault, Opener, ThreadCount};
+use crate::load::reason::Reason;
+
+/// The files of an opener, which are read by so many threads; where none are said, by as many as the opener says.
+#[derive(Drop)]
+pub(crate) struct Crewed<'f, O: Opener> {
+    files: &'f O,
+    threads: Option<u32>,
+}
+
+impl<'f, O: Opener> Crewed<'f, O> {
+    ghost use Rattle.std.specs.Prelude.{◌≡◌};
+
+    /// These files, read by so many threads.
+    pub(crate) fn new(files: &'f O, threads: Option<u32>) -> Self
+        ensures { result.files.now ≡ files.now }
+    {
+        Crewed { files, threads }
+    }
+}
+
+impl<'f, O: Opener> Opener for Crewed<'f, O> {
+    type R = O::R;
+
+    type Handle = O::Handle;
+
+    ghost file = { λ crewed. O.file crewed.files.now };
+
+    fn open(&self, path: &str) -> Result<O::R, OpenFault> {
+        self.files.open(path)
+    }
+
+    fn length(&self, path: &str) -> Option<u64> {
+        self.files.length(path)
+    }
+
+    fn reason(&self, path: &str) -> Option<Reason> {
+        self.files.reason(path)
+    }
+
+    fn handle(&self) -> &O::Handle {
+        self.files.handle()
+    }
+
+    fn threads(&self) -> ThreadCount {
+        match self.threads {
+            Some(threads) => ThreadCount::Exactly(threads as usize),
+            None => self.files.threads(),
+        }
+    }
+}
