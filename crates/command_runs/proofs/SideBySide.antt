@@ -1,19 +1,14 @@
 -- Ranks that are read side by side.
-use Rattle.std.proofs.Common.{◌≡◌, ◌⊎◌, ⊎_elim, inl, inr, ℕ, zero, suc, ◌+◌, ◌<◌, ◌≤◌, List, [], ◌∷◌, Option, length, take, drop, get_or, refl, sym, subst, arith}
+use Rattle.std.proofs.Common.{◌≡◌, ◌⊎◌, ⊎_elim, inl, inr, ℕ, ◌+◌, ◌<◌, ◌≤◌, List, [], ◌∷◌, Option, None, Some, IfSome, length, take, subst, sym, arith}
 use Rattle.std.specs.Prelude.{slice_range}
 use Rattle.std.specs.List.{All, AllWithin, HoldsAt}
 use Rattle.std.specs.List.Sorted.{IsNonDecreasingBy}
 use Rattle.std.proofs.lemmas.Bool.{cases_order}
 use Rattle.std.proofs.lemmas.List.{get_or-take, length-take-le}
 use Rattle.mpi_model.specs.Layouts.{Parts}
-use Rattle.trace_node.specs.declared.by_rank.RankByRank.{RankByRank}
 use Rattle.run_files.specs.Manifests.{PieceParts}
-use Rattle.command_runs.specs.Ranks.{AreRead, IsRead, IsShare, TellNext, TellRanks}
-use Rattle.command_runs.specs.Refusals.{RefusesFirst}
-use Rattle.command_runs.specs.declared.faults.fault.RunFault.{RunFault}
+use Rattle.command_runs.specs.Ranks.{IsRankGiven, IsRankRead, IsShare}
 use Rattle.command_runs.specs.declared.pieces.side_by_side.RankRead.{RankRead}
-use Rattle.command_runs.proofs.ByRank.{first_later, tell_next, three_parts}
-use Rattle.command_runs.proofs.Traces.{Unites}
 
 abbrev Files : Type 0
 Files = List ℕ → Option (List ℕ)
@@ -26,72 +21,61 @@ risen pieces rank start rises first k d low lt =
     let up = rises start k d low lt in
     omega (arith, at, up)
 
--- what is below a rank is below a higher one
-pub lower_yet : (pieces : List PieceParts) (rank more from : ℕ) → AllWithin (λ p. p.rank < rank) pieces 0 from → AllWithin (λ p. p.rank < rank + more) pieces 0 from
-lower_yet pieces rank more from h k d low lt = let at = h k d low lt in omega (arith, at)
-
 -- the first pieces, one by one
 pub front_within : (pieces : List PieceParts) (rank start : ℕ) → start ≤ length pieces → All (λ p. p.rank < rank) (take start pieces) → AllWithin (λ p. p.rank < rank) pieces 0 start
 front_within pieces rank start le all k d low lt =
     let long : length (take start pieces) ≡ start = length-take-le start pieces le in
     subst (λ (p : PieceParts). p.rank < rank) (get_or-take start pieces k d lt) (all k d (omega (arith, long, lt)))
 
--- each of the readings, in their order
-pub all_read : (file : Files) (fails : Type 0) (pieces : List PieceParts) (rank : ℕ) (reads : List RankRead)
-    → ((i : ℕ) (d : RankRead) → i < length reads → IsRead file fails pieces (rank + i) (get_or reads i d)) → AreRead file fails pieces rank reads
-all_read file fails pieces rank [] each = tt
-all_read file fails pieces rank (read ∷ reads) each =
-    let here : rank + 0 ≡ rank = omega arith in (
-      subst (λ (n : ℕ). IsRead file fails pieces n read) here (each 0 read (omega arith)),
-      all_read file fails pieces (rank + 1) reads (λ i d lt.
-          let on : rank + suc i ≡ rank + 1 + i = omega arith in
-          subst (λ (n : ℕ). IsRead file fails pieces n (get_or reads i d)) on (each (suc i) d (omega (arith, lt)))),
-    )
+-- ---- the pieces of a rank stand in one place
 
--- the pieces of a rank begin where those of lower ranks end
-pub begins_there : (pieces : List PieceParts) (rank start end there : ℕ) → IsShare pieces rank start end → there ≤ length pieces
-    → All (λ p. p.rank < rank) (take there pieces) → AllWithin (λ p. rank ≤ p.rank) pieces there (length pieces) → start ≡ there
-begins_there [] rank start end there share bound below rest =
-    let order = share.order in let high = share.bound in omega (arith, order, high, bound)
-begins_there (one ∷ more) rank start end there share bound below rest = by (cases_order start there)
+no_earlier : (pieces : List PieceParts) (rank start end other last : ℕ) (d : PieceParts) → IsShare pieces rank start end → IsShare pieces rank other last → start < other → ⊥
+no_earlier pieces rank start end other last d a b lt =
+    let low = b.lower start d (omega arith) lt in
+    let order = b.order in let bound = b.bound in
+    ⊎_elim (λ (e : start ≡ end). let up = a.higher start d (omega (arith, e)) (omega (arith, lt, order, bound)) in omega (arith, low, up))
+    (⊎_elim (λ (l : start < end). let is = a.own start d (omega arith) l in omega (arith, low, is)) (λ (g : end < start). let own = a.order in omega (arith, g, own)))
+    (cases_order start end)
+
+no_shorter : (pieces : List PieceParts) (rank start end other last : ℕ) (d : PieceParts) → IsShare pieces rank start end → IsShare pieces rank other last → start ≡ other → end < last → ⊥
+no_shorter pieces rank start end other last d a b same lt =
+    let order = a.order in let bound = b.bound in
+    let is = b.own end d (omega (arith, same, order)) lt in
+    let up = a.higher end d (omega arith) (omega (arith, lt, bound)) in
+    omega (arith, is, up)
+
+one_start : (pieces : List PieceParts) (rank start end other last : ℕ) → IsShare pieces rank start end → IsShare pieces rank other last → start ≡ other
+one_start [] rank start end other last a b =
+    let p = a.order in let q = a.bound in let r = b.order in let s = b.bound in omega (arith, p, q, r, s)
+one_start (one ∷ more) rank start end other last a b = by (cases_order start other)
   where
-    pieces : List PieceParts
-    pieces = one ∷ more
-
-    before : start < there → ⊥
-    before lt =
-        let at = front_within pieces rank there bound below start one (omega arith) lt in
-        ⊎_elim (λ (e : start ≡ end). let up = share.higher start one (omega (arith, e)) (omega (arith, lt, bound)) in omega (arith, at, up))
-        (⊎_elim (λ (l : start < end). let is = share.own start one (omega arith) l in omega (arith, at, is)) (λ (g : end < start). let order = share.order in omega (arith, g, order)))
-        (cases_order start end)
-
-    behind : there < start → ⊥
-    behind lt =
-        let order = share.order in let high = share.bound in
-        let low = share.lower there one (omega arith) lt in
-        let up = rest there one (omega arith) (omega (arith, lt, order, high)) in
-        omega (arith, low, up)
-
-    by : (start ≡ there) ⊎ ((start < there) ⊎ (there < start)) → start ≡ there
+    by : (start ≡ other) ⊎ ((start < other) ⊎ (other < start)) → start ≡ other
     by (inl e) = e
-    by (inr (inl l)) = absurd (before l)
-    by (inr (inr g)) = absurd (behind g)
+    by (inr (inl l)) = absurd (no_earlier (one ∷ more) rank start end other last one a b l)
+    by (inr (inr g)) = absurd (no_earlier (one ∷ more) rank other last start end one b a g)
 
--- the ranks before and the next that was read
-pub read_next : Unites → (file : Files) (fails : Type 0) (l : Parts) (pieces : List PieceParts) (start rank : ℕ) (told more : RankByRank) (read : RankRead) → start ≤ length pieces
-    → TellRanks file l (take start pieces) rank told → AllWithin (λ p. rank ≤ p.rank) pieces start (length pieces) → IsRead file fails pieces rank read
-    → TellNext file l (slice_range pieces read.start read.end) rank told more → TellRanks file l (take read.end pieces) (rank + 1) more
-read_next unites file fails l pieces start rank told more read bound was rest is next =
-    let same = begins_there pieces rank read.start read.end start is.share bound was.below rest in
-    let before : TellRanks file l (take read.start pieces) rank told = subst (λ (n : ℕ). TellRanks file l (take n pieces) rank told) (sym same) was in
-    tell_next unites file l pieces read.start read.end rank told more next.0 is.share.order is.share.bound before is.share.own next.1 next.2
+one_end : (pieces : List PieceParts) (rank start end other last : ℕ) → IsShare pieces rank start end → IsShare pieces rank other last → end ≡ last
+one_end [] rank start end other last a b =
+    let q = a.bound in let s = b.bound in omega (arith, q, s)
+one_end (one ∷ more) rank start end other last a b = by (cases_order end last)
+  where
+    same : start ≡ other
+    same = one_start (one ∷ more) rank start end other last a b
 
--- the next that was read is refused
-pub refused_next : Unites → (file : Files) (fails : Type 0) (l : Parts) (pieces : List PieceParts) (start rank : ℕ) (told : RankByRank) (read : RankRead) (fault : RunFault) → start ≤ length pieces
-    → TellRanks file l (take start pieces) rank told → AllWithin (λ p. rank ≤ p.rank) pieces start (length pieces) → IsRead file fails pieces rank read
-    → RefusesFirst file (slice_range pieces read.start read.end) fault → RefusesFirst file pieces fault
-refused_next unites file fails l pieces start rank told read fault bound was rest is refuses =
-    let same = begins_there pieces rank read.start read.end start is.share bound was.below rest in
-    let before : TellRanks file l (take read.start pieces) rank told = subst (λ (n : ℕ). TellRanks file l (take n pieces) rank told) (sym same) was in
-    first_later unites file (take read.start pieces) (slice_range pieces read.start read.end) (drop read.end pieces) pieces before.view fault
-    (three_parts pieces read.start read.end is.share.order) before.known refuses
+    by : (end ≡ last) ⊎ ((end < last) ⊎ (last < end)) → end ≡ last
+    by (inl e) = e
+    by (inr (inl l)) = absurd (no_shorter (one ∷ more) rank start end other last one a b same l)
+    by (inr (inr g)) = absurd (no_shorter (one ∷ more) rank other last start end one b a (sym same) g)
+
+-- what was read of them where they stand was read of the rank
+pub same_share : (file : Files) (fails : Type 0) (l : Parts) (pieces : List PieceParts) (rank start end : ℕ) (read : RankRead) → IsShare pieces rank start end
+    → IsRankRead file fails l (slice_range pieces start end) rank read → IsRankGiven file fails l pieces rank read
+same_share file fails l pieces rank start end read a is other last b =
+    subst (λ (n : ℕ). IsRankRead file fails l (slice_range pieces n last) rank read) (one_start pieces rank start end other last a b)
+    (subst (λ (n : ℕ). IsRankRead file fails l (slice_range pieces start n) rank read) (one_end pieces rank start end other last a b) is)
+
+-- where a rank was read, its pieces were
+pub rank_here : (file : Files) (fails : Type 0) (l : Parts) (pieces : List PieceParts) (rank start end : ℕ) (read : Option RankRead) → IsShare pieces rank start end
+    → IfSome read (IsRankGiven file fails l pieces rank) → IfSome read (IsRankRead file fails l (slice_range pieces start end) rank)
+rank_here file fails l pieces rank start end None share given = tt
+rank_here file fails l pieces rank start end (Some read) share given = given start end share

@@ -14,6 +14,7 @@ pub mod Known
 pub mod Looks
 pub mod NodeTexts
 pub mod Nodes
+pub mod NotedReads
 pub mod Notes
 pub mod Packed
 pub mod Packs
@@ -26,10 +27,12 @@ pub mod Refusals
 pub mod Replays
 pub mod Said
 pub mod Schedules
+pub mod SegmentReads
 pub mod Sentences
 pub mod Shares
 pub mod ShownBytes
 pub mod TextCalls
+pub mod TextReads
 pub mod Traces
 pub mod Verbs
 pub mod Whole

@@ -1,12 +1,14 @@
 -- What pieces tell rank by rank.
-use Rattle.std.specs.Prelude.{◌≡◌, ◌⊎◌, ◌<◌, ◌≤◌, ◌+◌, ◌∷◌, [], ℕ, List, Option, IfErr, IfOk, length, slice_range}
+use Rattle.std.specs.Prelude.{◌≡◌, ◌⊎◌, ◌<◌, ◌≤◌, ◌+◌, ℕ, List, Option, IfErr, IfOk, length, slice_range}
 use Rattle.std.specs.List.{All, AllWithin}
 use Rattle.mpi_model.specs.Layouts.{Parts}
 use Rattle.trace_know.specs.View.{View, join}
-use Rattle.trace_node.specs.ByRank.{AreTold, IsOfRank}
+use Rattle.trace_node.specs.ByRank.{AreTold, IsOfRank, IsToldOf}
 use Rattle.trace_node.specs.declared.by_rank.RankByRank.{RankByRank}
+use Rattle.trace_node.specs.declared.by_rank.RankTold.{RankTold}
 use Rattle.run_files.specs.Manifests.{PieceParts}
 use Rattle.command_runs.specs.Files.{NamesFailed}
+use Rattle.command_runs.specs.Jobs.{AreGiven}
 use Rattle.command_runs.specs.Refusals.{RefusesFirst}
 use Rattle.command_runs.specs.Traces.{IsKnown}
 use Rattle.command_runs.specs.declared.faults.fault.RunFault.TheVariants.{Memory}
@@ -31,15 +33,20 @@ pub record IsShare (pieces : List PieceParts) (rank start end : ℕ) : Type 0 wh
   pub own : AllWithin (λ p. p.rank ≡ rank) pieces start end
   pub higher : AllWithin (λ p. rank + 1 ≤ p.rank) pieces end (length pieces)
 
--- A rank was read: its pieces tell this of it alone, or one of them is refused.
-pub record IsRead (file : List ℕ → Option (List ℕ)) (fails : Type 0) (pieces : List PieceParts) (rank : ℕ) (read : RankRead) : Type 0 where
-  pub share : IsShare pieces rank read.start read.end
-  pub ok : IfOk read.know (IsKnown file (slice_range pieces read.start read.end))
-  pub of : IfOk read.know (λ know. IsOfRank know rank)
-  pub err : IfErr read.know (λ fault. (fault ≡ Memory) ⊎ RefusesFirst file (slice_range pieces read.start read.end) fault)
-  pub failed : IfErr read.know (NamesFailed fails)
+-- These pieces of one rank tell this of it alone.
+abbrev pub TellRank : (List ℕ → Option (List ℕ)) → Parts → List PieceParts → ℕ → RankTold → Type 0
+TellRank file l pieces rank told = (own : View) × IsKnown file pieces own × IsOfRank own rank × IsToldOf l rank own told
 
--- So were a rank and those behind it, in their order.
-abbrev pub AreRead : (List ℕ → Option (List ℕ)) → Type 0 → List PieceParts → ℕ → List RankRead → Type 0
-AreRead file fails pieces rank [] = Unit {0}
-AreRead file fails pieces rank (read ∷ reads) = IsRead file fails pieces rank read × AreRead file fails pieces (rank + 1) reads
+-- The pieces of a rank were read: they tell this of it alone, or one of them is refused.
+pub record IsRankRead (file : List ℕ → Option (List ℕ)) (fails : Type 0) (l : Parts) (pieces : List PieceParts) (rank : ℕ) (read : RankRead) : Type 0 where
+  pub ok : IfOk read.told (TellRank file l pieces rank)
+  pub err : IfErr read.told (λ fault. (fault ≡ Memory) ⊎ RefusesFirst file pieces fault)
+  pub failed : IfErr read.told (NamesFailed fails)
+
+-- So were those of a rank that stand among these, wherever they do.
+abbrev pub IsRankGiven : (List ℕ → Option (List ℕ)) → Type 0 → Parts → List PieceParts → ℕ → RankRead → Type 0
+IsRankGiven file fails l pieces rank read = (start end : ℕ) → IsShare pieces rank start end → IsRankRead file fails l (slice_range pieces start end) rank read
+
+-- What was read of the first ranks, where it was.
+abbrev pub AreRanksGiven : (List ℕ → Option (List ℕ)) → Type 0 → Parts → List PieceParts → List (Option RankRead) → Type 0
+AreRanksGiven file fails l pieces given = AreGiven (IsRankGiven file fails l pieces) 0 given

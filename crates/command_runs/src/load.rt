@@ -9,6 +9,7 @@ pub(crate) mod reason;
 pub(crate) mod second_look;
 pub(crate) mod tally;
 pub(crate) mod terminal;
+pub(crate) mod text_reads;
 pub(crate) mod texts;
 pub(crate) mod watch;
 pub(crate) mod watched;

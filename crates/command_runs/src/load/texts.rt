@@ -5,8 +5,10 @@ ghost use Rattle.command_runs.specs.TextCalls.{AllSay, RefusesOne, RefusesText, 
 
 use crate::faults::fault::RunFault;
 use crate::faults::init_fault::InitFault;
+use crate::jobs::next_given;
 use crate::load::input::opened;
 use crate::load::opener::Opener;
+use crate::load::text_reads::{calls_here, texts_given};
 use crate::pieces::piece::fault_of_walk;
 use comm_makings::RankCalls;
 use dumpi_calls::Walked;
@@ -31,7 +33,11 @@ fn is_no_text(walked: &Walked) -> bool
 
 /// What a text says of communicators, and how many calls it has.
 #[tactic(auto, using(crate::proofs::Reading::said, crate::proofs::Reading::refused, crate::proofs::Reading::has_no_call, crate::proofs::Opening::text_unopened))]
-fn calls_of<O: Opener>(alloc: Global, path: &str, files: &O) -> Result<(RankCalls, u64), InitFault>
+pub(crate) fn calls_of<O: Opener>(
+    alloc: Global,
+    path: &str,
+    files: &O,
+) -> Result<(RankCalls, u64), InitFault>
     ensures ok { IfOk result (λ read. Says (O.file files.now path.now) read.0 read.1) }
     ensures err { IfErr result (RefusesText path.now (O.file files.now path.now)) }
 {
@@ -63,10 +69,13 @@ pub(crate) fn calls_of_all<O: Opener>(
         × (all.calls ≡ min calls (2 ^ 64 - 1))) }
     ensures err { IfErr result (RefusesOne (O.file files.now) (map string_bytes texts.now)) }
 {
+    let given = texts_given(alloc, texts, files)?;
+    let mut given = given.into_iter();
     let mut ranks = Vec::new(alloc);
     let mut calls: u64 = 0;
     for path in texts {
-        let (of_rank, count) = calls_of(alloc, path.as_str(), files)?;
+        let ahead = next_given(&mut given);
+        let (of_rank, count) = calls_here(alloc, path.as_str(), ahead, files)?;
         ranks.push(of_rank)?;
         calls = calls.saturating_add(count);
     }

@@ -1,7 +1,7 @@
 //! The answer to what the texts of a run tell, made rank by rank, so that no rank's events are kept once
 //! what it did is known.
 
-ghost use Rattle.std.specs.Prelude.{◌≡◌, ◌≢◌, ◌+◌, ◌<◌, ◌≤◌, ◌⊎◌, ◌↔◌, IfErr, IfOk, IsTrue, OnOk, length, take};
+ghost use Rattle.std.specs.Prelude.{◌≡◌, ◌≢◌, ◌+◌, ◌<◌, ◌≤◌, ◌⊎◌, ◌↔◌, IfErr, IfOk, IfSome, IsTrue, OnOk, length, take};
 ghost use Rattle.std.specs.FinMap.{empty};
 ghost use Rattle.std.specs.List.{All, AllWithin, HoldsAt};
 ghost use Rattle.std.specs.List.Sorted.{IsNonDecreasingBy};
@@ -10,21 +10,22 @@ ghost use Rattle.trace_know.specs.View.{View};
 ghost use Rattle.trace_node.specs.Answer.{IsAnswer};
 ghost use Rattle.trace_node.specs.ByRank.{IsOfRank};
 ghost use Rattle.command_runs.specs.Files.{NamesFailed};
-ghost use Rattle.command_runs.specs.Ranks.{TellNext, TellRanks};
+ghost use Rattle.command_runs.specs.Ranks.{AreRanksGiven, IsRankRead, TellNext, TellRank, TellRanks};
 ghost use Rattle.command_runs.specs.Refusals.{RefusesFirst, RefusesPieces};
 ghost use Rattle.command_runs.specs.Traces.{IsInside, IsKnown};
 
 use crate::faults::fault::RunFault;
+use crate::jobs::next_given;
 use crate::load::opener::Opener;
 use crate::load::watch::Watcher;
 use crate::pieces::gatherer::Gathered;
 use crate::pieces::knowing::know_of;
-use crate::pieces::side_by_side::told_side_by_side;
+use crate::pieces::side_by_side::{RankRead, ranks_given};
 use crate::run::Run;
 use run_files::Piece;
 use std::alloc::Global;
 use trace_know::{Knowledge, join_laws, view_laws};
-use trace_node::{Answer, RankByRank};
+use trace_node::{Answer, RankByRank, RankTold};
 
 /// Whether the ranks of the pieces never fall: then all pieces of one rank stand together.
 pub(crate) fn are_by_rank(pieces: &[Piece]) -> bool
@@ -55,7 +56,7 @@ pub(crate) fn end_of_rank(pieces: &[Piece], start: usize, rank: u32) -> usize
 }
 
 /// What the pieces of one rank tell together.
-pub(crate) fn known_of_rank<O: Opener, V: Watcher>(
+fn known_of_rank<O: Opener, V: Watcher>(
     run: &Run<'_, O>,
     rank: u32,
     pieces: &[Piece],
@@ -76,34 +77,79 @@ pub(crate) fn known_of_rank<O: Opener, V: Watcher>(
     Ok(know)
 }
 
+/// What an answer needs of one rank, by its pieces. Its events aren't kept.
+pub(crate) fn told_of_rank<O: Opener, V: Watcher>(
+    run: &Run<'_, O>,
+    rank: u32,
+    pieces: &[Piece],
+    watcher: &mut V,
+    buffer: &mut Vec<u8>,
+) -> Result<RankTold, RunFault>
+    requires rank { rank < run.now.layout.now.ranks }
+    requires own { All (λ p. p.rank ≡ rank) pieces.now }
+    ensures ok { IfOk result (TellRank (O.file run.now.files.now) run.now.layout.now pieces.now rank) }
+    ensures err { IfErr result (λ fault. (fault ≡ RunFault.Memory) ⊎ RefusesFirst (O.file run.now.files.now) pieces.now fault) }
+    ensures failed { IfErr result (NamesFailed (Fails O.R.failures)) }
+{
+    let know = known_of_rank(run, rank, pieces, watcher, buffer)?;
+    let told = RankTold::of(run.alloc, run.layout, rank, &know)?;
+    Ok(told)
+}
+
+/// The same where a thread may have read the pieces: else they are read now.
+fn rank_told<O: Opener, V: Watcher>(
+    run: &Run<'_, O>,
+    rank: u32,
+    pieces: &[Piece],
+    read: Option<RankRead>,
+    watcher: &mut V,
+    buffer: &mut Vec<u8>,
+) -> Result<RankTold, RunFault>
+    requires rank { rank < run.now.layout.now.ranks }
+    requires own { All (λ p. p.rank ≡ rank) pieces.now }
+    requires read { IfSome read (IsRankRead (O.file run.now.files.now) (Fails O.R.failures) run.now.layout.now pieces.now rank) }
+    ensures ok { IfOk result (TellRank (O.file run.now.files.now) run.now.layout.now pieces.now rank) }
+    ensures err { IfErr result (λ fault. (fault ≡ RunFault.Memory) ⊎ RefusesFirst (O.file run.now.files.now) pieces.now fault) }
+    ensures failed { IfErr result (NamesFailed (Fails O.R.failures)) }
+{
+    match read {
+        Some(read) => read.told(pieces, watcher),
+        None => told_of_rank(run, rank, pieces, watcher, buffer),
+    }
+}
+
 /// What was told of the ranks before, and what these pieces of the next rank tell.
 fn with_rank<O: Opener, V: Watcher>(
     run: &Run<'_, O>,
     rank: u32,
     pieces: &[Piece],
+    read: Option<RankRead>,
     watcher: &mut V,
     buffer: &mut Vec<u8>,
     told: RankByRank,
 ) -> Result<RankByRank, RunFault>
     requires rank { rank < run.now.layout.now.ranks }
     requires own { All (λ p. p.rank ≡ rank) pieces.now }
+    requires read { IfSome read (IsRankRead (O.file run.now.files.now) (Fails O.R.failures) run.now.layout.now pieces.now rank) }
     ensures ok { IfOk result (TellNext (O.file run.now.files.now) run.now.layout.now pieces.now rank told) }
     ensures err { IfErr result (λ fault. (fault ≡ RunFault.Memory) ⊎ RefusesFirst (O.file run.now.files.now) pieces.now fault) }
     ensures failed { IfErr result (NamesFailed (Fails O.R.failures)) }
 {
-    let know = known_of_rank(run, rank, pieces, watcher, buffer)?;
-    let more = told.telling(run.alloc, run.layout, rank, &know)?;
+    let one = rank_told(run, rank, pieces, read, watcher, buffer)?;
+    let more = told.taking(one)?;
     Ok(more)
 }
 
-/// What the pieces of the layout's ranks tell, read in this thread, and where these pieces end.
+/// What the pieces of the layout's ranks tell, those that threads have read among them, and where these pieces end.
 fn told_of<O: Opener, V: Watcher>(
     run: &Run<'_, O>,
     pieces: &[Piece],
     watcher: &mut V,
     buffer: &mut Vec<u8>,
+    given: Vec<Option<RankRead>>,
 ) -> Result<(RankByRank, usize), RunFault>
-    requires { IsNonDecreasingBy (λ p. p.rank) pieces.now }
+    requires rises { IsNonDecreasingBy (λ p. p.rank) pieces.now }
+    requires given { AreRanksGiven (O.file run.now.files.now) (Fails O.R.failures) run.now.layout.now pieces.now given.items }
     ensures bound { IfOk result (λ told. told.1 ≤ length pieces.now) }
     ensures ok { IfOk result (λ told. TellRanks (O.file run.now.files.now) run.now.layout.now (take told.1 pieces.now) run.now.layout.now.ranks told.0) }
     ensures rest { IfOk result (λ told. AllWithin (λ p. run.now.layout.now.ranks ≤ p.rank) pieces.now told.1 (length pieces.now)) }
@@ -113,34 +159,15 @@ fn told_of<O: Opener, V: Watcher>(
     view_laws();
     let mut told = RankByRank::new(run.alloc);
     let mut start = 0;
+    let mut given = given.into_iter();
     for rank in 0..run.layout.ranks() {
         let end = end_of_rank(pieces, start, rank);
         let own = &pieces[start..end];
-        told = with_rank(run, rank, own, watcher, buffer, told)?;
+        let read = next_given(&mut given);
+        told = with_rank(run, rank, own, read, watcher, buffer, told)?;
         start = end;
     }
     Ok((told, start))
-}
-
-/// What the pieces of the layout's ranks tell, read by as many threads as the opener has, and where these pieces end.
-fn told_of_all<O: Opener, V: Watcher>(
-    run: &Run<'_, O>,
-    pieces: &[Piece],
-    watcher: &mut V,
-    buffer: &mut Vec<u8>,
-) -> Result<(RankByRank, usize), RunFault>
-    requires { IsNonDecreasingBy (λ p. p.rank) pieces.now }
-    ensures bound { IfOk result (λ told. told.1 ≤ length pieces.now) }
-    ensures ok { IfOk result (λ told. TellRanks (O.file run.now.files.now) run.now.layout.now (take told.1 pieces.now) run.now.layout.now.ranks told.0) }
-    ensures rest { IfOk result (λ told. AllWithin (λ p. run.now.layout.now.ranks ≤ p.rank) pieces.now told.1 (length pieces.now)) }
-    ensures err { IfErr result (λ fault. (fault ≡ RunFault.Memory) ⊎ RefusesFirst (O.file run.now.files.now) pieces.now fault) }
-    ensures failed { IfErr result (NamesFailed (Fails O.R.failures)) }
-{
-    let threads = run.files.threads();
-    if threads > 1 {
-        return told_side_by_side(run, pieces, watcher, threads);
-    }
-    told_of(run, pieces, watcher, buffer)
 }
 
 /// Reads pieces of ranks that the layout doesn't have: they may tell no call.
@@ -177,8 +204,9 @@ pub(crate) fn answer_by_rank<O: Opener, V: Watcher>(
 {
     view_laws();
     join_laws();
+    let given = ranks_given(run, pieces, &*watcher)?;
     let mut buffer = Vec::new(run.alloc);
-    let (told, end) = told_of_all(run, pieces, watcher, &mut buffer)?;
+    let (told, end) = told_of(run, pieces, watcher, &mut buffer, given)?;
     read_strangers(run, &pieces[end..], watcher, &mut buffer)?;
     let answer = told.into_answer(run.alloc, run.layout)?;
     Ok(answer)

@@ -14,6 +14,7 @@ ghost use Rattle.command_runs.specs.Traces.{IsInside, IsKnown};
 
 use crate::faults::fault::RunFault;
 use crate::faults::file_name::FileName;
+use crate::jobs::next_given;
 use crate::load::input::opened;
 use crate::load::opener::Opener;
 use crate::load::second_look::start_at;
@@ -21,6 +22,7 @@ use crate::load::watch::{Watcher, announce};
 use crate::load::watched::Watched;
 use crate::pieces::gatherer::Gatherer;
 use crate::pieces::knowing::{take_whole, with_stranger};
+use crate::pieces::noted_reads::{noted_here, notes_given};
 use crate::pieces::piece::fault_of_walk;
 use crate::run::Run;
 use dumpi_calls::{walk_with_buffer, whole_texts};
@@ -31,9 +33,9 @@ use trace_know::{ReadyPiece, SegmentFault, join_laws, view_laws};
 
 /// A piece that was read.
 #[derive(Drop)]
-struct NotedPiece {
-    whole: Option<ReadyPiece>,
-    note: TextNote,
+pub(crate) struct NotedPiece {
+    pub whole: Option<ReadyPiece>,
+    pub note: TextNote,
 }
 
 /// A file's name as a line shows it.
@@ -57,7 +59,7 @@ fn start_where<O: Opener>(calls: u64, path: &str, files: &O) -> Option<Start>
 /// The events of a piece whole, none of a text without calls, and what is noted of its text. The buffer is one for all
 /// pieces.
 #[tactic(auto, using(crate::proofs::Opening::piece_unopened, crate::proofs::Opening::unopened_untold, crate::proofs::Told::walked_places_told, crate::proofs::Told::walk_told, crate::proofs::Notes::notes_told))]
-fn noted_piece<O: Opener, V: Watcher>(
+pub(crate) fn noted_piece<O: Opener, V: Watcher>(
     alloc: Global,
     piece: &Piece,
     files: &O,
@@ -123,12 +125,15 @@ pub(crate) fn noted_of<G: Gatherer, O: Opener, V: Watcher>(
     join_laws();
     view_laws();
     announce(pieces, run.files, watcher);
+    let given = notes_given(run.alloc, pieces, run.files, &*watcher)?;
+    let mut given = given.into_iter();
     let mut know = gatherer;
     let mut buffer = Vec::new(run.alloc);
     let mut notes = Vec::new(run.alloc);
     let mut stranger = None;
     for piece in pieces {
-        let read = noted_piece(run.alloc, piece, run.files, watcher, &mut buffer)?;
+        let ahead = next_given(&mut given);
+        let read = noted_here(run.alloc, piece, ahead, run.files, watcher, &mut buffer)?;
         let NotedPiece { whole, note } = read;
         stranger = with_stranger(run.alloc, stranger, run.layout, piece, &whole)?;
         know = take_whole(know, whole)?;

@@ -7,9 +7,10 @@ ghost use Rattle.command_runs.specs.Refusals.{RefusesFirst};
 ghost use Rattle.command_runs.specs.Schedules.{TellSegments, held_lists};
 
 use crate::faults::fault::RunFault;
+use crate::jobs::next_given;
 use crate::load::opener::Opener;
 use crate::load::watch::{Watcher, announce};
-use crate::pieces::piece::segments_of;
+use crate::pieces::segment_reads::{segments_given, segments_here};
 use dumpi_calls::whole_segments;
 use run_files::Piece;
 use std::alloc::{AllocError, Global};
@@ -30,10 +31,13 @@ pub fn segments_of_all<O: Opener, V: Watcher>(
 {
     whole_segments();
     announce(pieces, files, watcher);
+    let given = segments_given(alloc, pieces, files, &*watcher)?;
+    let mut given = given.into_iter();
     let mut buffer = Vec::new(alloc);
     let mut lists = Vec::new(alloc);
     for piece in pieces {
-        let segments = segments_of(alloc, piece, files, watcher, &mut buffer)?;
+        let ahead = next_given(&mut given);
+        let segments = segments_here(alloc, piece, ahead, files, watcher, &mut buffer)?;
         lists.push(shared(alloc, segments)?)?;
     }
     Ok(lists)

@@ -1,209 +1,159 @@
-//! Ranks that are read side by side: a thread for each, which reads all pieces of its rank. What they tell is told in the
-//! order of the ranks, and so is the first fault, so nothing shows which thread was done first.
+//! Ranks that several threads read, each with all its pieces. What they tell is taken in the order of the ranks, and so is
+//! the first fault.
 
-ghost use Rattle.std.specs.Prelude.{◌≡◌, ◌⊎◌, ◌+◌, ◌^◌, ◌<◌, ◌≤◌, IfErr, IfOk, length, slice_range, take, vec_len};
+ghost use Rattle.std.specs.Prelude.{◌≡◌, ◌⊎◌, ◌≤◌, IfErr, IfOk, length};
 ghost use Rattle.std.specs.List.{AllWithin, HoldsAt};
 ghost use Rattle.std.specs.List.Sorted.{IsNonDecreasingBy};
 ghost use Rattle.dumpi_text.specs.Failing.{Fails};
 ghost use Rattle.command_runs.specs.Files.{NamesFailed};
-ghost use Rattle.command_runs.specs.Ranks.{AreRead, IsRead, IsShare, TellNext, TellRanks};
+ghost use Rattle.command_runs.specs.Ranks.{AreRanksGiven, IsRankGiven, IsRankRead, IsShare, TellRank};
 ghost use Rattle.command_runs.specs.Refusals.{RefusesFirst};
 
 use crate::faults::fault::RunFault;
+use crate::jobs::{Jobs, given_by};
 use crate::load::opener::Opener;
-use crate::load::tally::Tally;
+use crate::load::tally::{Tally, tell_walked};
 use crate::load::watch::Watcher;
-use crate::pieces::by_rank::{end_of_rank, known_of_rank};
+use crate::pieces::by_rank::{end_of_rank, told_of_rank};
+use crate::pieces::reads::size_of;
 use crate::run::Run;
+use dumpi_calls::Walked;
 use run_files::Piece;
-use std::alloc::{AllocError, Global};
-use std::thread;
-use trace_know::{Knowledge, view_laws};
-use trace_node::RankByRank;
+use std::alloc::AllocError;
+use trace_node::RankTold;
 
-/// What was read of one rank: between which places its pieces stand, what they tell, or why they are refused, and what is
-/// to be told to who watches the run.
+/// What an answer needs of a rank, or why its pieces are refused, and how their texts were walked.
 #[derive(Drop)]
 pub(crate) struct RankRead {
-    start: usize,
-    end: usize,
-    know: Result<Knowledge, RunFault>,
-    tally: Tally,
+    told: Result<RankTold, RunFault>,
+    walked: Vec<Walked>,
 }
 
-/// Where the pieces of a rank begin, if those before a place are of lower ranks.
-fn start_of_rank(pieces: &[Piece], from: usize, rank: u32) -> usize
-    requires from { from ≤ length pieces.now }
-    requires before { AllWithin (λ p. p.rank < rank) pieces.now 0 from }
+impl RankRead {
+    /// What it tells, once a watcher was told how the texts of these pieces were walked.
+    pub(crate) fn told<V: Watcher>(
+        self,
+        pieces: &[Piece],
+        watcher: &mut V,
+    ) -> Result<RankTold, RunFault>
+        ensures { result ≡ self.told }
+    {
+        let RankRead { told, walked } = self;
+        tell_walked(pieces, &walked, watcher);
+        told
+    }
+}
+
+/// The reading of all ranks of a layout: a job for each.
+#[derive(Drop)]
+struct RankJobs<'r, 'a, O: Opener, V: Watcher> {
+    run: &'r Run<'a, O>,
+    pieces: &'r [Piece],
+    watcher: &'r V,
+}
+
+impl<'r, 'a, O: Opener, V: Watcher> Jobs for RankJobs<'r, 'a, O, V> {
+    type Given = RankRead;
+
+    ghost ready = { λ jobs. IsNonDecreasingBy (λ p. p.rank) jobs.pieces.now };
+
+    ghost many = { λ jobs. jobs.run.now.layout.now.ranks };
+
+    ghost gives = { λ jobs rank read. IsRankGiven (O.file jobs.run.now.files.now) (Fails O.R.failures) jobs.run.now.layout.now jobs.pieces.now rank read };
+
+    fn count(&self) -> usize {
+        self.run.layout.ranks() as usize
+    }
+
+    fn size(&self, number: usize) -> u64 {
+        match u32::try_from(number) {
+            Ok(rank) => size_of_rank(self.run.files, self.pieces, rank),
+            Err(_) => 0,
+        }
+    }
+
+    fn job(&self, number: usize) -> RankRead {
+        let ranks = self.run.layout.ranks();
+        let rank = number as u32;
+        prove!(rank < ranks);
+        read_rank(self.run, self.pieces, rank, self.watcher)
+    }
+
+    fn refuses(read: &RankRead) -> bool {
+        read.told.is_err()
+    }
+}
+
+/// Where the pieces of a rank begin, or would, found by binary search.
+fn start_of_rank(pieces: &[Piece], rank: u32) -> usize
+    requires { IsNonDecreasingBy (λ p. p.rank) pieces.now }
     ensures bound { result ≤ length pieces.now }
     ensures lower { AllWithin (λ p. p.rank < rank) pieces.now 0 result }
     ensures next { result < length pieces.now → HoldsAt (λ p. rank ≤ p.rank) pieces.now result }
 {
-    let mut start = from;
-    while start < pieces.len() && pieces[start].rank() < rank {
-        start += 1;
-    }
-    start
+    pieces.partition_point(|piece| piece.rank() < rank)
 }
 
-/// Between which places the pieces of a rank stand, if those before a place are of lower ranks.
-fn share_of_rank(pieces: &[Piece], from: usize, rank: u32) -> (usize, usize)
-    requires rises { IsNonDecreasingBy (λ p. p.rank) pieces.now }
-    requires from { from ≤ length pieces.now }
-    requires before { AllWithin (λ p. p.rank < rank) pieces.now 0 from }
+/// Between which places the pieces of a rank stand.
+fn share_of_rank(pieces: &[Piece], rank: u32) -> (usize, usize)
+    requires { IsNonDecreasingBy (λ p. p.rank) pieces.now }
     ensures { IsShare pieces.now rank result.0 result.1 }
 {
-    let start = start_of_rank(pieces, from, rank);
+    let start = start_of_rank(pieces, rank);
     let end = end_of_rank(pieces, start, rank);
     (start, end)
 }
 
-/// Reads all pieces of a rank.
-fn read_rank<O: Opener>(run: &Run<'_, O>, pieces: &[Piece], from: usize, rank: u32) -> RankRead
-    requires rises { IsNonDecreasingBy (λ p. p.rank) pieces.now }
-    requires from { from ≤ length pieces.now }
-    requires before { AllWithin (λ p. p.rank < rank) pieces.now 0 from }
-    requires rank { rank < run.now.layout.now.ranks }
-    ensures { IsRead (O.file run.now.files.now) (Fails O.R.failures) pieces.now rank result }
-{
-    let share = share_of_rank(pieces, from, rank);
-    let (start, end) = share;
-    let mut tally = Tally::new(run.alloc);
-    let mut buffer = Vec::new(run.alloc);
-    let own = &pieces[start..end];
-    let know = known_of_rank(run, rank, own, &mut tally, &mut buffer);
-    RankRead {
-        start,
-        end,
-        know,
-        tally,
+/// How many bytes the files of a rank's pieces have, if the ranks of the pieces rise.
+fn size_of_rank<O: Opener>(files: &O, pieces: &[Piece], rank: u32) -> u64 {
+    let mut size: u64 = 0;
+    let mut place = pieces.partition_point(|piece| piece.rank() < rank);
+    for _ in 0..pieces.len() {
+        match pieces.get(place) {
+            Some(piece) if piece.rank() == rank => {
+                size = size.saturating_add(size_of(pieces, place, files));
+            }
+            _ => break,
+        }
+        place = place.saturating_add(1);
     }
+    size
 }
 
-/// Reads so many ranks from one on: each in a thread of its own, where one can be started.
-fn read_ranks<O: Opener>(
-    run: &Run<'_, O>,
-    pieces: &[Piece],
-    from: usize,
-    first: u32,
-    count: u32,
-) -> Result<Vec<RankRead>, AllocError>
-    requires rises { IsNonDecreasingBy (λ p. p.rank) pieces.now }
-    requires from { from ≤ length pieces.now }
-    requires before { AllWithin (λ p. p.rank < first) pieces.now 0 from }
-    requires ranks { first + count ≤ run.now.layout.now.ranks }
-    requires fits { first + count < 2 ^ 32 }
-    ensures len { IfOk result (λ reads. vec_len reads ≡ count) }
-    ensures each { IfOk result (λ reads. AreRead (O.file run.now.files.now) (Fails O.R.failures) pieces.now first reads.items) }
-{
-    let read = |i: usize| -> RankRead
-        requires { IsNonDecreasingBy (λ p. p.rank) pieces.now × (from ≤ length pieces.now) × AllWithin (λ p. p.rank < first + i) pieces.now 0 from
-            × (first + i < run.now.layout.now.ranks) × (first + i < 2 ^ 32) }
-        ensures { IsRead (O.file run.entry.now.files.now) (Fails O.R.failures) pieces.entry.now (first + i) result }
-    { read_rank(run, pieces, from, first + i as u32) };
-    let reads = thread::map_indices(run.files.handle(), run.alloc, count as usize, &read)?;
-    Ok(reads)
-}
-
-/// What was told of the ranks before, and what was read of the next one.
-fn with_read<O: Opener>(
+/// Reads all pieces of a rank.
+fn read_rank<O: Opener, V: Watcher>(
     run: &Run<'_, O>,
     pieces: &[Piece],
     rank: u32,
-    told: RankByRank,
-    read: RankRead,
-) -> Result<RankByRank, RunFault>
-    requires { IsRead (O.file run.now.files.now) (Fails O.R.failures) pieces.now rank read }
-    ensures ok { IfOk result (TellNext (O.file run.now.files.now) run.now.layout.now (slice_range pieces.now read.start read.end) rank told) }
-    ensures err { IfErr result (λ fault. (fault ≡ RunFault.Memory) ⊎ RefusesFirst (O.file run.now.files.now) (slice_range pieces.now read.start read.end) fault) }
-    ensures failed { IfErr result (NamesFailed (Fails O.R.failures)) }
+    watcher: &V,
+) -> RankRead
+    requires rises { IsNonDecreasingBy (λ p. p.rank) pieces.now }
+    requires rank { rank < run.now.layout.now.ranks }
+    ensures { IsRankGiven (O.file run.now.files.now) (Fails O.R.failures) run.now.layout.now pieces.now rank result }
 {
-    let _ = pieces;
-    let RankRead {
-        start: _,
-        end: _,
-        know,
-        tally: _tally,
-    } = read;
-    match know {
-        Ok(know) => {
-            let more = told.telling(run.alloc, run.layout, rank, &know)?;
-            Ok(more)
-        }
-        Err(fault) => Err(fault),
-    }
+    let share = share_of_rank(pieces, rank);
+    let (start, end) = share;
+    let mut tally = Tally::new(run.alloc, watcher);
+    let mut buffer = Vec::new(run.alloc);
+    let own = &pieces[start..end];
+    let told = told_of_rank(run, rank, own, &mut tally, &mut buffer);
+    let walked = tally.into_walked();
+    RankRead { told, walked }
 }
 
-/// What was told of the ranks before, and what was read of the next ones, in their order.
-fn with_reads<O: Opener, V: Watcher>(
+/// What threads have read of the layout's ranks.
+pub(crate) fn ranks_given<O: Opener, V: Watcher>(
     run: &Run<'_, O>,
     pieces: &[Piece],
-    watcher: &mut V,
-    first: u32,
-    start: usize,
-    told: RankByRank,
-    reads: Vec<RankRead>,
-) -> Result<(RankByRank, usize), RunFault>
-    requires bound { start ≤ length pieces.now }
-    requires ranks { first + vec_len reads ≤ run.now.layout.now.ranks }
-    requires tell { TellRanks (O.file run.now.files.now) run.now.layout.now (take start pieces.now) first told }
-    requires rest { AllWithin (λ p. first ≤ p.rank) pieces.now start (length pieces.now) }
-    requires reads { AreRead (O.file run.now.files.now) (Fails O.R.failures) pieces.now first reads.items }
-    ensures bound { IfOk result (λ more. more.1 ≤ length pieces.now) }
-    ensures ok { IfOk result (λ more. TellRanks (O.file run.now.files.now) run.now.layout.now (take more.1 pieces.now) (first + vec_len reads) more.0) }
-    ensures rest { IfOk result (λ more. AllWithin (λ p. first + vec_len reads ≤ p.rank) pieces.now more.1 (length pieces.now)) }
-    ensures err { IfErr result (λ fault. (fault ≡ RunFault.Memory) ⊎ RefusesFirst (O.file run.now.files.now) pieces.now fault) }
-    ensures failed { IfErr result (NamesFailed (Fails O.R.failures)) }
-{
-    view_laws();
-    let mut told = told;
-    let mut start = start;
-    let mut rank = first;
-    for read in reads {
-        read.tally.tell(pieces, read.start, watcher);
-        let end = read.end;
-        told = with_read(run, pieces, rank, told, read)?;
-        start = end;
-        rank += 1;
-    }
-    Ok((told, start))
-}
-
-/// How many of the ranks that are left so many threads read side by side.
-fn count_of(threads: usize, left: u32) -> u32
-    requires { 0 < left }
-    ensures { (0 < result) × (result ≤ left) }
-{
-    match u32::try_from(threads) {
-        Ok(threads) => threads.max(1).min(left),
-        Err(_) => left,
-    }
-}
-
-/// What the pieces of the layout's ranks tell, as many ranks side by side as there are threads, and where these pieces end.
-pub(crate) fn told_side_by_side<O: Opener, V: Watcher>(
-    run: &Run<'_, O>,
-    pieces: &[Piece],
-    watcher: &mut V,
-    threads: usize,
-) -> Result<(RankByRank, usize), RunFault>
+    watcher: &V,
+) -> Result<Vec<Option<RankRead>>, AllocError>
     requires { IsNonDecreasingBy (λ p. p.rank) pieces.now }
-    ensures bound { IfOk result (λ told. told.1 ≤ length pieces.now) }
-    ensures ok { IfOk result (λ told. TellRanks (O.file run.now.files.now) run.now.layout.now (take told.1 pieces.now) run.now.layout.now.ranks told.0) }
-    ensures rest { IfOk result (λ told. AllWithin (λ p. run.now.layout.now.ranks ≤ p.rank) pieces.now told.1 (length pieces.now)) }
-    ensures err { IfErr result (λ fault. (fault ≡ RunFault.Memory) ⊎ RefusesFirst (O.file run.now.files.now) pieces.now fault) }
-    ensures failed { IfErr result (NamesFailed (Fails O.R.failures)) }
+    ensures { IfOk result (λ given. AreRanksGiven (O.file run.now.files.now) (Fails O.R.failures) run.now.layout.now pieces.now given.items) }
 {
-    let mut told = RankByRank::new(run.alloc);
-    let mut start = 0;
-    let mut rank = 0;
-    while rank < run.layout.ranks() {
-        let count = count_of(threads, run.layout.ranks() - rank);
-        let reads = read_ranks(run, pieces, start, rank, count)?;
-        let (more, end) = with_reads(run, pieces, watcher, rank, start, told, reads)?;
-        told = more;
-        start = end;
-        rank += count;
-    }
-    Ok((told, start))
+    let jobs = RankJobs {
+        run,
+        pieces,
+        watcher,
+    };
+    given_by(run.files.handle(), run.alloc, run.files.threads(), &jobs)
 }

@@ -1,13 +1,18 @@
-use Rattle.std.proofs.Common.{rules, refl, arith, ◌≡◌, ◌∙◌, ◌+◌, ◌<◌, ◌++◌, ◌∷◌, [], ℕ, List, None, Some, ap, sym, subst, inl, inr, length, take}
+use Rattle.std.proofs.Common.{rules, refl, arith, ◌≡◌, ◌∙◌, ◌+◌, ◌<◌, ◌++◌, ◌∷◌, [], ℕ, List, None, Option, Some, ap, sym, subst, inl, inr, length, take}
 use Rattle.std.proofs.Math.Seq.{take-length}
 use Rattle.std.proofs.lemmas.List.{take_more}
+use Rattle.dumpi_text.specs.Failing.{Fails}
 use Rattle.trace_know.specs.Trace.{view_of}
 use Rattle.trace_know.specs.View.{join}
 use Rattle.run_files.specs.Manifests.{PieceParts}
 use Rattle.text_notes.specs.Words.{NoteParts}
+use Rattle.command_runs.specs.NotedReads.{AreNotesGiven, IsNotedGiven}
 use Rattle.command_runs.specs.Notes.{AreNotesOf}
 use Rattle.command_runs.specs.Pieces.{RefusesPiece, TellsFacts, facts_of_piece}
+use Rattle.command_runs.specs.declared.pieces.noted_reads.NotedRead.{NotedRead}
+use Rattle.command_runs.proofs.ByNumber.{next_slot}
 use Rattle.command_runs.proofs.Notes.{notes_more}
+use Rattle.command_runs.proofs.ReadAhead.{noted_here}
 use Rattle.std.specs.List.{All}
 use Rattle.command_runs.specs.Traces.{IsFirstStranger, IsInside, IsKnown}
 use Rattle.command_runs.proofs.Traces.{IsOutside, begins, known_more, outside_later}
@@ -22,7 +27,15 @@ loop-piece-init g c = record {
   within = λ _. within_nothing c.args.run.now.layout.now _ c.requires;
   layout = refl;
   notes = c.new-notes.ensures.items;
+  given = subst (λ (l : List (Option NotedRead)). AreNotesGiven (g.O.Opener.file c.args.run.now.files.now) (Fails g.O.R.Read.failures) c.args.pieces.now l) (sym c.into_iter-given.ensures.rest) c.in_ok-given.ensures;
 }
+
+pub noted_here-read-requires : goal.noted_here-read-requires
+noted_here-read-requires g c =
+    let file = g.O.Opener.file c.args.run.now.files.now in
+    let fails = Fails g.O.R.Read.failures in
+    let next = next_slot (IsNotedGiven file fails c.args.pieces.now) c.loop-piece.piece-index _ _ c.next_given-ahead.result c.loop-piece.invariant.given c.next_given-ahead.ensures in
+    noted_here file fails c.args.pieces.now c.loop-piece.piece-index c.piece-item.result c.next_given-ahead.result c.piece-item.is next.0
 
 pub loop-piece-preserved : goal.loop-piece-preserved
 loop-piece-preserved g c =
@@ -47,6 +60,7 @@ loop-piece-preserved g c =
           (subst (λ (ns : List NoteParts). AreNotesOf file (take c.loop-piece.piece-index c.args.pieces.now ++ c.piece-item.result ∷ []) ns) (sym c.in_ok-push.ensures.items)
           (notes_more file (take c.loop-piece.piece-index c.args.pieces.now) c.piece-item.result c.loop-piece.notes.items c.in_ok-read.read.note c.loop-piece.invariant.notes
           (c.in_ok-read.ensures.note)));
+      given = (next_slot (IsNotedGiven file (Fails g.O.R.Read.failures) c.args.pieces.now) c.loop-piece.piece-index _ _ c.next_given-ahead.result c.loop-piece.invariant.given c.next_given-ahead.ensures).1;
     }
 
 pub returns-in_err-read-clause-err : goal.returns-in_err-read-clause-err
@@ -58,7 +72,7 @@ returns-in_err-read-clause-err g c =
     ∙ ap (λ (p : PieceParts). take c.loop-piece.piece-index c.args.pieces.now ++ p ∷ []) (sym c.piece-item.is) in
     let refuses : RefusesPiece c.piece-item.result.file c.piece-item.result.first (file c.piece-item.result.file) c.in_err-read.field-0.0 =
     c.in_err-read.ensures.err in
-    handed_on c.from_residual.result _ _ c.from_residual.ensures.1 (inr (inl (
+    handed_on c.from_residual-in_err-read.result _ _ c.from_residual-in_err-read.ensures.1 (inr (inl (
       take c.loop-piece.piece-index c.args.pieces.now,
       c.piece-item.result,
       begins c.args.pieces.now c.loop-piece.piece-index c.piece-item.result more,
@@ -94,3 +108,6 @@ returns-in_err-stranger-clause-failed g c = want_untold _ c.from_residual-in_err
 
 pub returns-in_err-know-clause-failed : goal.returns-in_err-know-clause-failed
 returns-in_err-know-clause-failed g c = want_untold _ c.from_residual-in_err-know.result c.from_residual-in_err-know.ensures.1
+
+pub returns-in_err-given-clause-failed : goal.returns-in_err-given-clause-failed
+returns-in_err-given-clause-failed g c = want_untold _ c.from_residual.result c.from_residual.ensures.1

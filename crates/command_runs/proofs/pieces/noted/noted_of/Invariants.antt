@@ -1,4 +1,8 @@
 use Rattle.std.proofs.Common.{◌≡◌, is_none, take, true}
+use Rattle.std.specs.Vec.Iter.{into_iter_items}
+use Rattle.dumpi_text.specs.Failing.{Fails}
+use Rattle.command_runs.specs.Jobs.{AreGiven}
+use Rattle.command_runs.specs.NotedReads.{IsNotedGiven}
 use Rattle.command_runs.specs.Notes.{AreNotesOf}
 use Rattle.command_runs.specs.Traces.{IsKnown}
 use Rattle.trace_node.specs.Node.{IsWithin}
@@ -12,4 +16,5 @@ invariant-loop-piece g l = record {
   layout : g.G.Gatherer.layout l.know ≡ g.G.Gatherer.layout l.initial.know;
   notes : AreNotesOf (g.O.Opener.file l.run.files.now) (take l.piece-index l.pieces) l.notes.items;
   outside : IsOutside (g.O.Opener.file l.run.files.now) l.run.layout.now.ranks (take l.piece-index l.pieces) l.stranger;
+  given : AreGiven (IsNotedGiven (g.O.Opener.file l.run.files.now) (Fails g.O.R.Read.failures) l.pieces) l.piece-index (into_iter_items l.given);
 }

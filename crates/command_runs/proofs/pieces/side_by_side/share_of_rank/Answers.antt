@@ -13,5 +13,5 @@ returns c =
       bound = c.end_of_rank-end.ensures.bound.1;
       lower = c.start_of_rank-start.ensures.lower;
       own = c.end_of_rank-end.ensures.own;
-      higher = higher pieces rank start end c.requires.rises (risen pieces rank start c.requires.rises c.start_of_rank-start.ensures.next) c.end_of_rank-end.ensures.bound.0 c.end_of_rank-end.ensures.next;
+      higher = higher pieces rank start end c.requires (risen pieces rank start c.requires c.start_of_rank-start.ensures.next) c.end_of_rank-end.ensures.bound.0 c.end_of_rank-end.ensures.next;
     }
