@@ -17,6 +17,7 @@ use crate::faults::fault::{RunFault, fault_line};
 use crate::faults::file_name::FileName;
 use crate::faults::init_advice::shown_init_fault;
 use crate::faults::init_fault::{InitFault, init_fault_line};
+use crate::load::crewed::Crewed;
 use crate::load::first_look::begins_as_text;
 use crate::load::input::{has_rank, input_at};
 use crate::load::opener::Opener;
@@ -25,7 +26,7 @@ use crate::load::watch::Watcher;
 use crate::run::{Outcome, Run, run_with};
 use crate::verbs::cluster::cluster;
 use crate::verbs::init::init;
-use command_line::{Asked, CommandFault, Verb, Wanted, command_of};
+use command_line::{Asked, CommandFault, CommandLine, Verb, Wanted, command_of};
 use mpi_model::{Sends, Write, write_all};
 use run_files::Store;
 use std::alloc::{AllocError, Global};
@@ -68,10 +69,13 @@ pub fn ending_of<
         (record { words = texts_of words.now; file = O.file files.now; store_before = S.files store.old; store_after = S.files store.new })
         W.written W.failures out.old out.new) }
 {
-    let asked = match command_of(alloc, words) {
-        Ok(asked) => asked,
+    let line = match command_of(alloc, words) {
+        Ok(line) => line,
         Err(fault) => return shown(alloc, &fault, out),
     };
+    let CommandLine { asked, threads } = line;
+    let crewed = Crewed { files, threads };
+    let files = &crewed;
     match asked {
         Asked::Pair {
             verb,

@@ -33,9 +33,13 @@
 //!   [`load::terminal`]): `specs/Files.antt`
 //! - how a piece is read ([`pieces::piece`], with notes in [`pieces::noted`]), and in which order pieces are refused:
 //!   `specs/Pieces.antt`, `Traces.antt`, `Refusals.antt`, `Notes.antt`
+//! - by how many threads texts are read ([`load::crewed`]), in which order ([`jobs`]), and what a job reads
+//!   ([`pieces::side_by_side`] a rank; [`pieces::reads`], [`pieces::noted_reads`], [`pieces::segment_reads`] a piece;
+//!   [`load::text_reads`] a text): `specs/Jobs.antt`, `Ranks.antt`, `Reads.antt`, `NotedReads.antt`,
+//!   `SegmentReads.antt`, `TextReads.antt`
 //! - what all pieces tell ([`pieces::known`], [`pieces::knowing`]), and the answer to it rank by rank
-//!   ([`pieces::answering`], [`pieces::by_rank`], [`pieces::side_by_side`], [`pieces::any_order`]): `specs/Known.antt`,
-//!   `Nodes.antt`, `Ranks.antt`
+//!   ([`pieces::answering`], [`pieces::by_rank`], [`pieces::any_order`]): `specs/Known.antt`, `Nodes.antt`,
+//!   `Ranks.antt`
 //! - packed files ([`pieces::packed`]), and which node of a cluster has what ([`pieces::shares`],
 //!   [`pieces::node_texts`]): `specs/Packed.antt`, `Shares.antt`, `NodeTexts.antt`
 //! - a fault and its line ([`faults::fault`], of texts [`faults::init_fault`]): `specs/FaultLines.antt`,
@@ -55,8 +59,9 @@
 //!   returns. `report` and `replay` promise that they return.
 //! - Files are opened through a shared reference, so no clause has to say that a run leaves its files as they were, and
 //!   each thread opens its own.
-//! - Ranks are read side by side by jobs whose results stand in their order, so nothing is told in the order in which threads
-//!   are done. A job counts what it reads, for the watcher, which is told when its rank's turn comes.
+//! - What is read of a text hangs on its number alone, and is taken by number ([`jobs`]): so no proof needs to know which
+//!   thread read it, or that one did. Whoever takes it reads what no thread has read. A thread takes its next job by one
+//!   atomic word, without a lock, a channel or `Wait`, and nothing is told in the order in which threads are done.
 //! - A check rebuilds its index if there are packed files, since the index follows pieces of one rank.
 //! - The names of a fault of `init` are copied before a file is kept, so want of memory hides none that is left.
 //!

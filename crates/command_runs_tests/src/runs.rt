@@ -8,7 +8,8 @@ ghost use Rattle.std.specs.Str.{bytes_eq};
 
 use command_line::Verb;
 use command_runs::{
-    OpenFault, Opener, Outcome, Run, RunFault, Unwatched, fault_line, input_at, run_with,
+    OpenFault, Opener, Outcome, Run, RunFault, ThreadCount, Unwatched, fault_line, input_at,
+    run_with,
 };
 use mpi_model::{MemoryReader, MemoryWriter, Write};
 use std::alloc::Global;
@@ -68,8 +69,8 @@ impl<'a, H: Threads + Sync> Opener for Shelf<'a, H> {
         self.handle
     }
 
-    fn threads(&self) -> usize {
-        self.threads
+    fn threads(&self) -> ThreadCount {
+        ThreadCount::Exactly(self.threads)
     }
 }
 

@@ -9,19 +9,8 @@ use crate::load::reason::Reason;
 /// The files of an opener, which are read by so many threads; where none are said, by as many as the opener says.
 #[derive(Drop)]
 pub(crate) struct Crewed<'f, O: Opener> {
-    files: &'f O,
-    threads: Option<u32>,
-}
-
-impl<'f, O: Opener> Crewed<'f, O> {
-    ghost use Rattle.std.specs.Prelude.{◌≡◌};
-
-    /// These files, read by so many threads.
-    pub(crate) fn new(files: &'f O, threads: Option<u32>) -> Self
-        ensures { result.files.now ≡ files.now }
-    {
-        Crewed { files, threads }
-    }
+    pub files: &'f O,
+    pub threads: Option<u32>,
 }
 
 impl<'f, O: Opener> Opener for Crewed<'f, O> {
