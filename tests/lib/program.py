@@ -2,6 +2,7 @@
 checks."""
 import importlib.machinery
 import importlib.util
+import itertools
 import json
 import os
 import pathlib
@@ -19,6 +20,10 @@ SECONDS = 300
 NOBODY = 65534
 # the kind of the part of an ELF file that names its loader
 LOADER = 3
+# the verbs that read texts by several threads
+READING = ["explain", "graph", "page", "report", "replay", "check", "pack", "init"]
+# by how many they are told to, from run to run
+TURNS = itertools.cycle([1, 3])
 # a segment has at most 65,536 events, two for each call
 CALLS_OF_A_SEGMENT = 32_768
 # bytes of a frame that may follow its length field, and those of the count of runs
@@ -157,12 +162,28 @@ def script(name, folder=TESTS / "run"):
     return module
 
 
-def run(program, room, *words, manifest=None, **how):
+def by_threads(words, count):
+    """The words of a run, told to read texts by so many threads; as they are where they ask for no such verb, or for
+    its help."""
+    plain = [os.fsdecode(it) for it in words]
+    if plain[:1] == [] or plain[0] not in READING or {"--threads", "-h", "--help"} & {*plain}:
+        return [*words]
+    more = ["--threads", str(count)]
+    return [words[0], *([os.fsencode(it) for it in more] if isinstance(words[0], bytes) else more), *words[1:]]
+
+
+def in_turn(words):
+    """The words of a run, told to read texts by one thread and by three in turn."""
+    return by_threads(words, next(TURNS))
+
+
+def run(program, room, *words, manifest=None, plain=False, **how):
     """The status of the program in a folder, and its two streams; with a manifest, that is written first, and named
-    last."""
+    last. Texts are read by one thread and by three in turn, unless the words are to stay as they are."""
     if manifest is not None:
         (room / "manifest.json").write_text(json.dumps(manifest))
         words = [*words, "layout.json", "manifest.json"]
+    words = words if plain else in_turn(words)
     done = subprocess.run([program, *words], cwd=room, stdin=subprocess.DEVNULL, capture_output=True, timeout=SECONDS, **how)
     return done.returncode, done.stdout.decode(), done.stderr.decode()
 
