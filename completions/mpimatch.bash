@@ -7,23 +7,31 @@ _mpimatch() {
     done
     COMPREPLY=()
     case $verb:$before in
+        explain:--threads) return ;;
         explain:--rank) return ;;
+        graph:--threads) return ;;
+        page:--threads) return ;;
+        report:--threads) return ;;
+        replay:--threads) return ;;
+        check:--threads) return ;;
+        pack:--threads) return ;;
         init:--sends) words="wait buffer" ;;
         init:--layout) files=yes ;;
         init:--manifest) files=yes ;;
+        init:--threads) return ;;
         *)
             case $verb in
                 "") words="$verbs -h --help -V --version" ;;
                 help) words="$verbs" ;;
-                explain) words="--json --all --rank -h --help" files=yes ;;
-                graph) words="--all -h --help" files=yes ;;
-                page) words="-h --help" files=yes ;;
-                report) words="--json -h --help" files=yes ;;
-                replay) words="-h --help" files=yes ;;
+                explain) words="--threads --json --all --rank -h --help" files=yes ;;
+                graph) words="--threads --all -h --help" files=yes ;;
+                page) words="--threads -h --help" files=yes ;;
+                report) words="--threads --json -h --help" files=yes ;;
+                replay) words="--threads -h --help" files=yes ;;
                 cluster) words="-h --help" files=yes ;;
-                check) words="-h --help" files=yes ;;
-                pack) words="-h --help" files=yes ;;
-                init) words="--sends --layout --manifest --force -h --help" files=yes ;;
+                check) words="--threads -h --help" files=yes ;;
+                pack) words="--threads -h --help" files=yes ;;
+                init) words="--sends --layout --manifest --force --threads -h --help" files=yes ;;
             esac
             [[ $word == -* ]] && files= || { [[ $files ]] && words=; }
             ;;

@@ -657,9 +657,7 @@ fn threads_argument<'a>(alloc: Global) -> Arg<'a>
     Arg::new(alloc, "threads")
         .long("threads")
         .value_name("N")
-        .help(
-            "Reads texts by so many threads, 1 to 1024, and else by as many as there are processors",
-        )
+        .help("Reads texts by N threads, 1 to 1024; without it by one for each processor")
         .value_parser(ValueParser::unsigned(1, 1024))
 }
 
