@@ -1,5 +1,5 @@
 -- What jobs gave, by their numbers.
-use Rattle.std.proofs.Common.{◌≡◌, ◌+◌, ℕ, zero, suc, List, [], ◌∷◌, ◌++◌, Option, None, Some, IfSome, set, subst, sym, arith}
+use Rattle.std.proofs.Common.{◌≡◌, ◌+◌, ℕ, zero, suc, List, [], ◌∷◌, ◌++◌, Option, None, Some, IfSome, length, refl, set, subst, sym, arith}
 use Rattle.std.specs.List.{All}
 use Rattle.std.proofs.lemmas.List.Elements.{All-push}
 use Rattle.command_runs.specs.Jobs.{AreGiven, TakesFirst}
@@ -30,3 +30,12 @@ set_given gives number (suc place) (slot ∷ slots) given are is =
 -- one more for which something holds
 pub all_more : {X : Type 0} (P : X → Type 0) (xs : List X) (x : X) → All P xs → P x → All P (xs ++ x ∷ [])
 all_more P xs x all is = All-push P xs x all is
+
+-- ---- what is left, once the next is taken
+
+pub first_taken : {X : Type 0} (slots rest : List (Option X)) (slot : Option X) → slots ≡ slot ∷ rest → TakesFirst slots slot rest
+first_taken {X = X} slots rest slot e = subst (λ (l : List (Option X)). TakesFirst l slot rest) (sym e) (refl, refl)
+
+pub nothing_left : {X : Type 0} (slots rest : List (Option X)) → length slots ≡ 0 → slots ≡ rest → TakesFirst slots None rest
+nothing_left [] rest none e = (refl, sym e)
+nothing_left (slot ∷ slots) rest none e = absurd (omega (arith, none))

@@ -45,12 +45,13 @@ impl<'r, O: Opener> Jobs for TextJobs<'r, O> {
         }
     }
 
+    #[tactic(auto, using(crate::proofs::ReadAhead::text_given))]
     fn job(&self, number: usize) -> TextRead {
         read_text(self.alloc, self.texts[number].as_str(), self.files)
     }
 
-    fn refuses(read: &TextRead) -> bool {
-        read.calls.is_err()
+    fn refuses(given: &TextRead) -> bool {
+        given.calls.is_err()
     }
 }
 

@@ -113,7 +113,7 @@ fn rank_told<O: Opener, V: Watcher>(
     ensures failed { IfErr result (NamesFailed (Fails O.R.failures)) }
 {
     match read {
-        Some(read) => read.told(pieces, watcher),
+        Some(read) => read.into_told(pieces, watcher),
         None => told_of_rank(run, rank, pieces, watcher, buffer),
     }
 }

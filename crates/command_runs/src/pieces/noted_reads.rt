@@ -17,7 +17,6 @@ use crate::pieces::reads::size_of;
 use dumpi_calls::Walked;
 use run_files::Piece;
 use std::alloc::{AllocError, Global};
-use std::slice;
 
 /// A piece with notes of its text, or why it is refused, and how its text was walked.
 #[derive(Drop)]
@@ -52,12 +51,13 @@ impl<'r, O: Opener, V: Watcher> Jobs for NotedJobs<'r, O, V> {
         size_of(self.pieces, number, self.files)
     }
 
+    #[tactic(auto, using(crate::proofs::ReadAhead::note_given))]
     fn job(&self, number: usize) -> NotedRead {
         read_noted(self.alloc, &self.pieces[number], self.files, self.watcher)
     }
 
-    fn refuses(read: &NotedRead) -> bool {
-        read.piece.is_err()
+    fn refuses(given: &NotedRead) -> bool {
+        given.piece.is_err()
     }
 }
 
@@ -72,9 +72,12 @@ fn read_noted<O: Opener, V: Watcher>(
 {
     let mut tally = Tally::new(alloc, watcher);
     let mut buffer = Vec::new(alloc);
-    let piece = noted_piece(alloc, piece, files, &mut tally, &mut buffer);
+    let noted = noted_piece(alloc, piece, files, &mut tally, &mut buffer);
     let walked = tally.into_walked();
-    NotedRead { piece, walked }
+    NotedRead {
+        piece: noted,
+        walked,
+    }
 }
 
 /// What threads have read of these pieces, with notes.
@@ -116,7 +119,7 @@ pub(crate) fn noted_here<O: Opener, V: Watcher>(
                 piece: noted,
                 walked,
             } = read;
-            tell_walked(slice::from_ref(piece), &walked, watcher);
+            tell_walked(std::slice::from_ref(piece), &walked, watcher);
             noted
         }
         None => noted_piece(alloc, piece, files, watcher, buffer),

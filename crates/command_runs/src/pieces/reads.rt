@@ -15,7 +15,6 @@ use crate::pieces::piece::ready_piece_of;
 use dumpi_calls::Walked;
 use run_files::Piece;
 use std::alloc::{AllocError, Global};
-use std::slice;
 use trace_know::ReadyPiece;
 
 /// The events of a piece whole, or why it is refused, and how its text was walked.
@@ -51,12 +50,13 @@ impl<'r, O: Opener, V: Watcher> Jobs for PieceJobs<'r, O, V> {
         size_of(self.pieces, number, self.files)
     }
 
+    #[tactic(auto, using(crate::proofs::ReadAhead::piece_given))]
     fn job(&self, number: usize) -> PieceRead {
         read_piece(self.alloc, &self.pieces[number], self.files, self.watcher)
     }
 
-    fn refuses(read: &PieceRead) -> bool {
-        read.whole.is_err()
+    fn refuses(given: &PieceRead) -> bool {
+        given.whole.is_err()
     }
 }
 
@@ -120,7 +120,7 @@ pub(crate) fn whole_of<O: Opener, V: Watcher>(
     match given {
         Some(read) => {
             let PieceRead { whole, walked } = read;
-            tell_walked(slice::from_ref(piece), &walked, watcher);
+            tell_walked(std::slice::from_ref(piece), &walked, watcher);
             whole
         }
         None => ready_piece_of(alloc, piece, files, watcher, buffer),

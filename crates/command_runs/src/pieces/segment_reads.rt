@@ -16,7 +16,6 @@ use crate::pieces::reads::size_of;
 use dumpi_calls::Walked;
 use run_files::Piece;
 use std::alloc::{AllocError, Global};
-use std::slice;
 use trace_know::ReadySegment;
 
 /// The segments of a piece, or why it is refused, and how its text was walked.
@@ -52,12 +51,13 @@ impl<'r, O: Opener, V: Watcher> Jobs for SegmentJobs<'r, O, V> {
         size_of(self.pieces, number, self.files)
     }
 
+    #[tactic(auto, using(crate::proofs::ReadAhead::segment_given))]
     fn job(&self, number: usize) -> SegmentRead {
         read_segments(self.alloc, &self.pieces[number], self.files, self.watcher)
     }
 
-    fn refuses(read: &SegmentRead) -> bool {
-        read.segments.is_err()
+    fn refuses(given: &SegmentRead) -> bool {
+        given.segments.is_err()
     }
 }
 
@@ -112,7 +112,7 @@ pub(crate) fn segments_here<O: Opener, V: Watcher>(
     match given {
         Some(read) => {
             let SegmentRead { segments, walked } = read;
-            tell_walked(slice::from_ref(piece), &walked, watcher);
+            tell_walked(std::slice::from_ref(piece), &walked, watcher);
             segments
         }
         None => segments_of(alloc, piece, files, watcher, buffer),

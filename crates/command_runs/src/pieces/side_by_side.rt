@@ -31,7 +31,7 @@ pub(crate) struct RankRead {
 
 impl RankRead {
     /// What it tells, once a watcher was told how the texts of these pieces were walked.
-    pub(crate) fn told<V: Watcher>(
+    pub(crate) fn into_told<V: Watcher>(
         self,
         pieces: &[Piece],
         watcher: &mut V,
@@ -79,8 +79,8 @@ impl<'r, 'a, O: Opener, V: Watcher> Jobs for RankJobs<'r, 'a, O, V> {
         read_rank(self.run, self.pieces, rank, self.watcher)
     }
 
-    fn refuses(read: &RankRead) -> bool {
-        read.told.is_err()
+    fn refuses(given: &RankRead) -> bool {
+        given.told.is_err()
     }
 }
 

@@ -118,8 +118,8 @@ impl<'r, O: Opener> Jobs for LookJobs<'r, O> {
         LookRead { look }
     }
 
-    fn refuses(read: &LookRead) -> bool {
-        read.look.is_err()
+    fn refuses(given: &LookRead) -> bool {
+        given.look.is_err()
     }
 }
 
