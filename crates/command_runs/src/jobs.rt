@@ -38,8 +38,8 @@ pub(crate) trait Jobs: Sync {
     /// How large a job is: larger ones begin first. Nothing that is given hangs on it.
     fn size(&self, number: usize) -> u64;
 
-    /// Does a job.
-    fn job(&self, number: usize) -> Self::Given
+    /// Does a job. The buffer is one for all jobs of a thread; its bytes have no meaning before or after.
+    fn job(&self, number: usize, buffer: &mut Vec<u8>) -> Self::Given
         requires ready { ready self.now }
         requires number { number < many self.now }
         ensures { gives self.now number result };
@@ -96,36 +96,50 @@ impl Turns {
 /// How many bytes are worth a thread of their own.
 const WORTH_A_THREAD: u64 = 262_144;
 
-/// How large all jobs are together.
-fn size_of_all<J: Jobs>(jobs: &J) -> u64 {
-    let mut size: u64 = 0;
+/// Of more jobs none is asked how large it is, which takes a call of the system or more: they begin as they are numbered.
+const MOST_SIZED: usize = 1_024;
+
+/// How large each job is, beside its number.
+fn sizes_of<J: Jobs>(alloc: Global, jobs: &J) -> Result<Vec<(u64, usize)>, AllocError> {
+    let is_sized = jobs.count() <= MOST_SIZED;
+    let mut sizes = Vec::new(alloc);
     for number in 0..jobs.count() {
-        size = size.saturating_add(jobs.size(number));
+        let size = if is_sized {
+            jobs.size(number)
+        } else {
+            WORTH_A_THREAD
+        };
+        sizes.push((size, number))?;
     }
-    size
+    Ok(sizes)
 }
 
-/// How many threads do these jobs, if so many are wanted: no more than there are jobs.
-fn threads_for<J: Jobs>(wanted: ThreadCount, jobs: &J) -> usize {
+/// How many threads do jobs of these sizes, if so many are wanted: no more than there are jobs.
+fn threads_for(wanted: ThreadCount, sizes: &[(u64, usize)]) -> usize {
     match wanted {
-        ThreadCount::Exactly(threads) => threads.min(jobs.count()),
+        ThreadCount::Exactly(threads) => threads.min(sizes.len()),
         ThreadCount::UpTo(most) => {
-            if most < 2 {
-                return most;
+            let mut whole: u64 = 0;
+            for job in sizes {
+                whole = whole.saturating_add(job.0);
             }
-            let worth = size_of_all(jobs) / WORTH_A_THREAD;
-            most.min(jobs.count())
-                .min((worth as usize).saturating_add(1))
+            let worth = (whole / WORTH_A_THREAD) as usize;
+            most.min(sizes.len()).min(worth.saturating_add(1))
         }
     }
 }
 
-/// The numbers of the jobs, the larger ones first.
-fn larger_first<J: Jobs>(alloc: Global, jobs: &J) -> Result<Vec<usize>, AllocError> {
-    let mut sizes = Vec::new(alloc);
-    for number in 0..jobs.count() {
-        sizes.push((jobs.size(number), number))?;
+/// Whether one thread is wanted.
+fn is_alone(wanted: ThreadCount) -> bool {
+    match wanted {
+        ThreadCount::Exactly(threads) => threads < 2,
+        ThreadCount::UpTo(most) => most < 2,
     }
+}
+
+/// The numbers of jobs of these sizes, the larger ones first.
+fn larger_first(alloc: Global, sizes: Vec<(u64, usize)>) -> Result<Vec<usize>, AllocError> {
+    let mut sizes = sizes;
     sizes.sort_by_key(|job| u64::MAX.saturating_sub(job.0))?;
     let mut order = Vec::new(alloc);
     for job in &sizes {
@@ -140,6 +154,7 @@ fn with_job<J: Jobs>(
     jobs: &J,
     number: usize,
     turns: &Turns,
+    buffer: &mut Vec<u8>,
     done: Vec<Done<J::Given>>,
 ) -> Vec<Done<J::Given>>
     requires ready { J.ready jobs.now }
@@ -154,7 +169,7 @@ fn with_job<J: Jobs>(
     if done.reserve(1).is_err() {
         return done;
     }
-    let given = jobs.job(number);
+    let given = jobs.job(number, buffer);
     if J::refuses(&given) {
         turns.refuse(number);
     }
@@ -172,10 +187,11 @@ fn done_in_turn<J: Jobs>(
     requires { J.ready jobs.now }
     ensures { All (λ one. J.gives jobs.now one.number one.given) result.items }
 {
+    let mut buffer = Vec::new(alloc);
     let mut done = Vec::new(alloc);
     for _ in 0..order.len() {
         match turns.next_of(order) {
-            Some(number) => done = with_job(jobs, number, turns, done),
+            Some(number) => done = with_job(jobs, number, turns, &mut buffer, done),
             None => break,
         }
     }
@@ -249,12 +265,16 @@ pub(crate) fn given_by<H: Threads + Sync, J: Jobs>(
     requires { J.ready jobs.now }
     ensures { IfOk result (λ places. AreGiven (J.gives jobs.now) 0 places.items) }
 {
-    let threads = threads_for(wanted, jobs);
+    if is_alone(wanted) {
+        return Ok(Vec::new(alloc));
+    }
+    let sizes = sizes_of(alloc, jobs)?;
+    let threads = threads_for(wanted, &sizes);
     if threads < 2 {
         return Ok(Vec::new(alloc));
     }
     let places = places_for(alloc, jobs)?;
-    let numbers = larger_first(alloc, jobs)?;
+    let numbers = larger_first(alloc, sizes)?;
     let order = numbers.as_slice();
     let turns = Turns::new();
     let shared = &turns;

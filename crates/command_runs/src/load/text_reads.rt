@@ -46,7 +46,7 @@ impl<'r, O: Opener> Jobs for TextJobs<'r, O> {
     }
 
     #[tactic(auto, using(crate::proofs::ReadAhead::text_given))]
-    fn job(&self, number: usize) -> TextRead {
+    fn job(&self, number: usize, _buffer: &mut Vec<u8>) -> TextRead {
         read_text(self.alloc, self.texts[number].as_str(), self.files)
     }
 

@@ -52,8 +52,9 @@ impl<'r, O: Opener, V: Watcher> Jobs for NotedJobs<'r, O, V> {
     }
 
     #[tactic(auto, using(crate::proofs::ReadAhead::note_given))]
-    fn job(&self, number: usize) -> NotedRead {
-        read_noted(self.alloc, &self.pieces[number], self.files, self.watcher)
+    fn job(&self, number: usize, buffer: &mut Vec<u8>) -> NotedRead {
+        let piece = &self.pieces[number];
+        read_noted(self.alloc, piece, self.files, self.watcher, buffer)
     }
 
     fn refuses(given: &NotedRead) -> bool {
@@ -67,12 +68,12 @@ fn read_noted<O: Opener, V: Watcher>(
     piece: &Piece,
     files: &O,
     watcher: &V,
+    buffer: &mut Vec<u8>,
 ) -> NotedRead
     ensures { IsNotedRead (O.file files.now) (Fails O.R.failures) piece.now result }
 {
     let mut tally = Tally::new(alloc, watcher);
-    let mut buffer = Vec::new(alloc);
-    let noted = noted_piece(alloc, piece, files, &mut tally, &mut buffer);
+    let noted = noted_piece(alloc, piece, files, &mut tally, buffer);
     let walked = tally.into_walked();
     NotedRead {
         piece: noted,

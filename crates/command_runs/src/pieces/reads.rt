@@ -51,8 +51,9 @@ impl<'r, O: Opener, V: Watcher> Jobs for PieceJobs<'r, O, V> {
     }
 
     #[tactic(auto, using(crate::proofs::ReadAhead::piece_given))]
-    fn job(&self, number: usize) -> PieceRead {
-        read_piece(self.alloc, &self.pieces[number], self.files, self.watcher)
+    fn job(&self, number: usize, buffer: &mut Vec<u8>) -> PieceRead {
+        let piece = &self.pieces[number];
+        read_piece(self.alloc, piece, self.files, self.watcher, buffer)
     }
 
     fn refuses(given: &PieceRead) -> bool {
@@ -74,12 +75,12 @@ fn read_piece<O: Opener, V: Watcher>(
     piece: &Piece,
     files: &O,
     watcher: &V,
+    buffer: &mut Vec<u8>,
 ) -> PieceRead
     ensures { IsPieceRead (O.file files.now) (Fails O.R.failures) piece.now result }
 {
     let mut tally = Tally::new(alloc, watcher);
-    let mut buffer = Vec::new(alloc);
-    let whole = ready_piece_of(alloc, piece, files, &mut tally, &mut buffer);
+    let whole = ready_piece_of(alloc, piece, files, &mut tally, buffer);
     let walked = tally.into_walked();
     PieceRead { whole, walked }
 }

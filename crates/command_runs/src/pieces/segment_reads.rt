@@ -52,8 +52,9 @@ impl<'r, O: Opener, V: Watcher> Jobs for SegmentJobs<'r, O, V> {
     }
 
     #[tactic(auto, using(crate::proofs::ReadAhead::segment_given))]
-    fn job(&self, number: usize) -> SegmentRead {
-        read_segments(self.alloc, &self.pieces[number], self.files, self.watcher)
+    fn job(&self, number: usize, buffer: &mut Vec<u8>) -> SegmentRead {
+        let piece = &self.pieces[number];
+        read_segments(self.alloc, piece, self.files, self.watcher, buffer)
     }
 
     fn refuses(given: &SegmentRead) -> bool {
@@ -67,12 +68,12 @@ fn read_segments<O: Opener, V: Watcher>(
     piece: &Piece,
     files: &O,
     watcher: &V,
+    buffer: &mut Vec<u8>,
 ) -> SegmentRead
     ensures { IsSegmentRead (O.file files.now) (Fails O.R.failures) piece.now result }
 {
     let mut tally = Tally::new(alloc, watcher);
-    let mut buffer = Vec::new(alloc);
-    let segments = segments_of(alloc, piece, files, &mut tally, &mut buffer);
+    let segments = segments_of(alloc, piece, files, &mut tally, buffer);
     let walked = tally.into_walked();
     SegmentRead { segments, walked }
 }

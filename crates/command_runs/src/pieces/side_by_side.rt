@@ -72,11 +72,11 @@ impl<'r, 'a, O: Opener, V: Watcher> Jobs for RankJobs<'r, 'a, O, V> {
         }
     }
 
-    fn job(&self, number: usize) -> RankRead {
+    fn job(&self, number: usize, buffer: &mut Vec<u8>) -> RankRead {
         let ranks = self.run.layout.ranks();
         let rank = number as u32;
         prove!(rank < ranks);
-        read_rank(self.run, self.pieces, rank, self.watcher)
+        read_rank(self.run, self.pieces, rank, self.watcher, buffer)
     }
 
     fn refuses(given: &RankRead) -> bool {
@@ -104,20 +104,23 @@ fn share_of_rank(pieces: &[Piece], rank: u32) -> (usize, usize)
     (start, end)
 }
 
-/// How many bytes the files of a rank's pieces have, if the ranks of the pieces rise.
+/// Of so many pieces of a rank the files are asked how long they are: the others are taken to be like them.
+const MOST_MEASURED: usize = 16;
+
+/// How many bytes the files of a rank's pieces have, or some such number, if the ranks of the pieces rise.
 fn size_of_rank<O: Opener>(files: &O, pieces: &[Piece], rank: u32) -> u64 {
+    let start = pieces.partition_point(|piece| piece.rank() < rank);
+    let end = pieces.partition_point(|piece| piece.rank() <= rank);
+    let count = end.saturating_sub(start);
     let mut size: u64 = 0;
-    let mut place = pieces.partition_point(|piece| piece.rank() < rank);
-    for _ in 0..pieces.len() {
-        match pieces.get(place) {
-            Some(piece) if piece.rank() == rank => {
-                size = size.saturating_add(size_of(pieces, place, files));
-            }
-            _ => break,
-        }
-        place = place.saturating_add(1);
+    for more in 0..count.min(MOST_MEASURED) {
+        size = size.saturating_add(size_of(pieces, start.saturating_add(more), files));
     }
-    size
+    if count > MOST_MEASURED {
+        (size / MOST_MEASURED as u64).saturating_mul(count as u64)
+    } else {
+        size
+    }
 }
 
 /// Reads all pieces of a rank.
@@ -126,6 +129,7 @@ fn read_rank<O: Opener, V: Watcher>(
     pieces: &[Piece],
     rank: u32,
     watcher: &V,
+    buffer: &mut Vec<u8>,
 ) -> RankRead
     requires rises { IsNonDecreasingBy (λ p. p.rank) pieces.now }
     requires rank { rank < run.now.layout.now.ranks }
@@ -134,9 +138,8 @@ fn read_rank<O: Opener, V: Watcher>(
     let share = share_of_rank(pieces, rank);
     let (start, end) = share;
     let mut tally = Tally::new(run.alloc, watcher);
-    let mut buffer = Vec::new(run.alloc);
     let own = &pieces[start..end];
-    let told = told_of_rank(run, rank, own, &mut tally, &mut buffer);
+    let told = told_of_rank(run, rank, own, &mut tally, buffer);
     let walked = tally.into_walked();
     RankRead { told, walked }
 }

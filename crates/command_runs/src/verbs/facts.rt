@@ -112,7 +112,7 @@ impl<'r, O: Opener> Jobs for LookJobs<'r, O> {
         }
     }
 
-    fn job(&self, number: usize) -> LookRead {
+    fn job(&self, number: usize, _buffer: &mut Vec<u8>) -> LookRead {
         let note = &self.notes[number];
         let look = look_of(self.alloc, self.diagnosis, self.named, note, self.files);
         LookRead { look }
