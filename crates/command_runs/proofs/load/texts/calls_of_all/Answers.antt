@@ -1,4 +1,4 @@
-use Rattle.std.proofs.Common.{arith, ◌≡◌, ◌∙◌, ◌+◌, ◌-◌, ◌^◌, ◌<◌, ◌++◌, ◌∷◌, [], ℕ, List, Option, String, Global, inr, refl, ap, sym, subst, length, map, min, take, string_bytes}
+use Rattle.std.proofs.Common.{rules, arith, ◌≡◌, ◌∙◌, ◌+◌, ◌-◌, ◌^◌, ◌<◌, ◌++◌, ◌∷◌, [], ℕ, List, Option, String, Global, inr, ap, sym, subst, length, map, min, take, string_bytes}
 use Rattle.std.proofs.lemmas.List.{take-map, take_more}
 use Rattle.comm_makings.specs.declared.calls.RankCalls.{RankCalls}
 use Rattle.command_runs.specs.TextCalls.{AllSay, RefusesText, Says}
@@ -52,7 +52,7 @@ loop-path-preserved g c =
 
 pub loop-path-init : goal.loop-path-init
 loop-path-init g c = record {
-  say = (0, (c.new-ranks.ensures.items, refl), refl);
+  say = search rules;
   given = subst (λ (l : List (Option TextRead)). AreTextsGiven (g.O.Opener.file c.args.files.now) c.args.texts.now l) (sym c.into_iter-given.ensures.rest) c.in_ok-given.ensures;
 }
 

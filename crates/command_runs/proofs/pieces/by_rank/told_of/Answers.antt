@@ -20,8 +20,8 @@ loop-rank-init g c = record {
       (sym c.into_iter-given.ensures.rest) c.requires.given;
 }
 
-pub with_rank-told-requires-clause-read : goal.with_rank-told-requires-clause-read
-with_rank-told-requires-clause-read g c =
+pub with_rank-requires-clause-read : goal.with_rank-requires-clause-read
+with_rank-requires-clause-read g c =
     let file = g.O.Opener.file c.args.run.now.files.now in
     let fails = Fails g.O.R.Read.failures in
     let layout = c.args.run.now.layout.now in

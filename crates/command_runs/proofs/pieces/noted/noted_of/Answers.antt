@@ -30,8 +30,8 @@ loop-piece-init g c = record {
   given = subst (λ (l : List (Option NotedRead)). AreNotesGiven (g.O.Opener.file c.args.run.now.files.now) (Fails g.O.R.Read.failures) c.args.pieces.now l) (sym c.into_iter-given.ensures.rest) c.in_ok-given.ensures;
 }
 
-pub noted_here-read-requires : goal.noted_here-read-requires
-noted_here-read-requires g c =
+pub noted_here-requires : goal.noted_here-requires
+noted_here-requires g c =
     let file = g.O.Opener.file c.args.run.now.files.now in
     let fails = Fails g.O.R.Read.failures in
     let next = next_slot (IsNotedGiven file fails c.args.pieces.now) c.loop-piece.piece-index _ _ c.next_given-ahead.result c.loop-piece.invariant.given c.next_given-ahead.ensures in

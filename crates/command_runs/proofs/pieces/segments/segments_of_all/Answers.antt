@@ -18,8 +18,8 @@ loop-piece-init g c = record {
   given = subst (λ (l : List (Option SegmentRead)). AreSegmentsGiven (g.O.Opener.file c.args.files.now) (Fails g.O.R.Read.failures) c.args.pieces.now l) (sym c.into_iter-given.ensures.rest) c.in_ok-given.ensures;
 }
 
-pub segments_here-segments-requires : goal.segments_here-segments-requires
-segments_here-segments-requires g c =
+pub segments_here-requires : goal.segments_here-requires
+segments_here-requires g c =
     let file = g.O.Opener.file c.args.files.now in
     let fails = Fails g.O.R.Read.failures in
     let next = next_slot (IsSegmentGiven file fails c.args.pieces.now) c.loop-piece.piece-index _ _ c.next_given-ahead.result c.loop-piece.invariant.given c.next_given-ahead.ensures in
