@@ -1,8 +1,5 @@
 //! Files that are read by as many threads as the words say.
 
-ghost use Rattle.std.specs.Prelude.{◌≡◌, IfOk, IfSome, None};
-ghost use Rattle.command_runs.specs.Files.{IsLength, StandsAtFirst};
-
 use crate::load::opener::{OpenFault, Opener, ThreadCount};
 use crate::load::reason::Reason;
 

@@ -1,6 +1,6 @@
 //! Texts that several threads read for what their calls say of communicators.
 
-ghost use Rattle.std.specs.Prelude.{◌≡◌, IfErr, IfOk, IfSome, length};
+ghost use Rattle.std.specs.Prelude.{IfErr, IfOk, IfSome, length};
 ghost use Rattle.command_runs.specs.TextCalls.{RefusesText, Says};
 ghost use Rattle.command_runs.specs.TextReads.{AreTextsGiven, IsTextGiven, IsTextRead};
 

@@ -1,6 +1,6 @@
 //! Pieces that several threads read, each whole, before they are gathered in the order of the manifest.
 
-ghost use Rattle.std.specs.Prelude.{◌≡◌, IfErr, IfOk, IfSome, length};
+ghost use Rattle.std.specs.Prelude.{IfErr, IfOk, IfSome, length};
 ghost use Rattle.dumpi_text.specs.Failing.{Fails};
 ghost use Rattle.command_runs.specs.Files.{NamesFailed};
 ghost use Rattle.command_runs.specs.Pieces.{AreFactsOf, RefusesPiece, facts_of_piece};

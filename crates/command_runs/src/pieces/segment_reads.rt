@@ -1,6 +1,6 @@
 //! Pieces that several threads read, each as its segments.
 
-ghost use Rattle.std.specs.Prelude.{◌≡◌, IfErr, IfOk, IfSome, length};
+ghost use Rattle.std.specs.Prelude.{IfErr, IfOk, IfSome, length};
 ghost use Rattle.dumpi_text.specs.Failing.{Fails};
 ghost use Rattle.command_runs.specs.Files.{NamesFailed};
 ghost use Rattle.command_runs.specs.Pieces.{AreSegmentsOf, RefusesPiece};

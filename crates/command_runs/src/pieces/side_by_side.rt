@@ -1,13 +1,11 @@
 //! Ranks that several threads read, each with all its pieces. What they tell is taken in the order of the ranks, and so is
 //! the first fault.
 
-ghost use Rattle.std.specs.Prelude.{◌≡◌, ◌⊎◌, ◌≤◌, IfErr, IfOk, length};
+ghost use Rattle.std.specs.Prelude.{◌≡◌, ◌<◌, ◌≤◌, IfOk, length};
 ghost use Rattle.std.specs.List.{AllWithin, HoldsAt};
 ghost use Rattle.std.specs.List.Sorted.{IsNonDecreasingBy};
 ghost use Rattle.dumpi_text.specs.Failing.{Fails};
-ghost use Rattle.command_runs.specs.Files.{NamesFailed};
-ghost use Rattle.command_runs.specs.Ranks.{AreRanksGiven, IsRankGiven, IsRankRead, IsShare, TellRank};
-ghost use Rattle.command_runs.specs.Refusals.{RefusesFirst};
+ghost use Rattle.command_runs.specs.Ranks.{AreRanksGiven, IsRankGiven, IsShare};
 
 use crate::faults::fault::RunFault;
 use crate::jobs::{Jobs, given_by};
