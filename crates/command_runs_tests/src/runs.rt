@@ -92,19 +92,27 @@ MPI_Comm comm=2
 MPI_Barrier returning at walltime 1.75, cputime 0.25 seconds in thread 0.
 ";
 
-/// The run of a replay or of a report over these files, which are named.
+/// What is run.
+#[derive(Clone, Copy)]
+enum What {
+    Report,
+    Replay,
+    Check,
+}
+
+/// The run over these files, which are named.
 fn ran<O: Opener, W: Write>(
     alloc: Global,
-    replays: bool,
+    what: What,
     files: &O,
     out: &mut W,
 ) -> Result<Outcome, RunFault> {
     let input = input_at(alloc, None, "layout.json", "manifest.json", files)?;
     let run = Run::new(alloc, &input, files);
-    if replays {
-        run_with(Verb::Replay, &run, &mut Unwatched, out)
-    } else {
-        run_with(Verb::Report, &run, &mut Unwatched, out)
+    match what {
+        What::Report => run_with(Verb::Report, &run, &mut Unwatched, out),
+        What::Replay => run_with(Verb::Replay, &run, &mut Unwatched, out),
+        What::Check => run_with(Verb::Check, &run, &mut Unwatched, out),
     }
 }
 
@@ -112,7 +120,7 @@ fn ran<O: Opener, W: Write>(
 fn told<R: Abort + Threads + Sync>(
     rt: &R,
     alloc: Global,
-    replays: bool,
+    what: What,
     input: (&'static [u8], &'static [u8]),
     threads: usize,
     until_failure: usize,
@@ -128,7 +136,7 @@ fn told<R: Abort + Threads + Sync>(
         until_failure,
     };
     let mut out = MemoryWriter::new(alloc).failing_after(room);
-    let ended = ran(alloc, replays, &files, &mut out);
+    let ended = ran(alloc, what, &files, &mut out);
     let mut text = std::str::from_utf8(out.bytes())
         .ok()
         .expect(rt, "a text")
@@ -143,40 +151,40 @@ fn told<R: Abort + Threads + Sync>(
 
 const ALL: usize = usize::MAX;
 
-/// A name, whether it is a replay, how many bytes of the piece are read and how many of the output are
+/// A name, what is run, how many bytes of the piece are read and how many of the output are
 /// taken before a failure, and what is told
-static RUNS: [(&str, bool, usize, usize, &str); 5] = [
+static RUNS: [(&str, What, usize, usize, &str); 5] = [
     (
         "a report",
-        false,
+        What::Report,
         ALL,
         ALL,
         "mpimatch report 1\nranks 1 sends wait\nrank 0 prefix 2 free\nround 2:0 barrier complete\nstuck none\nforeign 0\nend\n",
     ),
     (
         "a replay",
-        true,
+        What::Replay,
         ALL,
         ALL,
         "node 0\nmpimatch report 1\nranks 1 sends wait\nrank 0 prefix 0 free\nstuck none\nforeign 0\nend\nnode 1\nmpimatch report 1\nranks 1 sends wait\nrank 0 prefix 2 free\nround 2:0 barrier complete\nstuck none\nforeign 0\nend\n",
     ),
     (
         "a reader that fails within the second line",
-        false,
+        What::Report,
         80,
         ALL,
         "mpimatch: F1 Read at r0.txt:2\n",
     ),
     (
         "a reader that fails behind the last line",
-        true,
+        What::Replay,
         PIECE.len(),
         ALL,
         "mpimatch: F1 Read at r0.txt:4\n",
     ),
     (
         "a writer that takes a front of a report",
-        false,
+        What::Report,
         ALL,
         8,
         "mpimatchmpimatch: R1 Write\n",
@@ -186,18 +194,10 @@ static RUNS: [(&str, bool, usize, usize, &str); 5] = [
 #[test]
 fn runs_over_files_that_tell_their_bytes(rt: HostRuntime) {
     for row in &RUNS {
-        let (name, replays, until_failure, room, want) = *row;
+        let (name, what, until_failure, room, want) = *row;
         let input = (LAYOUT, MANIFEST);
         for threads in [1, 3] {
-            let found = told(
-                &rt,
-                rt.alloc(),
-                replays,
-                input,
-                threads,
-                until_failure,
-                room,
-            );
+            let found = told(&rt, rt.alloc(), what, input, threads, until_failure, room);
             assert!(rt;
                 found.as_str() == want,
                 "{name} by {threads} threads: {found}"
@@ -206,15 +206,20 @@ fn runs_over_files_that_tell_their_bytes(rt: HostRuntime) {
     }
 }
 
-/// How many threads read, how many bytes of each piece are read before a failure, and what is told
-static SIDE_BY_SIDE: [(usize, usize, &str); 6] = [
-    (1, ALL, OF_THREE),
-    (2, ALL, OF_THREE),
-    (3, ALL, OF_THREE),
-    (1000, ALL, OF_THREE),
-    (1, 80, "mpimatch: F1 Read at r0.txt:2\n"),
-    (3, 80, "mpimatch: F1 Read at r0.txt:2\n"),
+/// What is run, how many threads read, how many bytes of each piece are read before a failure, and what is told
+static SIDE_BY_SIDE: [(What, usize, usize, &str); 9] = [
+    (What::Report, 1, ALL, OF_THREE),
+    (What::Report, 2, ALL, OF_THREE),
+    (What::Report, 3, ALL, OF_THREE),
+    (What::Report, 1000, ALL, OF_THREE),
+    (What::Report, 1, 80, "mpimatch: F1 Read at r0.txt:2\n"),
+    (What::Report, 3, 80, "mpimatch: F1 Read at r0.txt:2\n"),
+    (What::Check, 1, ALL, CHECKED),
+    (What::Check, 3, ALL, CHECKED),
+    (What::Check, 3, 80, "mpimatch: F1 Read at r0.txt:2\n"),
 ];
+
+const CHECKED: &str = "check pairs 0 postponed 0 equal\ncheck stuck 0 released 0 valid\n";
 
 const OF_THREE: &str =
     "mpimatch report 1\nranks 3 sends wait\nrank 0 prefix 2 free\nrank 1 prefix 2 free\nrank 2 prefix 2 free\nround 2:0 barrier complete\nstuck none\nforeign 0\nend\n";
@@ -222,9 +227,9 @@ const OF_THREE: &str =
 #[test]
 fn ranks_that_are_read_side_by_side(rt: HostRuntime) {
     for row in &SIDE_BY_SIDE {
-        let (threads, until_failure, want) = *row;
+        let (what, threads, until_failure, want) = *row;
         let input = (LAYOUT_OF_THREE, MANIFEST_OF_THREE);
-        let found = told(&rt, rt.alloc(), false, input, threads, until_failure, ALL);
+        let found = told(&rt, rt.alloc(), what, input, threads, until_failure, ALL);
         assert!(rt; found.as_str() == want, "{threads} threads: {found}");
     }
 }
