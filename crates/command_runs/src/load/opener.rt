@@ -64,9 +64,7 @@ pub trait Opener: Drop + Sync {
     fn handle(&self) -> &Self::Handle;
 
     /// How many threads read files side by side. No output of a run depends on it.
-    fn threads(&self) -> ThreadCount {
-        ThreadCount::UpTo(1)
-    }
+    fn threads(&self) -> ThreadCount;
 }
 
 /// The files of the system.
