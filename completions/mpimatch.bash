@@ -23,15 +23,15 @@ _mpimatch() {
             case $verb in
                 "") words="$verbs -h --help -V --version" ;;
                 help) words="$verbs" ;;
-                explain) words="--threads --json --all --rank -h --help" files=yes ;;
-                graph) words="--threads --all -h --help" files=yes ;;
-                page) words="--threads -h --help" files=yes ;;
-                report) words="--threads --json -h --help" files=yes ;;
-                replay) words="--threads -h --help" files=yes ;;
-                cluster) words="-h --help" files=yes ;;
-                check) words="--threads -h --help" files=yes ;;
-                pack) words="--threads -h --help" files=yes ;;
-                init) words="--sends --layout --manifest --force --threads -h --help" files=yes ;;
+                explain) words="-q --quiet --verbose --threads --json --all --rank -h --help" files=yes ;;
+                graph) words="-q --quiet --verbose --threads --all -h --help" files=yes ;;
+                page) words="-q --quiet --verbose --threads -h --help" files=yes ;;
+                report) words="-q --quiet --verbose --threads --json -h --help" files=yes ;;
+                replay) words="-q --quiet --threads -h --help" files=yes ;;
+                cluster) words="-q --quiet -h --help" files=yes ;;
+                check) words="-q --quiet --verbose --threads --json -h --help" files=yes ;;
+                pack) words="-q --quiet --threads -h --help" files=yes ;;
+                init) words="--sends --layout --manifest --force -q --quiet --json --threads -h --help" files=yes ;;
             esac
             [[ $word == -* ]] && files= || { [[ $files ]] && words=; }
             ;;

@@ -1,4 +1,5 @@
 pub mod AllTold
+pub mod Folders
 pub mod AnyOrder
 pub mod ByNumber
 pub mod ByPlace
@@ -10,6 +11,7 @@ pub mod Looks
 pub mod Nodes
 pub mod Notes
 pub mod OneByOne
+pub mod Prepared
 pub mod Opening
 pub mod Ordered
 pub mod OwnPieces

@@ -1,5 +1,5 @@
 -- What threads have read ahead of who gathers it.
-use Rattle.std.proofs.Common.{◌≡◌, ◌<◌, ℕ, List, Option, None, Some, IfSome, String, Global, ap, get_or, length, string_bytes, subst, sym, ◌∙◌}
+use Rattle.std.proofs.Common.{◌≡◌, ◌<◌, ℕ, List, Option, None, Some, IfSome, String, Global, get_or, length, option_map, string_bytes, subst, sym, ◌∙◌}
 use Rattle.std.proofs.lemmas.List.{get_or_default}
 use Rattle.run_files.specs.Manifests.{PieceParts}
 use Rattle.command_runs.specs.NotedReads.{IsNotedGiven, IsNotedRead}
@@ -29,11 +29,11 @@ pub segments_here : (file : List ℕ → Option (List ℕ)) (fails : Type 0) (pi
 segments_here file fails pieces place piece None is given = tt
 segments_here file fails pieces place piece (Some read) is given = subst (λ (p : PieceParts). IsSegmentRead file fails p read) (sym is) (given piece)
 
--- what was read of the text at a place is that of the text of this name
-pub text_here : (file : List ℕ → Option (List ℕ)) (texts : List (String Global)) (place : ℕ) (text : String Global) (name : List ℕ) (read : Option TextRead)
-    → text ≡ get_or texts place text → name ≡ string_bytes text → IfSome read (IsTextGiven file texts place) → IfSome read (IsTextRead file name)
-text_here file texts place text name None is named given = tt
-text_here file texts place text name (Some read) is named given = subst (λ (n : List ℕ). IsTextRead file n read) (sym (named ∙ ap string_bytes is)) (given text)
+-- what was read of the text of the rank of a place is that of this one
+pub text_here : (file : List ℕ → Option (List ℕ)) (seats : List (Option (String Global))) (place : ℕ) (seat : Option (String Global)) (read : Option TextRead)
+    → seat ≡ get_or seats place seat → IfSome read (IsTextGiven file seats place) → IfSome read (IsTextRead file (option_map string_bytes seat))
+text_here file seats place seat None is given = tt
+text_here file seats place seat (Some read) is given = subst (λ (s : Option (String Global)). IsTextRead file (option_map string_bytes s) read) (sym is) (given seat)
 
 -- ---- what was read at a place
 
@@ -49,7 +49,7 @@ pub segment_given : (file : List ℕ → Option (List ℕ)) (fails : Type 0) (pi
     → piece ≡ get_or pieces place piece → place < length pieces → IsSegmentRead file fails piece read → IsSegmentGiven file fails pieces place read
 segment_given file fails pieces place piece read at lt is d = subst (λ (p : PieceParts). IsSegmentRead file fails p read) (at ∙ get_or_default pieces place piece d lt) is
 
-pub text_given : (file : List ℕ → Option (List ℕ)) (texts : List (String Global)) (place : ℕ) (text : String Global) (name : List ℕ) (read : TextRead)
-    → text ≡ get_or texts place text → place < length texts → name ≡ string_bytes text → IsTextRead file name read → IsTextGiven file texts place read
-text_given file texts place text name read at lt named is d =
-    subst (λ (n : List ℕ). IsTextRead file n read) (named ∙ ap string_bytes (at ∙ get_or_default texts place text d lt)) is
+pub text_given : (file : List ℕ → Option (List ℕ)) (seats : List (Option (String Global))) (place : ℕ) (seat : Option (String Global)) (read : TextRead)
+    → seat ≡ get_or seats place seat → place < length seats → IsTextRead file (option_map string_bytes seat) read → IsTextGiven file seats place read
+text_given file seats place seat read at lt is d =
+    subst (λ (s : Option (String Global)). IsTextRead file (option_map string_bytes s) read) (at ∙ get_or_default seats place seat d lt) is

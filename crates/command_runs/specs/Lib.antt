@@ -1,10 +1,12 @@
 pub mod Advice
+pub mod CheckJson
 pub mod Clusters
 pub mod Endings
 pub mod Explains
 pub mod FaultLines
 pub mod FileNames
 pub mod Files
+pub mod Folders
 pub mod InitAdvice
 pub mod InitFaults
 pub mod Inits
@@ -12,6 +14,7 @@ pub mod Inputs
 pub mod Jobs
 pub mod Known
 pub mod Looks
+pub mod NoTexts
 pub mod NodeTexts
 pub mod Nodes
 pub mod NotedReads
@@ -31,6 +34,7 @@ pub mod SegmentReads
 pub mod Sentences
 pub mod Shares
 pub mod ShownBytes
+pub mod Telling
 pub mod TextCalls
 pub mod TextReads
 pub mod Traces

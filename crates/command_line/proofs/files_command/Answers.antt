@@ -12,9 +12,13 @@ returns c =
     let bare_local : (out-Command c.after_help-bare.result).has_globals ≡ false = search rules in
     let named = c.in_ok-named.ensures.shape c.several_argument-files.ensures.local ∙ ap₂ with_rule bare c.several_argument-files.ensures.rule in
     let named_local = c.in_ok-named.ensures.globals ∙ ap₂ (λ a b. a || b) bare_local c.several_argument-files.ensures.local in
+    let quiet = c.in_ok-quiet.ensures.shape c.quiet_argument.ensures.local ∙ ap₂ with_rule named c.quiet_argument.ensures.rule in
+    let quiet_local = c.in_ok-quiet.ensures.globals ∙ ap₂ (λ a b. a || b) named_local c.quiet_argument.ensures.local in
+    let told = c.in_ok-told.ensures.shape c.verbose_argument.ensures.local ∙ ap₂ with_rule quiet c.verbose_argument.ensures.rule in
+    let told_local = c.in_ok-told.ensures.globals ∙ ap₂ (λ a b. a || b) quiet_local c.verbose_argument.ensures.local in
     record {
-      shape = IfOk-weaker c.arg-2.result _ _ (λ r h.
-          h.shape c.threads_argument.ensures.local ∙ ap₂ with_rule named c.threads_argument.ensures.rule) c.arg-2.ensures;
-      local = IfOk-weaker c.arg-2.result _ _ (λ r h.
-          h.globals ∙ ap₂ (λ a b. a || b) named_local c.threads_argument.ensures.local) c.arg-2.ensures;
+      shape = IfOk-weaker c.arg-4.result _ _ (λ r h.
+          h.shape c.threads_argument.ensures.local ∙ ap₂ with_rule told c.threads_argument.ensures.rule) c.arg-4.ensures;
+      local = IfOk-weaker c.arg-4.result _ _ (λ r h.
+          h.globals ∙ ap₂ (λ a b. a || b) told_local c.threads_argument.ensures.local) c.arg-4.ensures;
     }

@@ -2,6 +2,7 @@
 
 use crate::load::opener::{OpenFault, Opener, ThreadCount};
 use crate::load::reason::Reason;
+use std::alloc::Global;
 
 /// The files of an opener, which are read by so many threads; where none are said, by as many as the opener says.
 #[derive(Drop)]
@@ -23,6 +24,10 @@ impl<'f, O: Opener> Opener for Crewed<'f, O> {
 
     fn length(&self, path: &str) -> Option<u64> {
         self.files.length(path)
+    }
+
+    fn entries(&self, alloc: Global, path: &str) -> Result<Option<Vec<String>>, OpenFault> {
+        self.files.entries(alloc, path)
     }
 
     fn reason(&self, path: &str) -> Option<Reason> {

@@ -30,6 +30,8 @@ impl<'w, V: Watcher> Tally<'w, V> {
 }
 
 impl<'w, V: Watcher> Watcher for Tally<'w, V> {
+    fn hush(&mut self) {}
+
     fn is_watching(&self) -> bool {
         false
     }

@@ -87,6 +87,10 @@ impl<'a, R: Eprint + Clock + Sync> Terminal<'a, R> {
 }
 
 impl<'a, R: Eprint + Clock + Sync> Watcher for Terminal<'a, R> {
+    fn hush(&mut self) {
+        self.is_terminal = false;
+    }
+
     fn is_watching(&self) -> bool {
         self.is_terminal
     }
