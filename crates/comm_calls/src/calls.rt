@@ -251,7 +251,7 @@ impl RawSink for CommCalls {
 
     ghost step = { reading };
 
-    fn on_call(&mut self, raw: &RawCall, call: Call) -> Result<(), Memory> {
-        self.read(raw, &call)
+    fn on_call(&mut self, raw: &RawCall, call: &Call) -> Result<(), Memory> {
+        self.read(raw, call)
     }
 }

@@ -2,7 +2,9 @@
 use Rattle.std.specs.Prelude.{◌≡◌, ℕ, List, [], ◌∷◌, Option, Some, None, Vec}
 use Rattle.std.specs.declared.alloc.Global.{Global}
 use Rattle.run_files.specs.Manifests.{PieceParts}
-use Rattle.text_notes.specs.Noted.{TellsNotes}
+use Rattle.dumpi_calls.specs.Whole.{TellsEvents}
+use Rattle.dumpi_calls.specs.declared.walking.Walked.{Walked}
+use Rattle.text_notes.specs.Noted.{Noted, TellsNotes}
 use Rattle.text_notes.specs.Starts.{IsStartOf}
 use Rattle.text_notes.specs.Values.{IsValueAt}
 use Rattle.text_notes.specs.Words.{NoteParts, walked_in}
@@ -18,6 +20,11 @@ BeginsSo text (Some start) = IsStartOf text start
 abbrev pub HasValueSo : Option (List ℕ) → ℕ → List ℕ → Option (Vec ℕ Global) → Type 0
 HasValueSo text line name None = Unit {0}
 HasValueSo text line name (Some value) = IsValueAt text line name (Some value.items)
+
+-- A walk over the whole text has left these events and notes.
+pub record IsNotedText (text : Option (List ℕ)) (noted : Noted) (walked : Walked) : Type 0 where
+  pub events : TellsEvents text noted.events
+  pub notes : TellsNotes text noted.unread walked
 
 -- The note is that of the piece: of its rank and first call, under the name of its file, and what its text tells.
 pub record IsNoteOf (file : List ℕ → Option (List ℕ)) (piece : PieceParts) (note : NoteParts) : Type 0 where

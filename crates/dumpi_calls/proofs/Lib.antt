@@ -15,6 +15,7 @@ pub mod Failing
 pub mod Advancing
 pub mod Handed
 pub mod RawWalks
+pub mod BothWalks
 pub mod Alternating
 pub mod Joined
 pub mod Whole

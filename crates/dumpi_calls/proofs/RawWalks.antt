@@ -30,7 +30,7 @@ pub nothing_handed : {S : Type 0} → (step : S → TextCall → Call → S → 
 nothing_handed step state = record { taken = refl; counted = refl }
 
 -- the sink took one call more
-one_handed : {S : Type 0} → (step : S → TextCall → Call → S → Type 0) (calls : List TextCall) (raw : TextCall) (old mid new : S) (count : ℕ)
+pub one_handed : {S : Type 0} → (step : S → TextCall → Call → S → Type 0) (calls : List TextCall) (raw : TextCall) (old mid new : S) (count : ℕ)
     → HandedRaw step calls old mid count → TakesRaw step raw mid new → HandedRaw step (calls ++ raw ∷ []) old new (count + 1)
 one_handed step calls raw old mid new count h t = record {
   taken = taken_more step calls raw old mid new t.call h.taken t.typed_as t.taken;
@@ -44,7 +44,7 @@ advanced step text calls open_at view first old new count handed next =
     (calls ++ next.raw ∷ [], next.read, one_handed step calls next.raw first old new count handed next.takes, next.open_is ∙ sym (last_unfinished calls next.raw))
 
 -- handed on as before, where the sink is as it was
-still_handed : {S : Type 0} → (step : S → TextCall → Call → S → Type 0) (calls : List TextCall) (first old new : S) (count total : ℕ) → HandedRaw step calls first old count → new ≡ old → total ≡ count → HandedRaw step calls first new total
+pub still_handed : {S : Type 0} → (step : S → TextCall → Call → S → Type 0) (calls : List TextCall) (first old new : S) (count total : ℕ) → HandedRaw step calls first old count → new ≡ old → total ≡ count → HandedRaw step calls first new total
 still_handed step calls first old new count total handed same counted = record { taken = same_end step calls first old new handed.taken same; counted = counted ∙ handed.counted }
 
 -- The text is over.

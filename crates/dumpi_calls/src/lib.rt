@@ -15,7 +15,7 @@
 //! - [`in_place`]: calls as dumpi2ascii writes them, read whole where they stand; [`lines`]: their parameter lines;
 //!   [`number_lines`]: those of numbers, in one pass
 //! - [`sink`]: the callbacks; [`fault`], [`walking`]: the walk; [`raw`]: one that hands on calls as they stand in the
-//!   text
+//!   text; [`both`]: both walks in one
 //! - [`collect`], over events in [`parts`], and [`tally`]: two sinks; [`laws`]: what holds of walks over whole texts
 //!
 //! To change something, open:
@@ -47,6 +47,7 @@
 //! `tests/rows/functions.txt`.
 #![tactic(auto)]
 
+mod both;
 mod collect;
 mod envelope;
 mod fault;
@@ -69,6 +70,7 @@ mod tally;
 mod typing;
 mod walking;
 
+pub use both::walk_both;
 pub use collect::{Collect, Memory};
 pub use fault::{WalkCause, WalkFault};
 pub use laws::{whole_segments, whole_texts};

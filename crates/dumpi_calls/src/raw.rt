@@ -29,8 +29,8 @@ pub trait RawSink {
     ghost step: { Self → TextCall → Call → Self → Type 0 };
 
     /// Takes a call as it stands in the text, and as the typed call. If it is refused, the sink is as it was.
-    fn on_call(&mut self, raw: &RawCall, call: Call) -> Result<(), Self::Fault>
-        ensures ok { OnOk result (step self.old raw.now call self.new) }
+    fn on_call(&mut self, raw: &RawCall, call: &Call) -> Result<(), Self::Fault>
+        ensures ok { OnOk result (step self.old raw.now call.now self.new) }
         ensures err { OnErr result (self.new ≡ self.old) };
 }
 
@@ -49,7 +49,7 @@ fn take_raw<S: RawSink>(
 {
     match typed_call(alloc, function_in(raw), raw) {
         Err(fault) => Err(refusal(raw, fault, calls)),
-        Ok(TypedCall { call, .. }) => match sink.on_call(raw, call) {
+        Ok(TypedCall { call, .. }) => match sink.on_call(raw, &call) {
             Ok(()) => Ok(()),
             Err(fault) => Err(WalkFault {
                 cause: WalkCause::Sink(fault),

@@ -1,5 +1,6 @@
 -- What a walk over a text tells of communicators.
 use Rattle.std.proofs.Common.{ℕ, ◌<◌, ◌^◌, List, Option, arith}
+use Rattle.dumpi_calls.specs.BothWalks.{StopsIn as StopsBoth}
 use Rattle.dumpi_calls.specs.RawWalks.{IsStoppedRaw, IsWalkedRaw}
 use Rattle.dumpi_calls.specs.declared.fault.WalkFault.{WalkFault}
 use Rattle.dumpi_calls.specs.declared.walking.Walked.{Walked}
@@ -25,3 +26,7 @@ read_whole text new rank walked law w few told = record {
 
 pub stopped : (text : Option (List ℕ)) (old new : ReadCalls) (fault : WalkFault Memory) → IsStoppedRaw reading text old new fault → StopsIn text fault
 stopped text old new fault s = record { calls = s.calls; counted = s.handed.counted; stops = s.stops }
+
+-- a walk into two sinks
+pub stopped_both : (text : Option (List ℕ)) (fault : WalkFault Memory) → StopsBoth {F = Memory} text fault → StopsIn text fault
+stopped_both text fault s = record { calls = s.calls; counted = s.counted; stops = s.stops }

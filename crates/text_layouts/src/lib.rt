@@ -35,5 +35,5 @@ pub use made::{Made, made_of};
 pub use order::{Order, order_of};
 pub use seats::{in_order, missing_of, seats_of, texts_of};
 pub use summary::{put_missing, put_summary};
-pub use text::rank_calls_of;
+pub use text::{rank_calls_of, rank_calls_with};
 pub use words::{MOST_SHOWN, put_notes};

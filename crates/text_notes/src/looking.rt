@@ -249,14 +249,14 @@ impl<'a> RawSink for Looking<'a> {
     ghost step = { looking };
 
     #[tactic(auto, using(crate::proofs::Looked::looked_so))]
-    fn on_call(&mut self, raw: &RawCall, call: Call) -> Result<(), Memory> {
+    fn on_call(&mut self, raw: &RawCall, call: &Call) -> Result<(), Memory> {
         let alloc = *self.sites.allocator();
         let site = site_where(alloc, self.wanted, self.calls, raw)?;
         let size = size_of(alloc, raw)?;
-        let told = call_told(alloc, &mut self.last, self.calls, raw, &call)?;
+        let told = call_told(alloc, &mut self.last, self.calls, raw, call)?;
         self.sites.reserve(1)?;
         self.arguments.reserve(1)?;
-        count_local(&mut self.local, self.limit, self.calls, raw, &call)?;
+        count_local(&mut self.local, self.limit, self.calls, raw, call)?;
         push_site(&mut self.sites, site)?;
         push_told(&mut self.arguments, told)?;
         self.size = greater(self.size, size);

@@ -7,7 +7,8 @@ ghost use Rattle.dumpi_text.specs.Failing.{Fails};
 ghost use Rattle.trace_node.specs.Node.{IsWithin};
 ghost use Rattle.command_runs.specs.FileNames.{shown_name};
 ghost use Rattle.command_runs.specs.Files.{NamesFailed};
-ghost use Rattle.command_runs.specs.Notes.{AreNotesOf, BeginsSo, IsNoteOf};
+ghost use Rattle.command_runs.specs.NotedReads.{AreNotesGiven};
+ghost use Rattle.command_runs.specs.Notes.{AreNotesOf, BeginsSo, IsNoteOf, IsNotedText};
 ghost use Rattle.command_runs.specs.Pieces.{AreFactsOf, RefusesPiece, facts_of_piece};
 ghost use Rattle.command_runs.specs.Refusals.{RefusesPieces};
 ghost use Rattle.command_runs.specs.Traces.{IsInside, IsKnown};
@@ -22,10 +23,10 @@ use crate::load::watch::{Watcher, announce};
 use crate::load::watched::Watched;
 use crate::pieces::gatherer::Gatherer;
 use crate::pieces::knowing::{take_whole, with_stranger};
-use crate::pieces::noted_reads::{noted_here, notes_given};
+use crate::pieces::noted_reads::{NotedRead, noted_here, notes_given};
 use crate::pieces::piece::fault_of_walk;
 use crate::run::Run;
-use dumpi_calls::{walk_with_buffer, whole_texts};
+use dumpi_calls::{Walked, walk_with_buffer, whole_texts};
 use run_files::Piece;
 use std::alloc::{AllocError, Global};
 use text_notes::{Noting, Start, TextNote, noted_texts};
@@ -56,9 +57,48 @@ fn start_where<O: Opener>(calls: u64, path: &str, files: &O) -> Option<Start>
     start_at(path, files)
 }
 
+/// A piece by what a walk over its whole text has left: its events whole, none of a text without calls, and what is
+/// noted of it.
+#[tactic(auto, using(crate::proofs::Told::piece_told, crate::proofs::Told::places_told))]
+pub(crate) fn noted_text<O: Opener>(
+    alloc: Global,
+    piece: &Piece,
+    noting: Noting,
+    walked: Walked,
+    files: &O,
+) -> Result<NotedPiece, RunFault>
+    requires { IsNotedText (O.file files.now piece.now.file) noting walked }
+    ensures ok { IfOk result (λ read. AreFactsOf (O.file files.now) piece.now (facts_of_piece read.whole)) }
+    ensures note { IfOk result (λ read. IsNoteOf (O.file files.now) piece.now read.note) }
+    ensures err { IfErr result (RefusesPiece piece.now.file piece.now.first (O.file files.now piece.now.file)) }
+    ensures failed { IfErr result (NamesFailed (Fails O.R.failures)) }
+{
+    let path = piece.file();
+    let (collect, unread) = noting.into_parts();
+    let whole = match collect.into_piece(piece.rank(), piece.first()) {
+        Ok(whole) => whole,
+        Err(SegmentFault::Place) => {
+            return Err(RunFault::Place {
+                path: path.to_string(alloc)?,
+            });
+        }
+        Err(_) => return Err(RunFault::Memory),
+    };
+    let start = start_where(walked.calls, path, files);
+    let note = TextNote::new(
+        (piece.rank(), piece.first()),
+        path.to_string(alloc)?,
+        shown(alloc, path)?,
+        walked,
+        unread,
+        start,
+    );
+    Ok(NotedPiece { whole, note })
+}
+
 /// The events of a piece whole, none of a text without calls, and what is noted of its text. The buffer is one for all
 /// pieces.
-#[tactic(auto, using(crate::proofs::Opening::piece_unopened, crate::proofs::Opening::unopened_untold, crate::proofs::Told::walked_places_told, crate::proofs::Told::walk_told, crate::proofs::Notes::notes_told))]
+#[tactic(auto, using(crate::proofs::Opening::piece_unopened, crate::proofs::Opening::unopened_untold, crate::proofs::Told::walk_told))]
 pub(crate) fn noted_piece<O: Opener, V: Watcher>(
     alloc: Global,
     piece: &Piece,
@@ -83,37 +123,20 @@ pub(crate) fn noted_piece<O: Opener, V: Watcher>(
     };
     watcher.has_ended();
     watcher.has_read(path, &walked);
-    let (collect, unread) = noting.into_parts();
-    let whole = match collect.into_piece(piece.rank(), piece.first()) {
-        Ok(whole) => whole,
-        Err(SegmentFault::Place) => {
-            return Err(RunFault::Place {
-                path: path.to_string(alloc)?,
-            });
-        }
-        Err(_) => return Err(RunFault::Memory),
-    };
-    let start = start_where(walked.calls, path, files);
-    let note = TextNote::new(
-        (piece.rank(), piece.first()),
-        path.to_string(alloc)?,
-        shown(alloc, path)?,
-        walked,
-        unread,
-        start,
-    );
-    Ok(NotedPiece { whole, note })
+    noted_text(alloc, piece, noting, walked, files)
 }
 
 /// What the pieces tell together, as [`know_of`](crate::pieces::knowing::know_of) gathers it, and what is noted of
-/// their texts, in the order of the pieces.
+/// their texts, in the order of the pieces. Texts that were kept aren't read again.
 pub(crate) fn noted_of<G: Gatherer, O: Opener, V: Watcher>(
     run: &Run<'_, O>,
     pieces: &[Piece],
+    kept: Vec<Option<NotedRead>>,
     watcher: &mut V,
     gatherer: G,
 ) -> Result<(G, Vec<TextNote>), RunFault>
-    requires { G.known gatherer ≡ empty }
+    requires known { G.known gatherer ≡ empty }
+    requires kept { AreNotesGiven (O.file run.now.files.now) (Fails O.R.failures) pieces.now kept.items }
     ensures ok { IfOk result (λ read. IsKnown (O.file run.now.files.now) pieces.now (G.known read.0)) }
     ensures notes { IfOk result (λ read. AreNotesOf (O.file run.now.files.now) pieces.now read.1.items) }
     ensures inside { IfOk result (λ read. All (IsInside (O.file run.now.files.now) run.now.layout.now.ranks) pieces.now) }
@@ -125,7 +148,11 @@ pub(crate) fn noted_of<G: Gatherer, O: Opener, V: Watcher>(
     join_laws();
     view_laws();
     announce(pieces, run.files, watcher);
-    let given = notes_given(run.alloc, pieces, run.files, &*watcher)?;
+    let given = if kept.is_empty() {
+        notes_given(run.alloc, pieces, run.files, &*watcher)?
+    } else {
+        kept
+    };
     let mut given = given.into_iter();
     let mut know = gatherer;
     let mut buffer = Vec::new(run.alloc);
