@@ -7,6 +7,7 @@ pub mod ByRank
 pub mod Ended
 pub mod Endings
 pub mod GivenFacts
+pub mod Kept
 pub mod Looks
 pub mod Nodes
 pub mod Notes

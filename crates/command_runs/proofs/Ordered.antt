@@ -1,6 +1,6 @@
 -- Lists that grow by one.
-use Rattle.std.proofs.Common.{◌≡◌, ◌<◌, ◌≤◌, ◌++◌, ◌∷◌, [], ℕ, List, Option, Some, String, Global, get_or, length, map, option_map, string_bytes, subst, ap, ap₂, sym, ◌∙◌, refl}
-use Rattle.std.proofs.lemmas.List.{length-map}
+use Rattle.std.proofs.Common.{◌≡◌, ◌<◌, ◌≤◌, ◌++◌, ◌∷◌, [], ℕ, List, Option, Some, String, Global, get_or, length, map, option_map, string_bytes, subst, ap, ap₂, sym, take, ◌∙◌, refl, arith}
+use Rattle.std.proofs.lemmas.List.{length-map, length-take-le}
 use Rattle.std.proofs.lemmas.Option.{get_or_from_slice_get, slice_get-get_or, slice_get-map, slice_get_within}
 use Rattle.text_layouts.specs.Names.{IsByDigits, IsTwice, number_of, numbers_of}
 use Rattle.text_layouts.specs.Seats.{kept}
@@ -43,6 +43,10 @@ name_at names k name lt is = slice_get-map string_bytes names k ∙ ap (option_m
 -- the text of the rank of a place
 pub seat_at : (seats : List (Option (String Global))) (k : ℕ) (seat : Option (String Global)) → k < length seats → seat ≡ get_or seats k seat → slice_get (kept seats) k ≡ Some (option_map string_bytes seat)
 seat_at seats k seat lt is = slice_get-map (option_map string_bytes) seats k ∙ ap (option_map (option_map string_bytes)) (slice_get-get_or seats k seat lt ∙ ap Some (sym is))
+
+-- how many ranks are before one
+pub many_before : (place : ℕ) (seats : List (Option (String Global))) → place < length seats → length (kept (take place seats)) ≡ place
+many_before place seats lt = length-map (take place seats) (option_map string_bytes) ∙ length-take-le place seats (omega (arith, lt))
 
 -- how many names there are
 pub names_within : (names : List (String Global)) (words : List (List ℕ)) (most : ℕ) → map string_bytes names ≡ words → length names ≤ most → length words ≤ most

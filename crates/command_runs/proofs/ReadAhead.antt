@@ -30,10 +30,10 @@ segments_here file fails pieces place piece None is given = tt
 segments_here file fails pieces place piece (Some read) is given = subst (λ (p : PieceParts). IsSegmentRead file fails p read) (sym is) (given piece)
 
 -- what was read of the text of the rank of a place is that of this one
-pub text_here : (file : List ℕ → Option (List ℕ)) (seats : List (Option (String Global))) (place : ℕ) (seat : Option (String Global)) (read : Option TextRead)
-    → seat ≡ get_or seats place seat → IfSome read (IsTextGiven file seats place) → IfSome read (IsTextRead file (option_map string_bytes seat))
-text_here file seats place seat None is given = tt
-text_here file seats place seat (Some read) is given = subst (λ (s : Option (String Global)). IsTextRead file (option_map string_bytes s) read) (sym is) (given seat)
+pub text_here : (file : List ℕ → Option (List ℕ)) (fails : Type 0) (seats : List (Option (String Global))) (place : ℕ) (seat : Option (String Global)) (read : Option TextRead)
+    → seat ≡ get_or seats place seat → IfSome read (IsTextGiven file fails seats place) → IfSome read (IsTextRead file fails place (option_map string_bytes seat))
+text_here file fails seats place seat None is given = tt
+text_here file fails seats place seat (Some read) is given = subst (λ (s : Option (String Global)). IsTextRead file fails place (option_map string_bytes s) read) (sym is) (given seat)
 
 -- ---- what was read at a place
 
@@ -49,7 +49,7 @@ pub segment_given : (file : List ℕ → Option (List ℕ)) (fails : Type 0) (pi
     → piece ≡ get_or pieces place piece → place < length pieces → IsSegmentRead file fails piece read → IsSegmentGiven file fails pieces place read
 segment_given file fails pieces place piece read at lt is d = subst (λ (p : PieceParts). IsSegmentRead file fails p read) (at ∙ get_or_default pieces place piece d lt) is
 
-pub text_given : (file : List ℕ → Option (List ℕ)) (seats : List (Option (String Global))) (place : ℕ) (seat : Option (String Global)) (read : TextRead)
-    → seat ≡ get_or seats place seat → place < length seats → IsTextRead file (option_map string_bytes seat) read → IsTextGiven file seats place read
-text_given file seats place seat read at lt is d =
-    subst (λ (s : Option (String Global)). IsTextRead file (option_map string_bytes s) read) (at ∙ get_or_default seats place seat d lt) is
+pub text_given : (file : List ℕ → Option (List ℕ)) (fails : Type 0) (seats : List (Option (String Global))) (place : ℕ) (seat : Option (String Global)) (read : TextRead)
+    → seat ≡ get_or seats place seat → place < length seats → IsTextRead file fails place (option_map string_bytes seat) read → IsTextGiven file fails seats place read
+text_given file fails seats place seat read at lt is d =
+    subst (λ (s : Option (String Global)). IsTextRead file fails place (option_map string_bytes s) read) (at ∙ get_or_default seats place seat d lt) is

@@ -13,6 +13,7 @@ ghost use Rattle.command_runs.specs.InitAdvice.{IsInitShown};
 ghost use Rattle.command_runs.specs.InitFaults.{init_fault_line_of};
 ghost use Rattle.command_runs.specs.Inits.{EndsInit};
 ghost use Rattle.command_runs.specs.Inputs.{HasRank};
+ghost use Rattle.command_runs.specs.NotedReads.{AreNotesGiven};
 
 use crate::faults::advice::{is_in_words, shown_fault};
 use crate::faults::fault::{RunFault, fault_line};
@@ -26,10 +27,11 @@ use crate::load::folders::{borrowed, with_folders};
 use crate::load::input::{has_rank, input_at};
 use crate::load::no_text::no_text_of;
 use crate::load::opener::Opener;
-use crate::load::prepared::{Saying, prepare};
+use crate::load::prepared::{Prepared, Saying, prepare};
 use crate::load::telling::tell;
 use crate::load::watch::Watcher;
-use crate::run::{Outcome, Run, run_with};
+use crate::pieces::noted_reads::NotedRead;
+use crate::run::{Outcome, Run, run_kept};
 use crate::verbs::cluster::cluster;
 use crate::verbs::init::init;
 use command_line::{Asked, CommandFault, CommandLine, Verb, Verbosity, Wanted, command_of};
@@ -130,25 +132,28 @@ fn over_pair<O: Opener, V: Watcher, W: Write>(
     match input_at(alloc, verb.asked_rank(), layout, manifest, files) {
         Ok(input) => {
             let beside = Beside::new(alloc, files, manifest);
-            over_input(alloc, verb, &input, &beside, watcher, out)
+            let nothing = Vec::new(alloc);
+            over_input(alloc, verb, &input, nothing, &beside, watcher, out)
         }
         Err(fault) => showing(alloc, is_in_words(verb), &fault, files),
     }
 }
 
-/// Runs a verb over this input, whose files these are.
+/// Runs a verb over this input, whose files these are, and of whose pieces this was kept.
 fn over_input<O: Opener, V: Watcher, W: Write>(
     alloc: Global,
     verb: Verb,
     input: &RunInput,
+    kept: Vec<Option<NotedRead>>,
     files: &O,
     watcher: &mut V,
     out: &mut W,
 ) -> Result<Ending, AllocError>
     requires rank { HasRank (asked_rank verb) input.now.layout }
+    requires kept { AreNotesGiven (O.file files.now) (Fails O.R.failures) input.now.manifest.pieces kept.items }
     ensures { IfOk result (EndsRun (Fails O.R.failures) (O.file files.now) verb input.now.layout input.now.manifest W.written W.failures out.old out.new) }
 {
-    let ran = run_with(verb, &Run::new(alloc, input, files), watcher, out);
+    let ran = run_kept(verb, &Run::new(alloc, input, files), kept, watcher, out);
     ending_after(alloc, is_in_words(verb), ran, files)
 }
 
@@ -211,17 +216,43 @@ fn over_texts<R: Eprint, O: Opener, V: Watcher, W: Write>(
         let path = path.to_string(alloc)?;
         return showing_init(alloc, verb, &InitFault::Piped { path }, files);
     }
-    let prepared = match prepare(alloc, Saying::Words, Sends::Wait, texts, files) {
+    let keeps = keeps_events(verb, texts, files);
+    let prepared = match prepare(alloc, Saying::Words, Sends::Wait, texts, keeps, files) {
         Ok(prepared) => prepared,
         Err(fault) => return showing_init(alloc, verb, &fault, files),
     };
     tell(rt, alloc, verbosity, &prepared)?;
-    let input = &prepared.made.input;
+    let Prepared { made, kept, .. } = prepared;
+    let input = &made.input;
     if let Err(_outside) = has_rank(verb.asked_rank(), &input.layout) {
         let ranks = input.layout.ranks();
         return showing_init(alloc, verb, &InitFault::Outside { ranks }, files);
     }
-    over_input(alloc, verb, input, files, watcher, out)
+    over_input(alloc, verb, input, kept, files, watcher, out)
+}
+
+/// Texts of so many bytes together, and of no more, are read once: what they tell is kept until the layout is known.
+const MOST_KEPT: u64 = 1_073_741_824;
+
+/// Whether the verb says what holds up the run.
+fn is_diagnosis(verb: Verb) -> bool {
+    match verb {
+        Verb::Explain(_) | Verb::ExplainJson | Verb::ExplainRank(_) => true,
+        Verb::Graph(_) | Verb::Page => true,
+        _ => false,
+    }
+}
+
+/// Whether the events of these texts are kept while the layout is made, for a verb that needs all of them at once.
+fn keeps_events<O: Opener>(verb: Verb, texts: &[&str], files: &O) -> bool {
+    if !is_diagnosis(verb) {
+        return false;
+    }
+    let mut bytes: u64 = 0;
+    for path in texts {
+        bytes = bytes.saturating_add(files.length(path).unwrap_or(0));
+    }
+    bytes <= MOST_KEPT
 }
 
 /// Runs a cluster of a layout and a manifest, by the names of their files.

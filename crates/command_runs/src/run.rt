@@ -5,11 +5,13 @@ ghost use Rattle.dumpi_text.specs.Failing.{Fails};
 ghost use Rattle.command_line.specs.Program.{asked_rank};
 ghost use Rattle.command_runs.specs.Files.{NamesFailed};
 ghost use Rattle.command_runs.specs.Inputs.{HasRank};
+ghost use Rattle.command_runs.specs.NotedReads.{AreNotesGiven};
 ghost use Rattle.command_runs.specs.Verbs.{Ran};
 
 use crate::faults::fault::RunFault;
 use crate::load::opener::Opener;
 use crate::load::watch::Watcher;
+use crate::pieces::noted_reads::NotedRead;
 use crate::verbs::check::check;
 use crate::verbs::check_json::check_as_json;
 use crate::verbs::explain::{Printing, explain};
@@ -84,13 +86,31 @@ pub fn run_with<O: Opener, V: Watcher, W: Write>(
     ensures ran { Ran (O.file run.now.files.now) verb run.now.layout.now run.now.manifest.now result W.written W.failures out.old out.new }
     ensures failed { IfErr result (NamesFailed (Fails O.R.failures)) }
 {
+    let nothing = Vec::new(run.alloc);
+    run_kept(verb, run, nothing, watcher, out)
+}
+
+/// The same, where the events of the pieces may have been kept: then their texts aren't read again by a verb that says
+/// what holds up the run.
+pub(crate) fn run_kept<O: Opener, V: Watcher, W: Write>(
+    verb: Verb,
+    run: &Run<'_, O>,
+    kept: Vec<Option<NotedRead>>,
+    watcher: &mut V,
+    out: &mut W,
+) -> Result<Outcome, RunFault>
+    requires rank { HasRank (asked_rank verb) run.now.layout.now }
+    requires kept { AreNotesGiven (O.file run.now.files.now) (Fails O.R.failures) run.now.manifest.now.pieces kept.items }
+    ensures ran { Ran (O.file run.now.files.now) verb run.now.layout.now run.now.manifest.now result W.written W.failures out.old out.new }
+    ensures failed { IfErr result (NamesFailed (Fails O.R.failures)) }
+{
     keep_freed_memory(run.alloc);
     match verb {
-        Verb::Explain(extent) => explain(Printing::Words(extent), run, watcher, out),
-        Verb::ExplainJson => explain(Printing::Json, run, watcher, out),
-        Verb::ExplainRank(rank) => explain(Printing::Rank(rank), run, watcher, out),
-        Verb::Graph(extent) => explain(Printing::Picture(extent), run, watcher, out),
-        Verb::Page => page(run, watcher, out),
+        Verb::Explain(extent) => explain(Printing::Words(extent), run, kept, watcher, out),
+        Verb::ExplainJson => explain(Printing::Json, run, kept, watcher, out),
+        Verb::ExplainRank(rank) => explain(Printing::Rank(rank), run, kept, watcher, out),
+        Verb::Graph(extent) => explain(Printing::Picture(extent), run, kept, watcher, out),
+        Verb::Page => page(run, kept, watcher, out),
         Verb::Report => report(run, watcher, out),
         Verb::ReportJson => report_as_json(run, watcher, out),
         Verb::Replay => replay(run, watcher, out),

@@ -46,9 +46,9 @@ pub fn rank_calls_with<R: Read, S: CallSink<Fault = Memory>>(
     ensures failure { IfErr result (λ fault. IsReadStop fault.cause → FailsIn R.left R.failures reader fault.calls fault.line) }
 {
     calls_read_in_turn();
-    let mut read = CommCalls::new(alloc);
-    match walk_both(alloc, reader, sink, &mut read, buffer) {
-        Ok(walked) => Ok((read.into_rank_calls(), walked)),
-        Err(fault) => Err(fault),
+    let mut said = CommCalls::new(alloc);
+    match walk_both(alloc, reader, sink, &mut said, buffer) {
+        Ok(walked) => Ok((said.into_rank_calls(), walked)),
+        Err(stopped) => Err(stopped),
     }
 }

@@ -4,13 +4,16 @@ ghost use Rattle.std.specs.Prelude.{◌≡◌, ◌<◌, ◌≤◌, IfErr, IfOk, 
 ghost use Rattle.std.specs.List.{All};
 ghost use Rattle.mpi_model.specs.declared.layout.TheConstants.{MOST_RANKS};
 ghost use Rattle.call_words.specs.Texts.{Adds};
+ghost use Rattle.dumpi_text.specs.Failing.{Fails};
 ghost use Rattle.command_line.specs.Program.{texts_of};
 ghost use Rattle.text_layouts.specs.Seats.{kept};
+ghost use Rattle.command_runs.specs.NotedReads.{AreNotesGiven};
 ghost use Rattle.command_runs.specs.Prepared.{AreAt, IsByRank, IsPrepared, IsPreparedBy, RefusesNames, RefusesSaid, RefusesWords, digits_text, form_of, said_text, words_text};
 
 use crate::faults::init_fault::InitFault;
 use crate::load::opener::Opener;
 use crate::load::texts::{AllCalls, calls_of_all};
+use crate::pieces::noted_reads::NotedRead;
 use call_words::Text;
 use mpi_model::{MOST_RANKS, Sends};
 use std::alloc::{AllocError, Global};
@@ -38,6 +41,8 @@ pub(crate) struct Prepared {
     pub(crate) notes: Vec<u8>,
     /// How many calls the texts have, up to 2^64 - 1.
     pub(crate) calls: u64,
+    /// The events of the pieces and what is noted of their texts, where that was kept.
+    pub(crate) kept: Vec<Option<NotedRead>>,
 }
 
 /// Copies of the words, as names that faults may keep.
@@ -135,11 +140,12 @@ fn prepared_by(
     sends: Sends,
     seats: &[Option<String>],
     by_digits: bool,
-    all: &AllCalls,
+    all: AllCalls,
 ) -> Result<Prepared, InitFault>
     requires { length seats.now ≤ MOST_RANKS }
-    ensures made { IfOk result (λ p. IsPreparedBy (form_of saying.entry) sends (kept seats.now) by_digits all.now.ranks.items all.now.calls p.made p.notes.items) }
-    ensures err { IfErr result (RefusesSaid all.now.ranks.items) }
+    ensures made { IfOk result (λ p. IsPreparedBy (form_of saying.entry) sends (kept seats.now) by_digits all.ranks.items all.calls p.made p.notes.items) }
+    ensures kept { IfOk result (λ p. p.kept ≡ all.kept) }
+    ensures err { IfErr result (RefusesSaid all.ranks.items) }
 {
     let texts = texts_of(alloc, seats)?;
     let missing = missing_of(alloc, seats)?;
@@ -153,29 +159,35 @@ fn prepared_by(
         missing,
         notes,
         calls: all.calls,
+        kept: all.kept,
     })
 }
 
 /// The input of the run of these texts, rank 0 first, or by the digits at the ends of their names where those are 0 to
-/// n - 1. Each text is read once, and once more where some rank has none: then the digits tell the ranks.
+/// n - 1. Each text is read once, and once more where some rank has none: then the digits tell the ranks. Their events
+/// are kept, where that is wanted.
 pub(crate) fn prepare<O: Opener>(
     alloc: Global,
     saying: Saying<'_>,
     sends: Sends,
     words: &[&str],
+    keeps: bool,
     files: &O,
 ) -> Result<Prepared, InitFault>
     ensures made { IfOk result (λ p. IsPrepared (O.file files.now) (form_of saying.entry) sends (texts_of words.now) p.made p.notes.items) }
+    ensures kept { IfOk result (λ p. AreNotesGiven (O.file files.now) (Fails O.R.failures) p.made.input.manifest.pieces p.kept.items) }
     ensures err { IfErr result (RefusesWords (O.file files.now) (texts_of words.now)) }
 {
     let (texts, by_digits) = by_rank(alloc, words)?;
     let ordered = in_order(alloc, &texts)?;
-    let all = calls_of_all(alloc, &ordered, files)?;
+    let all = calls_of_all(alloc, &ordered, keeps, files)?;
     match seats_of(alloc, &texts, &all.ranks)? {
-        None => prepared_by(alloc, saying, sends, &ordered, by_digits, &all),
+        None => prepared_by(alloc, saying, sends, &ordered, by_digits, all),
         Some(seats) => {
-            let spread = calls_of_all(alloc, &seats, files)?;
-            prepared_by(alloc, saying, sends, &seats, true, &spread)
+            // (what was kept is that of other ranks)
+            drop(all);
+            let spread = calls_of_all(alloc, &seats, keeps, files)?;
+            prepared_by(alloc, saying, sends, &seats, true, spread)
         }
     }
 }

@@ -23,7 +23,7 @@ use crate::load::watch::{Watcher, announce};
 use crate::load::watched::Watched;
 use crate::pieces::gatherer::Gatherer;
 use crate::pieces::knowing::{take_whole, with_stranger};
-use crate::pieces::noted_reads::{NotedRead, noted_here, notes_given};
+use crate::pieces::noted_reads::{NotedRead, noted_here, notes_ahead};
 use crate::pieces::piece::fault_of_walk;
 use crate::run::Run;
 use dumpi_calls::{Walked, walk_with_buffer, whole_texts};
@@ -148,11 +148,7 @@ pub(crate) fn noted_of<G: Gatherer, O: Opener, V: Watcher>(
     join_laws();
     view_laws();
     announce(pieces, run.files, watcher);
-    let given = if kept.is_empty() {
-        notes_given(run.alloc, pieces, run.files, &*watcher)?
-    } else {
-        kept
-    };
+    let given = notes_ahead(run.alloc, pieces, kept, run.files, &*watcher)?;
     let mut given = given.into_iter();
     let mut know = gatherer;
     let mut buffer = Vec::new(run.alloc);

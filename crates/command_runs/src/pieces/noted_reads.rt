@@ -2,9 +2,10 @@
 
 ghost use Rattle.std.specs.Prelude.{IfErr, IfOk, IfSome, length};
 ghost use Rattle.dumpi_text.specs.Failing.{Fails};
+ghost use Rattle.run_files.specs.Manifests.{whole_text};
 ghost use Rattle.command_runs.specs.Files.{NamesFailed};
 ghost use Rattle.command_runs.specs.NotedReads.{AreNotesGiven, IsNotedGiven, IsNotedRead};
-ghost use Rattle.command_runs.specs.Notes.{IsNoteOf};
+ghost use Rattle.command_runs.specs.Notes.{IsNoteOf, IsNotedText};
 ghost use Rattle.command_runs.specs.Pieces.{AreFactsOf, RefusesPiece, facts_of_piece};
 
 use crate::faults::fault::RunFault;
@@ -12,11 +13,12 @@ use crate::jobs::{Jobs, given_by};
 use crate::load::opener::Opener;
 use crate::load::tally::{Tally, tell_walked};
 use crate::load::watch::Watcher;
-use crate::pieces::noted::{NotedPiece, noted_piece};
+use crate::pieces::noted::{NotedPiece, noted_piece, noted_text};
 use crate::pieces::reads::size_of;
 use dumpi_calls::Walked;
 use run_files::Piece;
 use std::alloc::{AllocError, Global};
+use text_notes::Noting;
 
 /// A piece with notes of its text, or why it is refused, and how its text was walked.
 #[derive(Drop)]
@@ -97,6 +99,50 @@ pub(crate) fn notes_given<O: Opener, V: Watcher>(
         watcher,
     };
     given_by(files.handle(), alloc, files.threads(), &jobs)
+}
+
+/// Whether no text was kept.
+fn is_nothing(kept: &[Option<NotedRead>]) -> bool {
+    kept.iter().all(|one| one.is_none())
+}
+
+/// Texts of these pieces that were kept, or else what threads read of them now.
+pub(crate) fn notes_ahead<O: Opener, V: Watcher>(
+    alloc: Global,
+    pieces: &[Piece],
+    kept: Vec<Option<NotedRead>>,
+    files: &O,
+    watcher: &V,
+) -> Result<Vec<Option<NotedRead>>, AllocError>
+    requires { AreNotesGiven (O.file files.now) (Fails O.R.failures) pieces.now kept.items }
+    ensures { IfOk result (λ given. AreNotesGiven (O.file files.now) (Fails O.R.failures) pieces.now given.items) }
+{
+    if is_nothing(&kept) {
+        return notes_given(alloc, pieces, files, watcher);
+    }
+    Ok(kept)
+}
+
+/// The whole text of a rank by what a walk over it has left, to be gathered later; `None` where memory is refused.
+pub(crate) fn kept_text<O: Opener>(
+    alloc: Global,
+    rank: u32,
+    path: &str,
+    noting: Noting,
+    walked: Walked,
+    files: &O,
+) -> Option<NotedRead>
+    requires { IsNotedText (O.file files.now path.now) noting walked }
+    ensures { IfSome result (IsNotedRead (O.file files.now) (Fails O.R.failures) (whole_text rank path.now)) }
+{
+    let piece = Piece::whole(rank, path.to_string(alloc).ok()?);
+    let noted = noted_text(alloc, &piece, noting, walked, files).ok()?;
+    let mut walks = Vec::new(alloc);
+    walks.push(walked).ok()?;
+    Some(NotedRead {
+        piece: Ok(noted),
+        walked: walks,
+    })
 }
 
 /// A piece with notes of its text: what a thread read of it, or else it is read now. The buffer is one for all pieces.

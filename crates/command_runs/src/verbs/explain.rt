@@ -4,6 +4,7 @@ ghost use Rattle.std.specs.Prelude.{◌≡◌, false, IfErr, IfOk, OnOk};
 ghost use Rattle.dumpi_text.specs.Failing.{Fails};
 ghost use Rattle.command_runs.specs.Explains.{IsExplainOf, IsNotedNodeOf};
 ghost use Rattle.command_runs.specs.Files.{NamesFailed};
+ghost use Rattle.command_runs.specs.NotedReads.{AreNotesGiven};
 ghost use Rattle.command_runs.specs.Refusals.{RefusesNamed};
 ghost use Rattle.command_runs.specs.Said.{IsDiagnosed};
 ghost use Rattle.command_runs.specs.Verbs.{RanSo};
@@ -13,6 +14,7 @@ use crate::load::opener::Opener;
 use crate::load::watch::Watcher;
 use crate::pieces::gatherer::Gathered;
 use crate::pieces::noted::noted_of;
+use crate::pieces::noted_reads::NotedRead;
 use crate::pieces::packed::{joined, packed_of};
 use crate::run::{Outcome, Run};
 use crate::verbs::answerer::Answerer;
@@ -56,14 +58,16 @@ fn asked_of(printing: Printing) -> Option<u32> {
 pub(crate) fn explain<O: Opener, V: Watcher, W: Write>(
     printing: Printing,
     run: &Run<'_, O>,
+    kept: Vec<Option<NotedRead>>,
     watcher: &mut V,
     out: &mut W,
 ) -> Result<Outcome, RunFault>
+    requires { AreNotesGiven (O.file run.now.files.now) (Fails O.R.failures) run.now.manifest.now.pieces kept.items }
     ensures ran { RanSo (IsExplainOf (O.file run.now.files.now) run.now.layout.now run.now.manifest.now) (IsExplainOf (O.file run.now.files.now) run.now.layout.now run.now.manifest.now)
         (RefusesNamed (O.file run.now.files.now) run.now.layout.now.ranks run.now.manifest.now) result W.written W.failures out.old out.new }
     ensures failed { IfErr result (NamesFailed (Fails O.R.failures)) }
 {
-    let text = text_with(printing, run, watcher)?;
+    let text = text_with(printing, run, kept, watcher)?;
     write_text(&text, out)
 }
 
@@ -71,13 +75,15 @@ pub(crate) fn explain<O: Opener, V: Watcher, W: Write>(
 pub(crate) fn text_with<O: Opener, V: Watcher>(
     printing: Printing,
     run: &Run<'_, O>,
+    kept: Vec<Option<NotedRead>>,
     watcher: &mut V,
 ) -> Result<Vec<u8>, RunFault>
+    requires { AreNotesGiven (O.file run.now.files.now) (Fails O.R.failures) run.now.manifest.now.pieces kept.items }
     ensures ok { IfOk result (λ text. IsExplainOf (O.file run.now.files.now) run.now.layout.now run.now.manifest.now text.items) }
     ensures err { IfErr result (RefusesNamed (O.file run.now.files.now) run.now.layout.now.ranks run.now.manifest.now) }
     ensures failed { IfErr result (NamesFailed (Fails O.R.failures)) }
 {
-    let (node, notes) = noted_node(run, watcher)?;
+    let (node, notes) = noted_node(run, kept, watcher)?;
     let text = diagnosed(printing, run.alloc, run.layout, node, notes, run.files)?;
     Ok(text)
 }
@@ -85,15 +91,17 @@ pub(crate) fn text_with<O: Opener, V: Watcher>(
 /// The node of the layout that knows all that the pieces tell, and what is noted of their texts.
 fn noted_node<'a, O: Opener, V: Watcher>(
     run: &Run<'a, O>,
+    kept: Vec<Option<NotedRead>>,
     watcher: &mut V,
 ) -> Result<(Node<'a>, Vec<TextNote>), RunFault>
+    requires { AreNotesGiven (O.file run.now.files.now) (Fails O.R.failures) run.now.manifest.now.pieces kept.items }
     ensures ok { IfOk result (λ noted. IsNotedNodeOf (O.file run.now.files.now) run.now.layout.now run.now.manifest.now noted.0 noted.1.items) }
     ensures err { IfErr result (RefusesNamed (O.file run.now.files.now) run.now.layout.now.ranks run.now.manifest.now) }
     ensures failed { IfErr result (NamesFailed (Fails O.R.failures)) }
 {
     let packed = packed_of(run, run.manifest.packed())?;
     let nothing = Gathered::new(run.alloc, run.layout);
-    let (gathered, notes) = noted_of(run, run.manifest.pieces(), watcher, nothing)?;
+    let (gathered, notes) = noted_of(run, run.manifest.pieces(), kept, watcher, nothing)?;
     let texts = gathered.know.into_knowledge()?;
     let know = joined(run.layout, packed, texts)?;
     let node = node_with(run.alloc, run.layout, know)?;

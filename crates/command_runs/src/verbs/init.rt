@@ -107,7 +107,7 @@ pub(crate) fn init<O: Opener, S: Store, W: Write>(
         (HasFailed (S.failures store.old) (S.failures store.new)) result W.written W.failures out.old out.new }
 {
     let saying = saying_of(wanted);
-    let prepared = prepare(alloc, saying, wanted.sends, texts, files)?;
+    let prepared = prepare(alloc, saying, wanted.sends, texts, false, files)?;
     let both = files_of(alloc, &prepared)?;
     // (what a fault names, before anything is kept)
     let (layout, manifest) = names_of(alloc, wanted)?;

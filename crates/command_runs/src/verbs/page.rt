@@ -3,6 +3,7 @@
 ghost use Rattle.std.specs.Prelude.{IfErr, IfOk};
 ghost use Rattle.dumpi_text.specs.Failing.{Fails};
 ghost use Rattle.command_runs.specs.Files.{NamesFailed};
+ghost use Rattle.command_runs.specs.NotedReads.{AreNotesGiven};
 ghost use Rattle.command_runs.specs.Pages.{IsPageOf};
 ghost use Rattle.command_runs.specs.Refusals.{RefusesNamed};
 ghost use Rattle.command_runs.specs.Verbs.{RanSo};
@@ -10,6 +11,7 @@ ghost use Rattle.command_runs.specs.Verbs.{RanSo};
 use crate::faults::fault::RunFault;
 use crate::load::opener::Opener;
 use crate::load::watch::Watcher;
+use crate::pieces::noted_reads::NotedRead;
 use crate::run::{Outcome, Run};
 use crate::verbs::explain::{Printing, text_with};
 use crate::verbs::writing::write_text;
@@ -19,24 +21,31 @@ use page_words::page_of;
 /// Writes what holds up the run as a page: the template around what `explain --json` writes.
 pub(crate) fn page<O: Opener, V: Watcher, W: Write>(
     run: &Run<'_, O>,
+    kept: Vec<Option<NotedRead>>,
     watcher: &mut V,
     out: &mut W,
 ) -> Result<Outcome, RunFault>
+    requires { AreNotesGiven (O.file run.now.files.now) (Fails O.R.failures) run.now.manifest.now.pieces kept.items }
     ensures ran { RanSo (IsPageOf (O.file run.now.files.now) run.now.layout.now run.now.manifest.now) (IsPageOf (O.file run.now.files.now) run.now.layout.now run.now.manifest.now)
         (RefusesNamed (O.file run.now.files.now) run.now.layout.now.ranks run.now.manifest.now) result W.written W.failures out.old out.new }
     ensures failed { IfErr result (NamesFailed (Fails O.R.failures)) }
 {
-    let text = page_with(run, watcher)?;
+    let text = page_with(run, kept, watcher)?;
     write_text(&text, out)
 }
 
 /// The page of what holds up the run.
-fn page_with<O: Opener, V: Watcher>(run: &Run<'_, O>, watcher: &mut V) -> Result<Vec<u8>, RunFault>
+fn page_with<O: Opener, V: Watcher>(
+    run: &Run<'_, O>,
+    kept: Vec<Option<NotedRead>>,
+    watcher: &mut V,
+) -> Result<Vec<u8>, RunFault>
+    requires { AreNotesGiven (O.file run.now.files.now) (Fails O.R.failures) run.now.manifest.now.pieces kept.items }
     ensures ok { IfOk result (λ text. IsPageOf (O.file run.now.files.now) run.now.layout.now run.now.manifest.now text.items) }
     ensures err { IfErr result (RefusesNamed (O.file run.now.files.now) run.now.layout.now.ranks run.now.manifest.now) }
     ensures failed { IfErr result (NamesFailed (Fails O.R.failures)) }
 {
-    let json = text_with(Printing::Json, run, watcher)?;
+    let json = text_with(Printing::Json, run, kept, watcher)?;
     let page = page_of(run.alloc, &json)?;
     Ok(page)
 }

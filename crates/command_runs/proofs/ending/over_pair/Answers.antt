@@ -1,14 +1,21 @@
-use Rattle.std.proofs.Common.{ℕ, List, Option, ap, inl, inr, subst}
+use Rattle.std.proofs.Common.{ℕ, List, Option, ap, inl, inr, subst, sym}
 use Rattle.std.proofs.lemmas.Result.{IfOk-weaker}
 use Rattle.command_line.specs.Program.{asked_rank}
 use Rattle.command_runs.specs.Endings.{EndsRun}
+use Rattle.dumpi_text.specs.Failing.{Fails}
 use Rattle.command_runs.specs.Inputs.{HasRank, RefusesLoading}
+use Rattle.command_runs.specs.NotedReads.{AreNotesGiven}
+use Rattle.command_runs.specs.declared.pieces.noted_reads.NotedRead.{NotedRead}
 use Rattle.command_runs.proofs.Endings.{if_both, shown_so}
 use Rattle.command_runs.proofs.ending.over_pair.Goals as goal
 
 pub over_input-requires : goal.over_input-requires
 over_input-requires g c =
-    let has : HasRank (asked_rank c.args.verb) c.in-Ok.input.layout = rw c.asked_rank.ensures at c.in-Ok.ensures.rank in has
+    let has : HasRank (asked_rank c.args.verb) c.in-Ok.input.layout = rw c.asked_rank.ensures at c.in-Ok.ensures.rank in
+    record {
+      rank = has;
+      kept = subst (λ (l : List (Option NotedRead)). AreNotesGiven (g.O.Opener.file c.new-beside.result.files.now) (Fails g.O.R.Read.failures) c.in-Ok.input.manifest.pieces l) (sym c.new-nothing.ensures.items) tt;
+    }
 
 pub returns-in-Ok : goal.returns-in-Ok
 returns-in-Ok g c =

@@ -15,7 +15,7 @@ returns-in-Err-clause-err c =
 pub returns-clause-made : goal.returns-clause-made
 returns-clause-made c =
     let made = c.in-Ok.made in
-    let ranks = c.args.all.now.ranks.items in
+    let ranks = c.args.all.ranks.items in
     let are : c.deref.result.now ≡ ranks = c.deref.ensures.value in
     let layout : Holds (length ranks) made.derived.world c.args.sends made.derived.comms.items made.input.layout =
     subst (λ (rs : List RankCalls). Holds (length rs) made.derived.world c.args.sends made.derived.comms.items made.input.layout) are c.in-Ok.ensures.layout in
@@ -23,7 +23,7 @@ returns-clause-made c =
     subst (λ (rs : List RankCalls). AreObjectsOf c.args.sends rs made.derived.comms.items) are c.in-Ok.ensures.objects in
     let seats = kept c.args.seats.now in
     let missing : c.deref-2.result.now ≡ missing_from 0 seats = c.deref-2.ensures.value ∙ c.in_ok-missing.ensures in
-    let rest = λ (m : List ℕ) (n : ℕ). said_text (form_of c.args.saying) c.args.by_digits m n c.args.all.now.calls made in (
+    let rest = λ (m : List ℕ) (n : ℕ). said_text (form_of c.args.saying) c.args.by_digits m n c.args.all.calls made in (
       record {
         world = c.in-Ok.ensures.world ∙ ap world_of are;
         objects = objects;

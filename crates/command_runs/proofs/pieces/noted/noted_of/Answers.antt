@@ -22,9 +22,9 @@ use Rattle.command_runs.proofs.pieces.noted.noted_of.Goals as goal
 
 pub loop-piece-init : goal.loop-piece-init
 loop-piece-init g c = record {
-  known = ([], refl, c.requires);
+  known = ([], refl, c.requires.known);
   outside = search rules;
-  within = λ _. within_nothing c.args.run.now.layout.now _ c.requires;
+  within = λ _. within_nothing c.args.run.now.layout.now _ c.requires.known;
   layout = refl;
   notes = c.new-notes.ensures.items;
   given = subst (λ (l : List (Option NotedRead)). AreNotesGiven (g.O.Opener.file c.args.run.now.files.now) (Fails g.O.R.Read.failures) c.args.pieces.now l) (sym c.into_iter-given.ensures.rest) c.in_ok-given.ensures;
