@@ -173,7 +173,7 @@ fn with_job<J: Jobs>(
     if J::refuses(&given) {
         turns.refuse(number);
     }
-    let _ = done.push(Done { number, given });
+    done.push_reserved(Done { number, given });
     done
 }
 
