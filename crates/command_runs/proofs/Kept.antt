@@ -1,5 +1,5 @@
 -- What was kept of texts, as what is read of the pieces that they make.
-use Rattle.std.proofs.Common.{◌≡◌, ◌∙◌, ◌+◌, ◌++◌, ◌∷◌, [], ℕ, Bool, Global, List, Option, None, Some, Result, Ok, Err, Vec, IfOk, IfSome, ap, get_or, length, length-append, append_assoc, refl, subst, sym, arith}
+use Rattle.std.proofs.Common.{◌≡◌, ◌∙◌, ◌+◌, ◌++◌, ◌∷◌, [], ℕ, Bool, List, Option, None, Some, Result, Ok, Err, IfOk, IfSome, ap, get_or, length, length-append, append_assoc, refl, subst, sym, arith}
 use Rattle.mpi_model.specs.declared.layout.Sends.{Sends}
 use Rattle.comm_makings.specs.declared.calls.RankCalls.{RankCalls}
 use Rattle.run_files.specs.Manifests.{ManifestParts, PieceParts, whole_text}
@@ -78,10 +78,10 @@ pub given_kept : (file : List ℕ → Option (List ℕ)) (fails : Type 0) (seats
 given_kept file fails seats kept are = given_behind file fails 0 seats kept [] are
 
 -- of what was prepared
-pub kept_made : (file : List ℕ → Option (List ℕ)) (fails : Type 0) (form : Form) (sends : Sends) (seats : List (Option (List ℕ))) (by_digits : Bool) (ranks : List RankCalls) (calls : ℕ) (result : Result Prepared InitFault) (all : Vec (Option NotedRead) Global)
-    → AreKept file fails 0 seats all.items → IfOk result (λ p. IsPreparedBy form sends seats by_digits ranks calls p.made p.notes.items) → IfOk result (λ p. p.kept ≡ all)
+pub kept_made : (file : List ℕ → Option (List ℕ)) (fails : Type 0) (form : Form) (sends : Sends) (seats : List (Option (List ℕ))) (by_digits : Bool) (ranks : List RankCalls) (calls : ℕ) (result : Result Prepared InitFault) (all : List (Option NotedRead))
+    → AreKept file fails 0 seats all → IfOk result (λ p. IsPreparedBy form sends seats by_digits ranks calls p.made p.notes.items) → IfOk result (λ p. p.kept.items ≡ all)
     → IfOk result (λ p. AreNotesGiven file fails p.made.input.manifest.pieces p.kept.items)
 kept_made file fails form sends seats by_digits ranks calls (Err fault) all are made same = tt
 kept_made file fails form sends seats by_digits ranks calls (Ok p) all are made same =
     subst (λ (m : ManifestParts). AreNotesGiven file fails m.pieces p.kept.items) (sym made.0.manifest)
-    (subst (λ (v : Vec (Option NotedRead) Global). AreNotesGiven file fails (texts_from 0 seats) v.items) (sym same) (given_kept file fails seats all.items are))
+    (subst (λ (l : List (Option NotedRead)). AreNotesGiven file fails (texts_from 0 seats) l) (sym same) (given_kept file fails seats all are))

@@ -144,7 +144,7 @@ fn prepared_by(
 ) -> Result<Prepared, InitFault>
     requires { length seats.now ≤ MOST_RANKS }
     ensures made { IfOk result (λ p. IsPreparedBy (form_of saying.entry) sends (kept seats.now) by_digits all.ranks.items all.calls p.made p.notes.items) }
-    ensures kept { IfOk result (λ p. p.kept ≡ all.kept) }
+    ensures kept { IfOk result (λ p. p.kept.items ≡ all.kept.items) }
     ensures err { IfErr result (RefusesSaid all.ranks.items) }
 {
     let texts = texts_of(alloc, seats)?;
@@ -154,12 +154,13 @@ fn prepared_by(
         Err(fault) => return Err(InitFault::Made(fault)),
     };
     let notes = notes_of(alloc, saying, by_digits, &missing, all.calls, &made)?;
+    let AllCalls { calls, kept, .. } = all;
     Ok(Prepared {
         made,
         missing,
         notes,
-        calls: all.calls,
-        kept: all.kept,
+        calls,
+        kept,
     })
 }
 

@@ -83,15 +83,20 @@ fn read_once<O: Opener>(
     ensures { IsTextRead (O.file files.now) (Fails O.R.failures) rank (Some path.now) result }
 {
     let mut noting = Noting::new(alloc);
-    match calls_with(alloc, path, files, &mut noting, buffer) {
-        Ok((calls, walked)) => TextRead {
-            calls: Ok((calls, walked.calls)),
-            kept: kept_text(alloc, rank, path, noting, walked, files),
-        },
-        Err(fault) => TextRead {
-            calls: Err(fault),
-            kept: None,
-        },
+    let (calls, walked) = match calls_with(alloc, path, files, &mut noting, buffer) {
+        Ok(read) => read,
+        Err(fault) => {
+            return TextRead {
+                calls: Err(fault),
+                kept: None,
+            };
+        }
+    };
+    let count = walked.calls;
+    let kept = kept_text(alloc, rank, path, noting, walked, files);
+    TextRead {
+        calls: Ok((calls, count)),
+        kept,
     }
 }
 

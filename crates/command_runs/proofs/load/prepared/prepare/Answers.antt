@@ -42,7 +42,7 @@ returns-in-None g c =
       made = IfOk-weaker c.prepared_by.result _ _ (λ p h. prepared_so file (form_of c.args.saying) c.args.sends words by_digits read told.0 c.in_ok-all.all.calls (in_order names) p.made p.notes.items seated
           (told_by_names (told_size read) names by_digits none) say told.2
           (subst (λ (ss : List (Option (List ℕ))). IsPreparedBy (form_of c.args.saying) c.args.sends ss by_digits read c.in_ok-all.all.calls p.made p.notes.items) (ap kept c.deref-in-None.ensures.value ∙ ordered) h)) c.prepared_by.ensures.made;
-      kept = kept_made file (Fails g.O.R.Read.failures) (form_of c.args.saying) c.args.sends (kept c.deref-in-None.result.now) by_digits c.in_ok-all.all.ranks.items c.in_ok-all.all.calls c.prepared_by.result c.in_ok-all.all.kept
+      kept = kept_made file (Fails g.O.R.Read.failures) (form_of c.args.saying) c.args.sends (kept c.deref-in-None.result.now) by_digits c.in_ok-all.all.ranks.items c.in_ok-all.all.calls c.prepared_by.result c.in_ok-all.all.kept.items
           (subst (λ (ss : List (Option (String Global))). AreKept file (Fails g.O.R.Read.failures) 0 (kept ss) c.in_ok-all.all.kept.items) (c.deref-2.ensures.value ∙ sym c.deref-in-None.ensures.value) c.in_ok-all.ensures.kept)
           c.prepared_by.ensures.made c.prepared_by.ensures.kept;
       err = IfErr-weaker c.prepared_by.result _ _ (λ fault h. said_refused file words (in_order names) read told.0 fault seated say h) c.prepared_by.ensures.err;
@@ -91,7 +91,7 @@ returns-in_ok-spread g c =
       made = IfOk-weaker c.prepared_by-in-Some.result _ _ (λ p h. prepared_so file (form_of c.args.saying) c.args.sends words true of.ranks.items again.0 of.calls seats p.made p.notes.items seated
           (told_by_numbers (told_size read) names c.in_ok-texts.by_digits c.in-Some.seats.items spread) says again.2
           (subst (λ (ss : List (Option (String Global))). IsPreparedBy (form_of c.args.saying) c.args.sends (kept ss) true of.ranks.items of.calls p.made p.notes.items) c.deref-in-Some-2.ensures.value h)) c.prepared_by-in-Some.ensures.made;
-      kept = kept_made file (Fails g.O.R.Read.failures) (form_of c.args.saying) c.args.sends (kept c.deref-in-Some-2.result.now) true of.ranks.items of.calls c.prepared_by-in-Some.result of.kept
+      kept = kept_made file (Fails g.O.R.Read.failures) (form_of c.args.saying) c.args.sends (kept c.deref-in-Some-2.result.now) true of.ranks.items of.calls c.prepared_by-in-Some.result of.kept.items
           (subst (λ (ss : List (Option (String Global))). AreKept file (Fails g.O.R.Read.failures) 0 (kept ss) of.kept.items) (c.deref-in-Some.ensures.value ∙ sym c.deref-in-Some-2.ensures.value) c.in_ok-spread.ensures.kept)
           c.prepared_by-in-Some.ensures.made c.prepared_by-in-Some.ensures.kept;
       err = IfErr-weaker c.prepared_by-in-Some.result _ _ (λ fault h. said_refused file words seats of.ranks.items again.0 fault seated says h) c.prepared_by-in-Some.ensures.err;
