@@ -1,11 +1,13 @@
 -- Names, byte by byte.
-use Rattle.std.proofs.Common.{◌≡◌, ◌≢◌, ◌&&◌, ℕ, suc, Bool, true, false, List, [], ◌∷◌, length, take, Some, ap, refl, nat_eq, arith, ◌∙◌}
+use Rattle.std.proofs.Common.{◌≡◌, ◌≢◌, ◌&&◌, ℕ, suc, Bool, true, false, List, [], ◌∷◌, ◌++◌, length, take, Some, ap, refl, sym, nat_eq, arith, ◌∙◌}
 use Rattle.std.specs.Str.{bytes_eq}
-use Rattle.std.proofs.lemmas.List.{take_all}
+use Rattle.std.proofs.lemmas.List.{append-nil, take_all}
 use Rattle.std.proofs.lemmas.Slice.Eq.{bytes_eq-Decides}
 use Rattle.dumpi_text.specs.Call.{same_bytes}
 use Rattle.dumpi_text.specs.Number.{note_front}
 use Rattle.dumpi_text.specs.declared.number.NumName.{NumName}
+use Rattle.dumpi_calls.specs.Rows.{function_named}
+use Rattle.dumpi_calls.specs.declared.function.Function.{Function}
 
 -- byte strings of different lengths differ
 pub not_as_long : (xs ys : List ℕ) → length xs ≢ length ys → bytes_eq xs ys ≡ false
@@ -29,3 +31,7 @@ same_test (x ∷ xs) (y ∷ ys) = ap (λ (others : Bool). nat_eq x y && others) 
 -- a note that is all of a known text
 pub noted : (rest word : List ℕ) (name : NumName) → bytes_eq rest word ≡ true → note_front (40 ∷ word) ≡ Some (name, []) → note_front (40 ∷ rest) ≡ Some (name, [])
 noted rest word name same is = ap (λ (t : List ℕ). note_front (40 ∷ t)) ((bytes_eq-Decides rest word).0 same) ∙ is
+
+-- a name that is one that was read, with nothing behind it, names the same function
+pub named_alike : (known name rest : List ℕ) (function : Function) → name ≡ known ++ rest → rest ≡ [] → function ≡ function_named known → function ≡ function_named name
+named_alike known name rest function whole none is = is ∙ ap function_named (sym (whole ∙ ap (λ (r : List ℕ). known ++ r) none ∙ append-nil known))

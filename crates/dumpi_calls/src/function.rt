@@ -2,9 +2,8 @@
 
 ghost use Rattle.std.specs.Prelude.{◌≡◌, true, false};
 ghost use Rattle.std.specs.Str.{bytes_eq};
-ghost use Rattle.dumpi_calls.specs.Rows.{called_of, collective_named, completion_named, ending_named, first_called, function_in, function_named, function_of_called, init_named, is_called, is_long_init, is_long_receive, is_long_send, is_unread_name, isend_named, matched_named, message_named, other_named, persistent_named, receive_named, send_named, short_name, start_named, test_named, unread_named};
+ghost use Rattle.dumpi_calls.specs.Rows.{called_of, collective_named, completion_named, ending_named, first_called, function_named, function_of_called, init_named, is_called, is_long_init, is_long_receive, is_long_send, is_unread_name, isend_named, matched_named, message_named, other_named, persistent_named, receive_named, send_named, short_name, start_named, test_named, unread_named};
 
-use dumpi_text::RawCall;
 use mpi_model::{CollectiveFunction, Kind, Mode};
 
 /// A function of MPI, as the walk distinguishes them.
@@ -432,16 +431,5 @@ pub fn function_of(name: &[u8]) -> Function
                 },
             },
         },
-    }
-}
-
-/// The function of a call. If another thread ended the reading at this call, the call isn't read, whatever its name is.
-pub fn function_in(raw: &RawCall) -> Function
-    ensures { result ≡ function_in raw.now }
-{
-    if raw.threads() {
-        Function::Unread
-    } else {
-        function_of(raw.name())
     }
 }

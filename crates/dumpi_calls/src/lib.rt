@@ -10,7 +10,7 @@
 //!
 //! - [`parameter`]: the parameters and why a call is refused for one; [`reading`]: what each says; [`quick`]: numbers
 //!   as dumpi2ascii writes them, in one pass; [`skim`]: so the source of a status; [`requests`]: so a list of requests
-//! - [`function`]: the functions, by their names; [`envelope`], [`outcome`]: what calls name and bring back;
+//! - [`function`]: the functions, by their names; [`learned`]: by names that were read before; [`envelope`], [`outcome`]: what calls name and bring back;
 //!   [`typing`]: a call by the row of its function; [`looking`]: the parameters that it is read by
 //! - [`in_place`]: calls as dumpi2ascii writes them, read whole where they stand; [`lines`]: their parameter lines;
 //!   [`number_lines`]: those of numbers, in one pass
@@ -53,6 +53,7 @@ mod fault;
 mod function;
 mod in_place;
 mod laws;
+mod learned;
 mod lines;
 mod looking;
 mod number_lines;

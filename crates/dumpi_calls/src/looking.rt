@@ -5,7 +5,8 @@ ghost use Rattle.std.specs.Prelude.{◌≡◌, ◌∷◌};
 ghost use Rattle.dumpi_calls.specs.Readings.{object_parameters};
 ghost use Rattle.dumpi_calls.specs.Looked.{is_named_in, looked_parameters};
 
-use crate::function::{Function, function_of, is};
+use crate::function::{Function, is};
+use crate::learned::Names;
 use crate::parameter::Parameter;
 use crate::parameter::Parameter::{
     Comm, CommOld, Count, Datatype, Dest, Fh, File, Flag, Index, Indices, LocalComm, OldComm,
@@ -14,6 +15,7 @@ use crate::parameter::Parameter::{
 };
 use dumpi_text::{Keeping, RawCall};
 use mpi_model::ObjectParameter;
+use std::alloc::Global;
 
 /// Whether a name is of one of these parameters.
 fn is_one_of(name: &[u8], parameters: &[Parameter]) -> bool
@@ -85,15 +87,28 @@ fn is_looked_at(function: Function, name: &[u8]) -> bool
     is_one_of(name, looked_parameters(function))
 }
 
-/// Keeps the parameters by which a call of this function is read, the first of each name.
-pub(crate) struct Looked;
+/// Keeps the parameters by which a call of its function is read, the first of each name.
+#[derive(Drop)]
+pub(crate) struct Looked {
+    pub(crate) names: Names,
+}
+
+impl Looked {
+    /// Of no call yet. It takes no memory.
+    pub(crate) fn new(alloc: Global) -> Looked {
+        Looked {
+            names: Names::new(alloc),
+        }
+    }
+}
 
 impl Keeping for Looked {
     ghost use Rattle.dumpi_calls.specs.Looked.{looked_choice};
 
     ghost choice = { looked_choice };
 
-    fn keeps(call: &RawCall, name: &[u8]) -> bool {
-        call.param(name).is_none() && is_looked_at(function_of(call.name()), name)
+    fn keeps(&mut self, call: &RawCall, name: &[u8]) -> bool {
+        let function = self.names.function_of(call.name());
+        call.param(name).is_none() && is_looked_at(function, name)
     }
 }

@@ -10,7 +10,7 @@ ghost use Rattle.dumpi_calls.specs.Steps.{FailsThere, StopsThere};
 ghost use Rattle.dumpi_calls.specs.Walks.{FailsIn, IsReadStop, RefusesCall};
 
 use crate::fault::{WalkCause, WalkFault};
-use crate::function::function_in;
+use crate::learned::Names;
 use crate::typing::{TypedCall, typed_call};
 use crate::walking::{HandedCall, Walked, handed, lack, next_call, refusal};
 use dumpi_text::{RawCall, Texts, reading_call_by_call, skipped_lines};
@@ -38,6 +38,7 @@ pub trait RawSink {
 fn take_raw<S: RawSink>(
     alloc: Global,
     raw: &RawCall,
+    names: &mut Names,
     sink: &mut S,
     calls: u64,
 ) -> Result<(), WalkFault<S::Fault>>
@@ -47,7 +48,7 @@ fn take_raw<S: RawSink>(
     ensures calls { IfErr result (λ fault. fault.calls ≡ calls) }
     ensures unchanged { OnErr result (sink.new ≡ sink.old) }
 {
-    match typed_call(alloc, function_in(raw), raw) {
+    match typed_call(alloc, names.function_in(raw), raw) {
         Err(fault) => Err(refusal(raw, fault, calls)),
         Ok(TypedCall { call, .. }) => match sink.on_call(raw, call) {
             Ok(()) => Ok(()),
@@ -65,6 +66,7 @@ fn advance_raw<R: Read, S: RawSink>(
     alloc: Global,
     texts: &mut Texts<R>,
     raw: &mut RawCall,
+    names: &mut Names,
     sink: &mut S,
     calls: u64,
 ) -> Result<Option<HandedCall>, WalkFault<S::Fault>>
@@ -79,7 +81,7 @@ fn advance_raw<R: Read, S: RawSink>(
     ensures lines { texts.new.at.line ≤ MOST_LINES }
 {
     match next_call(texts, raw) {
-        Ok(true) => match take_raw(alloc, raw, sink, calls) {
+        Ok(true) => match take_raw(alloc, raw, names, sink, calls) {
             Ok(()) => Ok(Some(handed(raw))),
             Err(fault) => Err(fault),
         },
@@ -116,8 +118,9 @@ pub fn walk_raw<R: Read, S: RawSink>(
         }
     };
     let mut raw = RawCall::new(alloc);
+    let mut names = Names::new(alloc);
     'each: loop {
-        match advance_raw(alloc, &mut texts, &mut raw, sink, calls) {
+        match advance_raw(alloc, &mut texts, &mut raw, &mut names, sink, calls) {
             Ok(Some(handed)) => {
                 calls += 1;
                 unfinished = handed.open_line;

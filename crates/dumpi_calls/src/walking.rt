@@ -9,8 +9,8 @@ ghost use Rattle.dumpi_calls.specs.Steps.{EndsAtFault, FailsAtFault, FailsThere,
 ghost use Rattle.dumpi_calls.specs.Walks.{FailsIn, IsReadFault, IsReadStop, IsStopped, IsWalked, RefusesCall, Takes, open_line};
 
 use crate::fault::{WalkCause, WalkFault};
-use crate::function::function_in;
 use crate::in_place::{Whole, usual_name, whole_front};
+use crate::learned::Names;
 use crate::looking::Looked;
 use crate::parameter::CallFault;
 use crate::sink::{CallSink, hand_on};
@@ -83,6 +83,7 @@ pub(crate) fn refusal<F: Drop>(raw: &RawCall, fault: CallFault, calls: u64) -> W
 fn take<S: CallSink>(
     alloc: Global,
     raw: &RawCall,
+    names: &mut Names,
     sink: &mut S,
     calls: u64,
 ) -> Result<(), WalkFault<S::Fault>>
@@ -92,7 +93,7 @@ fn take<S: CallSink>(
     ensures calls { IfErr result (λ fault. fault.calls ≡ calls) }
     ensures unchanged { OnErr result (sink.new ≡ sink.old) }
 {
-    let function = function_in(raw);
+    let function = names.function_in(raw);
     match typed_call(alloc, function, raw) {
         Err(fault) => Err(refusal(raw, fault, calls)),
         Ok(call) => match hand_on(sink, function, raw.name(), call) {
@@ -142,7 +143,11 @@ pub fn next_call<R: Read>(texts: &mut Texts<R>, raw: &mut RawCall) -> Result<boo
 
 /// The next call of the text, as [`next_call`], of which no more is kept than what it is read by.
 #[tactic(auto, using(crate::proofs::Failing::fails))]
-fn next_looked<R: Read>(texts: &mut Texts<R>, raw: &mut RawCall) -> Result<bool, TextFault>
+fn next_looked<R: Read>(
+    texts: &mut Texts<R>,
+    raw: &mut RawCall,
+    looked: &mut Looked,
+) -> Result<bool, TextFault>
     ensures goes_on { GoesOnKept texts.old result raw.new texts.new }
     ensures stops { EndsAtFault texts.old result texts.new }
     ensures failed { IfErr result (λ fault. IsReadFault fault → Fails R.failures) }
@@ -153,7 +158,7 @@ fn next_looked<R: Read>(texts: &mut Texts<R>, raw: &mut RawCall) -> Result<bool,
 {
     reading_call_by_call();
     texts.known();
-    let read = texts.next_kept::<Looked>(raw);
+    let read = texts.next_kept(raw, looked);
     texts.known();
     match read {
         Ok(found) => Ok(found),
@@ -233,6 +238,7 @@ fn advance<R: Read, S: CallSink>(
     alloc: Global,
     texts: &mut Texts<R>,
     raw: &mut RawCall,
+    looked: &mut Looked,
     sink: &mut S,
     calls: u64,
 ) -> Result<Option<HandedCall>, WalkFault<S::Fault>>
@@ -252,8 +258,8 @@ fn advance<R: Read, S: CallSink>(
             Err(fault) => Err(fault),
         };
     }
-    match next_looked(texts, raw) {
-        Ok(true) => match take(alloc, raw, sink, calls) {
+    match next_looked(texts, raw, looked) {
+        Ok(true) => match take(alloc, raw, &mut looked.names, sink, calls) {
             Ok(()) => Ok(Some(handed(raw))),
             Err(fault) => Err(fault),
         },
@@ -312,8 +318,9 @@ pub fn walk_with_buffer<R: Read, S: CallSink>(
         }
     };
     let mut raw = RawCall::new(alloc);
+    let mut looked = Looked::new(alloc);
     'each: loop {
-        match advance(alloc, &mut texts, &mut raw, sink, calls) {
+        match advance(alloc, &mut texts, &mut raw, &mut looked, sink, calls) {
             Ok(Some(handed)) => {
                 calls += 1;
                 unfinished = handed.open_line;
