@@ -516,7 +516,7 @@ line_front kind text rest h = (h.line ++ 10 ∷ [], h.front.whole ∙ sym (appen
 both_fronts : (text mid rest : List ℕ) → ((front : List ℕ) × (text ≡ front ++ mid)) → ((front : List ℕ) × (mid ≡ front ++ rest)) → (front : List ℕ) × (text ≡ front ++ rest)
 both_fronts text mid rest a b = (a.0 ++ b.0, a.1 ∙ ap (λ (t : List ℕ). a.0 ++ t) b.1 ∙ sym (append_assoc a.0 b.0 rest))
 
-lines_front : (params : List Param) (text rest : List ℕ) → TellsAll params text rest → (front : List ℕ) × (text ≡ front ++ rest)
+pub lines_front : (params : List Param) (text rest : List ℕ) → TellsAll params text rest → (front : List ℕ) × (text ≡ front ++ rest)
 lines_front [] text rest h = ([], h)
 lines_front (param ∷ params) text rest h = both_fronts text h.0 rest (line_front _ text h.0 h.1.line) (lines_front params h.0 rest h.2)
 

@@ -10,6 +10,7 @@ mod UsualNames
 pub mod Named
 pub mod Elements
 pub mod InPlace
+pub mod Moved
 pub mod NextCall
 pub mod Failing
 pub mod Advancing

@@ -11,6 +11,7 @@ ghost use Rattle.dumpi_calls.specs.Rows.{function_named};
 ghost use Rattle.dumpi_text.specs.Usual.{is_word};
 ghost use Rattle.dumpi_text.specs.declared.texts.TheConstants.{MOST_USUAL_LINES};
 
+use crate::alike::Alike;
 use crate::envelope::{Part, receive_envelope, send_envelope};
 use crate::function::Function;
 use crate::lines::{
@@ -126,13 +127,45 @@ fn receive_front(text: &[u8]) -> Option<(ReceiveEnvelope, &[u8])>
     Some((received(elements, datatype, peer, asked, group), rest))
 }
 
+/// The same as of [`send_front`], where it may equal lines that were read.
+fn sent_front<'a>(alike: &mut Alike, text: &'a [u8]) -> Option<(SendEnvelope, &'a [u8])>
+    ensures { IfSome result (λ x. TellsSend x.0 text.now x.1.now) }
+{
+    if let Some((known, rest)) = alike.send_front(text) {
+        return Some((known, rest));
+    }
+    let Some((envelope, rest)) = send_front(text) else {
+        return None;
+    };
+    alike.keep_send(text, rest, &envelope);
+    Some((envelope, rest))
+}
+
+/// The same as of [`receive_front`], where it may equal lines that were read.
+fn received_front<'a>(alike: &mut Alike, text: &'a [u8]) -> Option<(ReceiveEnvelope, &'a [u8])>
+    ensures { IfSome result (λ x. TellsReceive x.0 text.now x.1.now) }
+{
+    if let Some((known, rest)) = alike.receive_front(text) {
+        return Some((known, rest));
+    }
+    let Some((envelope, rest)) = receive_front(text) else {
+        return None;
+    };
+    alike.keep_receive(text, rest, &envelope);
+    Some((envelope, rest))
+}
+
 /// What the lines in front of a text say: the call, its outcome, how many lines they are, and what follows them.
 #[tactic(auto, using(crate::proofs::InPlace::send_call_told))]
-fn send_lines(mode: Mode, text: &[u8]) -> Option<(Call, Outs, u64, &[u8])>
+fn send_lines<'a>(
+    mode: Mode,
+    alike: &mut Alike,
+    text: &'a [u8],
+) -> Option<(Call, Outs, u64, &'a [u8])>
     ensures says { IfSome result (λ x. TellsCall (Function.Send mode) x.0 x.1 x.2 text.now x.3.now) }
     ensures few { IfSome result (λ x. x.2 ≤ 14) }
 {
-    let Some((envelope, rest)) = send_front(text) else {
+    let Some((envelope, rest)) = sent_front(alike, text) else {
         return None;
     };
     Some((Call::Send(mode, envelope), Outs::Nothing, 5, rest))
@@ -140,11 +173,15 @@ fn send_lines(mode: Mode, text: &[u8]) -> Option<(Call, Outs, u64, &[u8])>
 
 /// The same of a nonblocking send.
 #[tactic(auto, using(crate::proofs::InPlace::isend_lines_told))]
-fn isend_lines(mode: Mode, text: &[u8]) -> Option<(Call, Outs, u64, &[u8])>
+fn isend_lines<'a>(
+    mode: Mode,
+    alike: &mut Alike,
+    text: &'a [u8],
+) -> Option<(Call, Outs, u64, &'a [u8])>
     ensures says { IfSome result (λ x. TellsCall (Function.Isend mode) x.0 x.1 x.2 text.now x.3.now) }
     ensures few { IfSome result (λ x. x.2 ≤ 14) }
 {
-    let Some((envelope, rest)) = send_front(text) else {
+    let Some((envelope, rest)) = sent_front(alike, text) else {
         return None;
     };
     let (request, rest) = request_front(rest)?;
@@ -154,11 +191,11 @@ fn isend_lines(mode: Mode, text: &[u8]) -> Option<(Call, Outs, u64, &[u8])>
 
 /// The same of a blocking receive.
 #[tactic(auto, using(crate::proofs::InPlace::recv_call_told))]
-fn recv_lines(text: &[u8]) -> Option<(Call, Outs, u64, &[u8])>
+fn recv_lines<'a>(alike: &mut Alike, text: &'a [u8]) -> Option<(Call, Outs, u64, &'a [u8])>
     ensures says { IfSome result (λ x. TellsCall Function.Recv x.0 x.1 x.2 text.now x.3.now) }
     ensures few { IfSome result (λ x. x.2 ≤ 14) }
 {
-    let Some((envelope, rest)) = receive_front(text) else {
+    let Some((envelope, rest)) = received_front(alike, text) else {
         return None;
     };
     let Some((told, lines, rest)) = status_front(rest) else {
@@ -169,11 +206,11 @@ fn recv_lines(text: &[u8]) -> Option<(Call, Outs, u64, &[u8])>
 
 /// The same of a nonblocking receive.
 #[tactic(auto, using(crate::proofs::InPlace::irecv_lines_told))]
-fn irecv_lines(text: &[u8]) -> Option<(Call, Outs, u64, &[u8])>
+fn irecv_lines<'a>(alike: &mut Alike, text: &'a [u8]) -> Option<(Call, Outs, u64, &'a [u8])>
     ensures says { IfSome result (λ x. TellsCall Function.Irecv x.0 x.1 x.2 text.now x.3.now) }
     ensures few { IfSome result (λ x. x.2 ≤ 14) }
 {
-    let Some((envelope, rest)) = receive_front(text) else {
+    let Some((envelope, rest)) = received_front(alike, text) else {
         return None;
     };
     let (request, rest) = request_front(rest)?;
@@ -273,15 +310,20 @@ fn collective_lines(kind: Kind, text: &[u8]) -> Option<(Call, Outs, u64, &[u8])>
 }
 
 /// The same of any function whose calls are read in place.
-fn lines_front(alloc: Global, function: Function, text: &[u8]) -> Option<(Call, Outs, u64, &[u8])>
+fn lines_front<'a>(
+    alloc: Global,
+    alike: &mut Alike,
+    function: Function,
+    text: &'a [u8],
+) -> Option<(Call, Outs, u64, &'a [u8])>
     ensures says { IfSome result (λ x. TellsCall function x.0 x.1 x.2 text.now x.3.now) }
     ensures few { IfSome result (λ x. x.2 ≤ 14) }
 {
     match function {
-        Function::Send(mode) => send_lines(mode, text),
-        Function::Isend(mode) => isend_lines(mode, text),
-        Function::Recv => recv_lines(text),
-        Function::Irecv => irecv_lines(text),
+        Function::Send(mode) => send_lines(mode, alike, text),
+        Function::Isend(mode) => isend_lines(mode, alike, text),
+        Function::Recv => recv_lines(alike, text),
+        Function::Irecv => irecv_lines(alike, text),
         Function::Wait => wait_lines(text),
         Function::Waitall => waitall_lines(alloc, text),
         Function::Collective(kind) => collective_lines(kind, text),
@@ -343,8 +385,9 @@ fn likely_function(text: &[u8]) -> Option<Function>
 }
 
 /// The call in front of a text, if it is whole and as dumpi2ascii writes it; `None` if it isn't, or memory is refused.
+/// What was read of calls before may tell what its lines say.
 #[tactic(auto, using(crate::proofs::InPlace::whole_told))]
-pub fn whole_front(alloc: Global, text: &[u8]) -> Option<Whole>
+pub fn whole_front(alloc: Global, alike: &mut Alike, text: &[u8]) -> Option<Whole>
     ensures whole { IfSome result (λ w. IsWhole w.function w.call w.bytes w.lines text.now) }
     ensures few { IfSome result (λ w. w.lines ≤ MOST_USUAL_LINES) }
 {
@@ -353,7 +396,7 @@ pub fn whole_front(alloc: Global, text: &[u8]) -> Option<Whole>
     let Some((enter, inside)) = entering_front(name, text) else {
         return None;
     };
-    let Some((call, outs, count, after)) = lines_front(alloc, function, inside) else {
+    let Some((call, outs, count, after)) = lines_front(alloc, alike, function, inside) else {
         return None;
     };
     let Some((stamp, rest)) = returning_front(name, after) else {

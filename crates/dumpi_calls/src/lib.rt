@@ -13,7 +13,7 @@
 //! - [`function`]: the functions, by their names; [`learned`]: by names that were read before; [`envelope`], [`outcome`]: what calls name and bring back;
 //!   [`typing`]: a call by the row of its function; [`looking`]: the parameters that it is read by
 //! - [`in_place`]: calls as dumpi2ascii writes them, read whole where they stand; [`lines`]: their parameter lines;
-//!   [`number_lines`]: those of numbers, in one pass
+//!   [`number_lines`]: those of numbers, in one pass; [`alike`]: those that equal lines that were read
 //! - [`sink`]: the callbacks; [`fault`], [`walking`]: the walk; [`raw`]: one that hands on calls as they stand in the
 //!   text
 //! - [`collect`], over events in [`parts`], and [`tally`]: two sinks; [`laws`]: what holds of walks over whole texts
@@ -47,6 +47,7 @@
 //! `tests/rows/functions.txt`.
 #![tactic(auto)]
 
+mod alike;
 mod collect;
 mod envelope;
 mod fault;

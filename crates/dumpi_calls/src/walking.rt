@@ -8,6 +8,7 @@ ghost use Rattle.dumpi_calls.specs.Rows.{row_of, typed, typed_by, row};
 ghost use Rattle.dumpi_calls.specs.Steps.{EndsAtFault, FailsAtFault, FailsThere, GoesOn, GoesOnKept, GoesOnWhole, LacksSo, RefusesTyped, StepsOn, StopsThere, TakesTyped};
 ghost use Rattle.dumpi_calls.specs.Walks.{FailsIn, IsReadFault, IsReadStop, IsStopped, IsWalked, RefusesCall, Takes, open_line};
 
+use crate::alike::Alike;
 use crate::fault::{WalkCause, WalkFault};
 use crate::in_place::{Whole, usual_name, whole_front};
 use crate::learned::Names;
@@ -191,7 +192,7 @@ pub(crate) fn lack<F: Drop>(fault: TextFault, line: u64, calls: u64) -> WalkFaul
 /// begins.
 #[inline(always)]
 #[tactic(auto, using(crate::proofs::Advancing::follows_whole, crate::proofs::Advancing::stands_whole))]
-fn whole_of<R: Read>(alloc: Global, texts: &mut Texts<R>) -> Option<(Whole, u64)>
+fn whole_of<R: Read>(alloc: Global, texts: &mut Texts<R>, alike: &mut Alike) -> Option<(Whole, u64)>
     ensures goes_on { GoesOnWhole texts.old result texts.new }
     ensures none { IfNone result (texts.new ≡ texts.old) }
     ensures no_failure { texts.new.rest.failures ≡ texts.old.rest.failures }
@@ -201,7 +202,7 @@ fn whole_of<R: Read>(alloc: Global, texts: &mut Texts<R>) -> Option<(Whole, u64)
     reading_call_by_call();
     let line = texts.line().saturating_add(1);
     let text = texts.at_hand()?;
-    let whole = whole_front(alloc, text)?;
+    let whole = whole_front(alloc, alike, text)?;
     texts.pass_call(whole.bytes, whole.lines, whole.enter());
     Some((whole, line))
 }
@@ -239,6 +240,7 @@ fn advance<R: Read, S: CallSink>(
     texts: &mut Texts<R>,
     raw: &mut RawCall,
     looked: &mut Looked,
+    alike: &mut Alike,
     sink: &mut S,
     calls: u64,
 ) -> Result<Option<HandedCall>, WalkFault<S::Fault>>
@@ -252,7 +254,7 @@ fn advance<R: Read, S: CallSink>(
     ensures progress { IfOk result (λ found. IfSome found (λ handed. texts.old.at.line < texts.new.at.line)) }
     ensures lines { texts.new.at.line ≤ MOST_LINES }
 {
-    if let Some((whole, line)) = whole_of(alloc, texts) {
+    if let Some((whole, line)) = whole_of(alloc, texts, alike) {
         return match take_whole(whole, line, sink, calls) {
             Ok(()) => Ok(Some(HandedCall { open_line: None })),
             Err(fault) => Err(fault),
@@ -319,8 +321,17 @@ pub fn walk_with_buffer<R: Read, S: CallSink>(
     };
     let mut raw = RawCall::new(alloc);
     let mut looked = Looked::new(alloc);
+    let mut alike = Alike::new(alloc);
     'each: loop {
-        match advance(alloc, &mut texts, &mut raw, &mut looked, sink, calls) {
+        match advance(
+            alloc,
+            &mut texts,
+            &mut raw,
+            &mut looked,
+            &mut alike,
+            sink,
+            calls,
+        ) {
             Ok(Some(handed)) => {
                 calls += 1;
                 unfinished = handed.open_line;

@@ -1,0 +1,8 @@
+use Rattle.std.proofs.Common.{List, ℕ, ◌++◌, ◌∙◌, ap}
+use Rattle.dumpi_calls.proofs.Moved.{receive_there}
+use Rattle.dumpi_calls.proofs.alike.ReceiveLines.front.Goals as goal
+
+pub returns : goal.returns
+returns c =
+    let rest = c.in_ok-behind.behind.now in
+    receive_there c.self.inside.envelope c.self.inside.lines.items c.args.text.now rest c.self.invariant (c.in_ok-behind.ensures.whole ∙ ap (λ (f : List ℕ). f ++ rest) c.deref.ensures.value)
