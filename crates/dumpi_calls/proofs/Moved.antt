@@ -1,11 +1,14 @@
 -- Lines that were read of a call say what they say wherever they stand.
-use Rattle.std.proofs.Common.{◌≡◌, ℕ, ◌-◌, List, [], ◌∷◌, ◌++◌, length, take, sym, ap, ◌∙◌, subst, append_assoc, length-append, arith}
-use Rattle.std.proofs.lemmas.List.{append_cancel_right, take_at}
+use Rattle.std.proofs.Common.{◌≡◌, ℕ, ◌-◌, List, [], ◌∷◌, ◌++◌, length, map, take, sym, ap, ◌∙◌, subst, append_assoc, length-append, arith}
+use Rattle.std.proofs.lemmas.List.{append-nil, append_cancel_right, take_at}
 use Rattle.dumpi_text.specs.Call.{Param}
 use Rattle.dumpi_text.specs.Usual.{HasLine, Tells, TellsAll}
 use Rattle.dumpi_text.specs.Stamps.{Kind, Other}
+use Rattle.dumpi_text.specs.Value.{value_of}
 use Rattle.mpi_model.specs.declared.envelope.Envelope.{Envelope}
+use Rattle.mpi_model.specs.declared.told.Told.{Told}
 use Rattle.dumpi_calls.specs.InPlace.{TellsReceive, TellsSend, receive_lines, send_lines}
+use Rattle.dumpi_calls.specs.Outcomes.{groups_from, told_of}
 use Rattle.dumpi_calls.proofs.InPlace.{lines_front}
 
 -- a line with its line feed, before what else was read
@@ -84,3 +87,10 @@ send_there envelope lines text rest known whole = subst (λ (t : List ℕ). Tell
 
 pub receive_there : (envelope : Envelope) (lines text rest : List ℕ) → ((more : List ℕ) → TellsReceive envelope (lines ++ more) more) → text ≡ lines ++ rest → TellsReceive envelope text rest
 receive_there envelope lines text rest known whole = subst (λ (t : List ℕ). TellsReceive envelope t rest) (sym whole) (known rest)
+
+-- ---- statuses
+
+pub same_statuses : (known text rest : List ℕ) (kept tolds : List Told) → text ≡ known ++ rest → rest ≡ [] → map told_of (groups_from (value_of known)) ≡ kept → tolds ≡ kept → map told_of (groups_from (value_of text)) ≡ tolds
+same_statuses known text rest kept tolds whole none means copied =
+    let same : text ≡ known = whole ∙ ap (λ (r : List ℕ). known ++ r) none ∙ append-nil known in
+    ap (λ (t : List ℕ). map told_of (groups_from (value_of t))) same ∙ means ∙ sym copied

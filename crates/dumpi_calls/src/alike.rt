@@ -1,12 +1,15 @@
 //! Lines that equal lines that were read before: they say the same, wherever they stand. In a loop a rank mostly sends to
 //! a few ranks in turn, and receives from them in turn, with the same count, datatype, tag and communicator each time.
 
-ghost use Rattle.std.specs.Prelude.{◌++◌, List, ℕ, IfSome};
+ghost use Rattle.std.specs.Prelude.{◌≡◌, ◌++◌, List, ℕ, IfOk, IfSome, map};
 ghost use Rattle.dumpi_calls.specs.InPlace.{TellsReceive, TellsSend};
+ghost use Rattle.dumpi_calls.specs.Outcomes.{groups_from, told_of};
+ghost use Rattle.dumpi_text.specs.Value.{value_of};
 
-use dumpi_text::strip;
-use mpi_model::{ReceiveEnvelope, SendEnvelope};
-use std::alloc::Global;
+use crate::skim::quick_statuses;
+use dumpi_text::{ValueFault, strip};
+use mpi_model::{ReceiveEnvelope, SendEnvelope, Told};
+use std::alloc::{AllocError, Global};
 use std::marker::Model;
 
 /// The most lines of sends that are kept, and of receives, each with those of one call.
@@ -96,6 +99,52 @@ impl ReceiveLines {
     }
 }
 
+/// A text of statuses that was read, and what each of its groups tells.
+#[derive(Drop)]
+struct Statuses {
+    text: Vec<u8>,
+    told: Vec<Told>,
+}
+
+impl Model for Statuses {
+    ghost use Rattle.std.specs.Prelude.{◌≡◌, List, map};
+    ghost use Rattle.mpi_model.specs.declared.told.Told.{Told};
+    ghost use Rattle.dumpi_calls.specs.Outcomes.{groups_from, told_of};
+    ghost use Rattle.dumpi_text.specs.Value.{value_of};
+
+    ghost Value = { List Told };
+
+    ghost view = { λ s. s.told.items };
+
+    ghost invariant = { λ s. map told_of (groups_from (value_of s.text.items)) ≡ s.told.items };
+}
+
+impl Statuses {
+    /// Of a text, with what each of its groups tells. Fails with `AllocError` when memory is refused.
+    fn of(alloc: Global, text: &[u8], told: &[Told]) -> Result<Statuses, AllocError>
+        requires { map told_of (groups_from (value_of text.now)) ≡ told.now }
+    {
+        Ok(Statuses {
+            text: text.to_vec(alloc)?,
+            told: Vec::from_slice(alloc, told)?,
+        })
+    }
+
+    /// What each group of a text tells, where it is this one; `None` if it isn't, or memory is refused.
+    #[tactic(auto, using(crate::proofs::Moved::same_statuses))]
+    fn told_by(&self, alloc: Global, text: &[u8]) -> Option<Vec<Told>>
+        ensures { IfSome result (λ tolds. map told_of (groups_from (value_of text.now)) ≡ tolds.items) }
+    {
+        match strip(&self.text, text) {
+            Some([]) => match Vec::from_slice(alloc, &self.told) {
+                Ok(told) => Some(told),
+                Err(_) => None,
+            },
+            _ => None,
+        }
+    }
+}
+
 /// Which of the kept lines are tried first, and whether any are.
 #[derive(Clone, Copy, Debug)]
 struct Turn {
@@ -145,6 +194,8 @@ pub struct Alike {
     sends_turn: Turn,
     receives: Vec<ReceiveLines>,
     receives_turn: Turn,
+    statuses: Option<Statuses>,
+    statuses_turn: Turn,
 }
 
 impl Alike {
@@ -156,6 +207,8 @@ impl Alike {
             sends_turn: Turn::new(),
             receives: Vec::new(alloc),
             receives_turn: Turn::new(),
+            statuses: None,
+            statuses_turn: Turn::new(),
         }
     }
 
@@ -267,5 +320,45 @@ impl Alike {
             self.receives[place] = known;
             self.receives_turn.next = (place + 1) % MOST_KEPT;
         }
+    }
+
+    /// What each group of a text of statuses tells, where it is the text that is kept.
+    fn known_statuses(&self, text: &[u8]) -> Option<Vec<Told>>
+        ensures { IfSome result (λ tolds. map told_of (groups_from (value_of text.now)) ≡ tolds.items) }
+    {
+        match &self.statuses {
+            None => None,
+            Some(known) => known.told_by(self.alloc, text),
+        }
+    }
+
+    /// Keeps a text of statuses, with what each of its groups tells. Where memory is refused, it isn't kept.
+    #[inline(never)]
+    fn keep_statuses(&mut self, text: &[u8], told: &[Told])
+        requires { map told_of (groups_from (value_of text.now)) ≡ told.now }
+    {
+        if self.statuses_turn.patience == 0 {
+            self.statuses = None;
+            return;
+        }
+        self.statuses_turn.missed();
+        match Statuses::of(self.alloc, text, told) {
+            Ok(known) => self.statuses = Some(known),
+            Err(_) => {}
+        }
+    }
+
+    /// What each group of a text of statuses tells, of which there are about so many: the text may equal one that was
+    /// read. `BadValue` is no answer. Fails with `Memory` when memory is refused.
+    pub fn statuses(&mut self, about: usize, text: &[u8]) -> Result<Vec<Told>, ValueFault>
+        ensures { IfOk result (λ tolds. map told_of (groups_from (value_of text.now)) ≡ tolds.items) }
+    {
+        if let Some(told) = self.known_statuses(text) {
+            self.statuses_turn.met(0, 1);
+            return Ok(told);
+        }
+        let told = quick_statuses(self.alloc, about, text)?;
+        self.keep_statuses(text, &told);
+        Ok(told)
     }
 }

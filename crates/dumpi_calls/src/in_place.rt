@@ -233,7 +233,11 @@ fn wait_lines(text: &[u8]) -> Option<(Call, Outs, u64, &[u8])>
 }
 
 /// The same of a Waitall.
-fn waitall_lines(alloc: Global, text: &[u8]) -> Option<(Call, Outs, u64, &[u8])>
+fn waitall_lines<'a>(
+    alloc: Global,
+    alike: &mut Alike,
+    text: &'a [u8],
+) -> Option<(Call, Outs, u64, &'a [u8])>
     ensures says { IfSome result (λ x. TellsCall Function.Waitall x.0 x.1 x.2 text.now x.3.now) }
     ensures few { IfSome result (λ x. x.2 ≤ 14) }
 {
@@ -241,7 +245,7 @@ fn waitall_lines(alloc: Global, text: &[u8]) -> Option<(Call, Outs, u64, &[u8])>
     let Some((requests, rest)) = requests_front(alloc, rest) else {
         return None;
     };
-    let Some((tolds, lines, rest)) = statuses_front(alloc, requests.as_slice(), rest) else {
+    let Some((tolds, lines, rest)) = statuses_front(alloc, alike, requests.as_slice(), rest) else {
         return None;
     };
     Some((
@@ -325,7 +329,7 @@ fn lines_front<'a>(
         Function::Recv => recv_lines(alike, text),
         Function::Irecv => irecv_lines(alike, text),
         Function::Wait => wait_lines(text),
-        Function::Waitall => waitall_lines(alloc, text),
+        Function::Waitall => waitall_lines(alloc, alike, text),
         Function::Collective(kind) => collective_lines(kind, text),
         _ => None,
     }

@@ -8,9 +8,10 @@ ghost use Rattle.dumpi_calls.specs.Readings.{name_of, non_negative};
 ghost use Rattle.dumpi_text.specs.Usual.{before_value, is_word};
 ghost use Rattle.dumpi_text.specs.Value.{value_of};
 
+use crate::alike::Alike;
 use crate::function::is;
 use crate::number_lines::{bracketed_line, double_line, number_line, plain_line, world_line};
-use crate::outcome::{sources_in, tolds};
+use crate::outcome::{sources_by, tolds};
 use crate::parameter::Parameter;
 use crate::quick::quick_number;
 use crate::reading::non_negative_of;
@@ -251,6 +252,7 @@ pub fn requests_front(alloc: Global, text: &[u8]) -> Option<(Requests, &[u8])>
 #[tactic(auto, using(crate::proofs::InPlace::statuses_absent, crate::proofs::InPlace::statuses_told))]
 pub fn statuses_front<'a>(
     alloc: Global,
+    alike: &mut Alike,
     requests: &[i64],
     text: &'a [u8],
 ) -> Option<(Sources, u64, &'a [u8])>
@@ -262,9 +264,12 @@ pub fn statuses_front<'a>(
             Ok(nothing) => Some((nothing, 0, text)),
             Err(_) => None,
         },
-        Some((value, rest)) => match sources_in(alloc, requests, value) {
-            Ok(told) => Some((told, 1, rest)),
-            Err(_) => None,
-        },
+        Some((value, rest)) => {
+            let read = alike.statuses(requests.len(), value);
+            match sources_by(alloc, requests, value, read) {
+                Ok(told) => Some((told, 1, rest)),
+                Err(_) => None,
+            }
+        }
     }
 }

@@ -2,7 +2,7 @@
 //!
 //! `status`, `statuses` and `indices` are never missing and never wrong: what is absent or can't be read tells nothing.
 
-ghost use Rattle.std.specs.Prelude.{◌≡◌, ◌∷◌, ◌<◌, ◌^◌, [], IfOk, IfSome, OnOk, length};
+ghost use Rattle.std.specs.Prelude.{◌≡◌, ◌∷◌, ◌<◌, ◌^◌, [], IfOk, IfSome, OnOk, length, map};
 ghost use Rattle.std.specs.Option.{option_copied};
 ghost use Rattle.dumpi_calls.specs.Readings.{AreThere, Reads, number_in};
 ghost use Rattle.dumpi_calls.specs.Outcomes.{all_done, any_done, brought_by, elements_from, first_number, flag, groups_from, groups_in, index, index_where_set, indices_in, is_flagged, is_set, outcome_in, position_of, posted, posted_or_nothing, several, source_told, status, statuses, told_at, told_by, told_from, told_of, tolds_from};
@@ -252,13 +252,19 @@ fn tolds_of_text(alloc: Global, requests: &[i64], text: &[u8]) -> Result<Sources
     tolds(alloc, groups.as_slice(), requests)
 }
 
-/// What the groups of a text tell of each request, read in place where there is one status for each. Fails with
-/// `AllocError` when memory is refused.
+/// What the groups of a text tell of each request, where there is one status for each by what was read of them. Fails
+/// with `AllocError` when memory is refused.
 #[tactic(auto, using(crate::proofs::GroupByGroup::whole_list))]
-pub fn sources_in(alloc: Global, requests: &[i64], text: &[u8]) -> Result<Sources, AllocError>
+pub fn sources_by(
+    alloc: Global,
+    requests: &[i64],
+    text: &[u8],
+    read: Result<Vec<Told>, ValueFault>,
+) -> Result<Sources, AllocError>
+    requires { IfOk read (λ tolds. map told_of (groups_from (value_of text.now)) ≡ tolds.items) }
     ensures { IfOk result (λ s. s ≡ tolds_from (groups_from (value_of text.now)) 0 requests.now) }
 {
-    match quick_statuses(alloc, requests.len(), text) {
+    match read {
         Ok(told) => {
             if told.len() == requests.len() {
                 Ok(Sources::from_vec(told))
@@ -269,6 +275,14 @@ pub fn sources_in(alloc: Global, requests: &[i64], text: &[u8]) -> Result<Source
         Err(ValueFault::BadValue) => tolds_of_text(alloc, requests, text),
         Err(ValueFault::Memory) => Err(AllocError),
     }
+}
+
+/// The same, read in place.
+fn sources_in(alloc: Global, requests: &[i64], text: &[u8]) -> Result<Sources, AllocError>
+    ensures { IfOk result (λ s. s ≡ tolds_from (groups_from (value_of text.now)) 0 requests.now) }
+{
+    let read = quick_statuses(alloc, requests.len(), text);
+    sources_by(alloc, requests, text, read)
 }
 
 /// What `statuses` tells of each request, in the call's order.
