@@ -42,6 +42,14 @@ pub noted_tag : (text rest : List ℕ) → text ≡ codes " (MPI_ANY_TAG)\n" ++ 
 unfolding name_of
 noted_tag text rest is = note_there (codes " (MPI_ANY_TAG)") AnyTag text rest is (omega arith) refl refl refl refl
 
+pub noted_user_comm : (text rest : List ℕ) → text ≡ codes " (user-defined-comm)\n" ++ rest → EndsNote Other text rest
+unfolding name_of
+noted_user_comm text rest is = note_there (codes " (user-defined-comm)") Other text rest is (omega arith) refl refl refl refl
+
+pub noted_user_datatype : (text rest : List ℕ) → text ≡ codes " (user-defined-datatype)\n" ++ rest → EndsNote Other text rest
+unfolding name_of
+noted_user_datatype text rest is = note_there (codes " (user-defined-datatype)") Other text rest is (omega arith) refl refl refl refl
+
 -- ---- bytes of a line
 
 inside_both : (xs ys : List ℕ) → list_all is_inside xs ≡ true → list_all is_inside ys ≡ true → list_all is_inside (xs ++ ys) ≡ true

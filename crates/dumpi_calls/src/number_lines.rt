@@ -11,6 +11,18 @@ use dumpi_text::{Num, NumName, strip, strip_byte};
 /// The most digits of a number that is read here.
 const MOST_DIGITS: usize = 20;
 
+/// The notes of objects that the program made, before a line feed, which give a number no name, and what follows them.
+#[tactic(auto, using(crate::proofs::NumberLines::noted_user_comm, crate::proofs::NumberLines::noted_user_datatype))]
+fn user_note(text: &[u8]) -> Option<(NumName, &[u8])>
+    ensures { IfSome result (λ x. EndsNote x.0 text.now x.1.now) }
+{
+    if let Some(rest) = strip(b" (user-defined-comm)\n", text) {
+        return Some((NumName::Other, rest));
+    }
+    let rest = strip(b" (user-defined-datatype)\n", text)?;
+    Some((NumName::Other, rest))
+}
+
 /// The name that a usual note gives a number, or that no note gives it, before a line feed, and what follows that.
 #[inline(always)]
 #[tactic(auto, using(crate::proofs::NumberLines::no_note, crate::proofs::NumberLines::noted_world, crate::proofs::NumberLines::noted_double, crate::proofs::NumberLines::noted_int, crate::proofs::NumberLines::noted_source, crate::proofs::NumberLines::noted_tag))]
@@ -41,6 +53,7 @@ fn note_line(text: &[u8]) -> Option<(NumName, &[u8])>
             let rest = strip(b" (MPI_ANY_TAG)\n", text)?;
             Some((NumName::AnyTag, rest))
         }
+        [b' ', b'(', b'u', ..] => user_note(text),
         _ => None,
     }
 }

@@ -106,6 +106,10 @@ fn usual_note(rest: &[u8]) -> Option<NumName>
         Some(NumName::Other)
     } else if is(rest, "MPI_INT)") {
         Some(NumName::Other)
+    } else if is(rest, "user-defined-comm)") {
+        Some(NumName::Other)
+    } else if is(rest, "user-defined-datatype)") {
+        Some(NumName::Other)
     } else {
         None
     }
