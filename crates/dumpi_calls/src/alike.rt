@@ -7,7 +7,7 @@ ghost use Rattle.dumpi_calls.specs.Outcomes.{groups_from, told_of};
 ghost use Rattle.dumpi_text.specs.Value.{value_of};
 
 use crate::skim::quick_statuses;
-use dumpi_text::{ValueFault, strip};
+use dumpi_text::{Moments, ValueFault, strip};
 use mpi_model::{ReceiveEnvelope, SendEnvelope, Told};
 use std::alloc::{AllocError, Global};
 use std::marker::Model;
@@ -190,6 +190,8 @@ impl Turn {
 #[derive(Drop)]
 pub struct Alike {
     alloc: Global,
+    /// What was read of the times of stamps.
+    pub moments: Moments,
     sends: Vec<SendLines>,
     sends_turn: Turn,
     receives: Vec<ReceiveLines>,
@@ -203,6 +205,7 @@ impl Alike {
     pub fn new(alloc: Global) -> Alike {
         Alike {
             alloc,
+            moments: Moments::new(alloc),
             sends: Vec::new(alloc),
             sends_turn: Turn::new(),
             receives: Vec::new(alloc),

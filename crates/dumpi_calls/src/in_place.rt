@@ -397,13 +397,13 @@ pub fn whole_front(alloc: Global, alike: &mut Alike, text: &[u8]) -> Option<Whol
 {
     let function = likely_function(text)?;
     let name = usual_name(function).as_bytes();
-    let Some((enter, inside)) = entering_front(name, text) else {
+    let Some((enter, inside)) = entering_front(&mut alike.moments, name, text) else {
         return None;
     };
     let Some((call, outs, count, after)) = lines_front(alloc, alike, function, inside) else {
         return None;
     };
-    let Some((stamp, rest)) = returning_front(name, after) else {
+    let Some((stamp, rest)) = returning_front(&mut alike.moments, name, after) else {
         return None;
     };
     let typed = TypedCall {

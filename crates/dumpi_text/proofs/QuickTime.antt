@@ -4,7 +4,7 @@ use Rattle.std.specs.List.{list_all}
 use Rattle.std.proofs.lemmas.Grind.{common_steps}
 use Rattle.std.proofs.lemmas.List.{append-nil, take_more, length-take-le, take-append-drop, drop_more, take_all, take_at, take_rest}
 use Rattle.std.proofs.lemmas.List.Folds.{drop_split}
-use Rattle.dumpi_text.specs.Time.{HasTime, is_digit, is_time_byte, number_after, number_of, nine_digits, time_from, time_of, time_of_parts}
+use Rattle.dumpi_text.specs.Time.{HasTime, IsSeconds, is_digit, is_time_byte, number_after, number_of, nine_digits, time_from, time_of, time_of_parts}
 use Rattle.dumpi_text.specs.Words.{split_at}
 use Rattle.dumpi_text.specs.declared.time.TimeFault.{TimeFault}
 use Rattle.dumpi_text.proofs.Splits.{first_passes, rest_passes, split_passes}
@@ -124,4 +124,43 @@ time_there text n seconds nanoseconds time room some few w point f seconds_are s
           ∙ time_whole whole fraction (omega (arith, long)) nine w f (omega (arith, sym seconds_are)) ∙ ap told (sym said);
       bytes = both_of_time whole (46 ∷ fraction) (digits_of_time whole w) (digits_of_time_after fraction f);
       short = omega (arith, length-append whole (46 ∷ fraction), nine, long);
+    }
+
+-- ---- seconds that are known, with the point behind them
+
+-- the seconds in front of a text, and the point
+pub seconds_are : (text front : List ℕ) (n seconds : ℕ) → n + 10 ≤ length text → 0 < n → n ≤ 20 → list_all is_digit (take n text) ≡ true → get_or text n 0 ≡ 46 → seconds ≡ number_of (take n text) → seconds ≤ 9999999999
+    → front ≡ take (n + 1) text → IsSeconds front seconds
+seconds_are text front n seconds room some few all at_point number range front_is = record {
+  digits = take n text;
+  whole = front_is ∙ take_more text n 0 (omega arith) ∙ ap (λ (b : ℕ). take n text ++ b ∷ []) at_point;
+  all = all;
+  some = omega (arith, length-take-le n text);
+  few = omega (arith, length-take-le n text);
+  number = number;
+  range = range;
+}
+
+pub same_seconds : (front kept : List ℕ) (seconds : ℕ) → IsSeconds front seconds → kept ≡ front → IsSeconds kept seconds
+same_seconds front kept seconds known same = record { digits = known.digits; whole = same ∙ known.whole; all = known.all; some = known.some; few = known.few; number = known.number; range = known.range }
+
+pub known_time : (front text rest : List ℕ) (seconds nanoseconds time : ℕ) → IsSeconds front seconds → text ≡ front ++ rest → 9 ≤ length rest → list_all is_digit (take 9 rest) ≡ true → nanoseconds ≡ number_of (take 9 rest)
+    → time ≡ seconds * 1000000000 + nanoseconds → HasTime time text (take (length rest - 9) (drop 9 rest))
+known_time front text rest seconds nanoseconds time known begins room f nanoseconds_are is =
+    let whole : List ℕ = known.digits in
+    let range : seconds ≤ 9999999999 = known.range in
+    let fraction : List ℕ = take 9 rest in
+    let left : take (length rest - 9) (drop 9 rest) ≡ drop 9 rest = take_rest rest 9 in
+    let nine : length fraction ≡ 9 = length-take-le 9 rest room in
+    let said : time ≡ number_of whole * 1000000000 + number_of fraction = is ∙ ap (λ (s : ℕ). s * 1000000000 + nanoseconds) known.number ∙ ap (λ (m : ℕ). number_of whole * 1000000000 + m) nanoseconds_are in
+    let told : ℕ → Result ℕ TimeFault = λ t. Ok t in
+    let point : front ++ rest ≡ whole ++ 46 ∷ rest = ap (λ (t : List ℕ). t ++ rest) known.whole ∙ append_assoc whole (46 ∷ []) rest in
+    record {
+      front = whole ++ 46 ∷ fraction;
+      whole = begins ∙ point ∙ ap (λ (t : List ℕ). whole ++ 46 ∷ t) (sym (take-append-drop 9 rest)) ∙ sym (append_assoc whole (46 ∷ fraction) (drop 9 rest))
+          ∙ ap (λ (r : List ℕ). (whole ++ 46 ∷ fraction) ++ r) (sym left);
+      says = ap (λ (p : List ℕ × Option (List ℕ)). time_of_parts p.0 p.1) (split_point whole fraction known.all)
+          ∙ time_whole whole fraction known.some nine known.all f (omega (arith, sym known.number, range)) ∙ ap told (sym said);
+      bytes = both_of_time whole (46 ∷ fraction) (digits_of_time whole known.all) (digits_of_time_after fraction f);
+      short = omega (arith, length-append whole (46 ∷ fraction), nine, known.few);
     }

@@ -6,9 +6,9 @@ ghost use Rattle.dumpi_text.specs.Bytes.{equals};
 ghost use Rattle.dumpi_text.specs.Stamps.{Entering, Returning};
 ghost use Rattle.dumpi_text.specs.Usual.{BeginsWith, EndsStamp, HasLine, Tells, is_word};
 
+use crate::moments::Moments;
 use crate::quick::quick_param;
 use crate::source::{LONGEST_LINE, feed_in};
-use crate::time::time_front;
 use crate::tokens::strip_byte;
 use crate::words::{is_bare, split_word, strip};
 use mpi_model::Stamp;
@@ -29,12 +29,12 @@ fn line_front(text: &[u8]) -> Option<(&[u8], &[u8])>
 const LONGEST_NAME: usize = 100;
 
 /// The times of a stamp of thread 0, by what follows its `walltime `, and what follows its line.
-fn stamp_front(text: &[u8]) -> Option<(Stamp, &[u8])>
+fn stamp_front<'a>(moments: &mut Moments, text: &'a [u8]) -> Option<(Stamp, &'a [u8])>
     ensures { IfSome result (λ x. EndsStamp x.0 text.now x.1.now) }
 {
-    let (wall, rest) = time_front(text)?;
+    let (wall, rest) = moments.wall_front(text)?;
     let second = strip(b", cputime ", rest)?;
-    let (cpu, rest) = time_front(second)?;
+    let (cpu, rest) = moments.cpu_front(second)?;
     let rest = strip(b" seconds in thread 0.\n", rest)?;
     let stamp = Stamp::new(wall, cpu)?;
     Some((stamp, rest))
@@ -42,7 +42,11 @@ fn stamp_front(text: &[u8]) -> Option<(Stamp, &[u8])>
 
 /// When the entering line in front of a text enters a call of this name, and what follows the line.
 #[inline(always)]
-pub fn entering_front<'a>(name: &[u8], text: &'a [u8]) -> Option<(Stamp, &'a [u8])>
+pub fn entering_front<'a>(
+    moments: &mut Moments,
+    name: &[u8],
+    text: &'a [u8],
+) -> Option<(Stamp, &'a [u8])>
     requires { is_word name.now ≡ true }
     ensures { IfSome result (λ x. HasLine (Entering name.now x.0) text.now x.1.now) }
 {
@@ -51,7 +55,7 @@ pub fn entering_front<'a>(name: &[u8], text: &'a [u8]) -> Option<(Stamp, &'a [u8
     }
     let after = strip(name, text)?;
     let stamp = strip(b" entering at walltime ", after)?;
-    let Some((at, rest)) = stamp_front(stamp) else {
+    let Some((at, rest)) = stamp_front(moments, stamp) else {
         return None;
     };
     Some((at, rest))
@@ -59,7 +63,11 @@ pub fn entering_front<'a>(name: &[u8], text: &'a [u8]) -> Option<(Stamp, &'a [u8
 
 /// When the returning line in front of a text returns from a call of this name, and what follows the line.
 #[inline(always)]
-pub fn returning_front<'a>(name: &[u8], text: &'a [u8]) -> Option<(Stamp, &'a [u8])>
+pub fn returning_front<'a>(
+    moments: &mut Moments,
+    name: &[u8],
+    text: &'a [u8],
+) -> Option<(Stamp, &'a [u8])>
     requires { is_word name.now ≡ true }
     ensures { IfSome result (λ x. HasLine (Returning name.now x.0) text.now x.1.now) }
 {
@@ -68,7 +76,7 @@ pub fn returning_front<'a>(name: &[u8], text: &'a [u8]) -> Option<(Stamp, &'a [u
     }
     let after = strip(name, text)?;
     let stamp = strip(b" returning at walltime ", after)?;
-    let Some((at, rest)) = stamp_front(stamp) else {
+    let Some((at, rest)) = stamp_front(moments, stamp) else {
         return None;
     };
     Some((at, rest))

@@ -7,6 +7,7 @@ ghost use Rattle.dumpi_text.specs.WholeKept.{EndsKept, PutsOne, StandsKept};
 ghost use Rattle.dumpi_text.specs.declared.step.TheConstants.{MOST_LINES};
 
 use crate::keeping::Keeping;
+use crate::moments::Moments;
 use crate::raw_call::RawCall;
 use crate::step::Position;
 use crate::usual::{entering_front, name_front, pair_front, returning_front};
@@ -42,6 +43,7 @@ fn put_front<'a, K: Keeping>(
 /// `AllocError`, when memory is refused, the call's contents are unspecified.
 #[tactic(auto, using(crate::proofs::WholeKept::puts_none, crate::proofs::WholeKept::puts_more, crate::proofs::WholeKept::ends_there))]
 fn put_lines<'a, K: Keeping>(
+    moments: &mut Moments,
     name: &[u8],
     text: &'a [u8],
     call: &mut RawCall,
@@ -53,7 +55,7 @@ fn put_lines<'a, K: Keeping>(
 {
     let mut left = text;
     for count in 0..MOST_WHOLE_LINES - 1 {
-        if let Some((exit, rest)) = returning_front(name, left) {
+        if let Some((exit, rest)) = returning_front(moments, name, left) {
             return Ok(Some((count, exit, rest)));
         }
         match put_front(left, call, keep)? {
@@ -69,6 +71,7 @@ fn put_lines<'a, K: Keeping>(
 /// with `None`, the call's contents are unspecified.
 #[tactic(auto, using(crate::proofs::WholeKept::stands_kept))]
 pub fn whole_front<K: Keeping>(
+    moments: &mut Moments,
     text: &[u8],
     at: &Position,
     call: &mut RawCall,
@@ -83,11 +86,11 @@ pub fn whole_front<K: Keeping>(
     let Some(name) = name_front(text) else {
         return Ok(None);
     };
-    let Some((enter, inside)) = entering_front(name, text) else {
+    let Some((enter, inside)) = entering_front(moments, name, text) else {
         return Ok(None);
     };
     call.open(name, enter, at.line + 1)?;
-    match put_lines(name, inside, call, keep)? {
+    match put_lines(moments, name, inside, call, keep)? {
         None => Ok(None),
         Some((count, exit, rest)) => {
             let lines = count + 2;
