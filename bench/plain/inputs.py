@@ -1,13 +1,17 @@
-"""Inputs of four kinds for bench/plain/compare, the same bytes each time: inputs.py KIND MEGABYTES FOLDER
+"""Inputs of six kinds for bench/plain/compare, the same bytes each time: inputs.py KIND MEGABYTES FOLDER [TEXTS]
 
     stencil     halo exchange in two dimensions: Irecv and Isend with four neighbours, Waitall, Allreduce; a piece a rank
     master      a master that receives from any source, and its workers; statuses tell the sources
     pieces      the stencil's calls in small pieces out of order, some of them given twice
     conflict    the stencil's calls given three times, the copies with other times or tags in places
+    unlike      calls no two of which are alike: other functions, parameters and numbers of other lengths each time
+    texts       the texts of the folder TEXTS, which has a layout and a manifest of a text for each rank: each text comes
+                again and again until all have the size
 """
 import json
 import os
 import random
+import re
 import sys
 
 MB = 1_000_000
@@ -247,12 +251,56 @@ def gen_conflict(d, size, ranks=32):
     o.done(ranks, "wait", world(ranks))
 
 
-KINDS = {"stencil": gen_stencil, "master": gen_master, "pieces": gen_pieces, "conflict": gen_conflict}
+def word(rnd, count):
+    return "".join(rnd.choice("abcdefghijklmnopqrstuvwxyz_") for _ in range(count))
+
+
+def number(rnd):
+    return rnd.randrange(10 ** rnd.randint(1, 9)) % 2**31
+
+
+def gen_unlike(d, size, ranks=8):
+    """Of each rank half of the calls send, with other numbers each time, and half are of functions of all names, with up
+    to six parameters of all names. Sends are buffered, so nothing waits."""
+    o = Out(d)
+    rnd = random.Random(11)
+    for r in range(ranks):
+        c = Clock(500 + r)
+        calls, total = [], 0
+        while total < size // ranks:
+            if rnd.random() < 0.5:
+                params = "int count=%d\nMPI_Datatype datatype=%d (%s)\nint dest=%d\nint tag=%d\n%s" % (number(rnd), number(rnd), word(rnd, rnd.randint(3, 20)), rnd.randrange(ranks), number(rnd), COMM)
+                one = call(c, rnd.choice(["MPI_Send", "MPI_Bsend"]), params, "")
+            else:
+                params = "".join("%s %s=%d\n" % (word(rnd, rnd.randint(3, 12)), word(rnd, rnd.randint(1, 12)), number(rnd)) for _ in range(rnd.randint(0, 6)))
+                one = call(c, "MPI_X" + word(rnd, rnd.randint(1, 20)), params, "")
+            calls.append(one)
+            total += len(one)
+        o.piece(r, 0, calls)
+    o.done(ranks, "buffer", world(ranks))
+
+
+def gen_texts(d, size, texts):
+    """The layout as it is; of each rank its text, so often that all have the size. Numbers of requests come again, too."""
+    o = Out(d)
+    layout = json.load(open(os.path.join(texts, "layout.json")))
+    pieces = json.load(open(os.path.join(texts, "manifest.json")))["pieces"]
+    read = [(it["rank"], open(os.path.join(texts, it["file"])).read()) for it in pieces]
+    times = max(1, size // sum(len(text) for _, text in read))
+    for rank, text in read:
+        calls = re.split(r"(?m)^(?=\w+ entering at )", text)
+        if calls and not calls[0]:
+            del calls[0]
+        o.piece(rank, 0, calls * times)
+    o.done(layout["ranks"], layout["sends"], layout["comms"])
+
+
+KINDS = {"stencil": gen_stencil, "master": gen_master, "pieces": gen_pieces, "conflict": gen_conflict, "unlike": gen_unlike, "texts": gen_texts}
 
 
 def main():
-    kind, megabytes, folder = sys.argv[1:]
-    KINDS[kind](folder, int(megabytes) * MB)
+    kind, megabytes, folder, *texts = sys.argv[1:]
+    KINDS[kind](folder, int(megabytes) * MB, *texts)
 
 
 if __name__ == "__main__":
