@@ -5,6 +5,3 @@ use Rattle.comm_makings.proofs.by_groups.kth_calls.Goals as goal
 
 pub returns : goal.returns
 returns c = grind (arith, common_steps, of_calls_more)
-
-pub loop-offer-preserved : goal.loop-offer-preserved
-loop-offer-preserved c = search (arith, of_calls_more)

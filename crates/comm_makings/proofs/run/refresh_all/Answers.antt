@@ -8,6 +8,3 @@ loop-rank-init c = grind (arith, common_steps, members_in, groups_at, groups_set
 
 pub returns : goal.returns
 returns c = grind (arith, common_steps, members_in, groups_at, groups_set)
-
-pub loop-rank-preserved : goal.loop-rank-preserved
-loop-rank-preserved c = grind (arith, members_in, groups_at, groups_set)
