@@ -19,7 +19,7 @@ use std::collections::BTreeSet;
 use std::marker::Model;
 
 /// What a second look keeps of the calls of a text.
-#[derive(Debug, Drop)]
+#[derive(Drop)]
 pub(crate) struct Looking<'a> {
     wanted: &'a BTreeSet<u64>,
     limit: u64,
