@@ -100,6 +100,26 @@ fn noted_node<'a, O: Opener, V: Watcher>(
     Ok((node, notes))
 }
 
+/// A diagnosis in the form that is asked for.
+fn printed(
+    printing: Printing,
+    alloc: Global,
+    layout: &Layout,
+    diagnosis: &Diagnosis,
+    texts: &TextFacts,
+    answer: &Answer,
+    know: &Knowledge,
+) -> Result<Vec<u8>, AllocError> {
+    match printing {
+        Printing::Words(extent) => in_words(alloc, layout, diagnosis, texts, answer, know, extent),
+        Printing::Json => diagnosis_json(alloc, layout, diagnosis, texts),
+        Printing::Rank(rank) => of_rank(alloc, layout, diagnosis, texts, answer, know, rank),
+        Printing::Picture(extent) => {
+            diagnosis_picture(alloc, layout, diagnosis, texts, extent == Extent::Whole)
+        }
+    }
+}
+
 /// What holds up the run by what a node knows, printed so, with what is noted of the texts. It drops the node.
 fn diagnosed<N: Answerer, O: Opener>(
     printing: Printing,
@@ -121,17 +141,9 @@ fn diagnosed<N: Answerer, O: Opener>(
     let diagnosis = diagnose(alloc, layout, answer, know, &[])?;
     let (mut texts, calls) = facts_of(alloc, &diagnosis, asked_of(printing), notes, files)?;
     compare_arguments(alloc, layout, answer, know, &calls, &mut texts)?;
+    drop(calls);
     add_places(alloc, &mut texts, files)?;
-    match printing {
-        Printing::Words(extent) => {
-            in_words(alloc, layout, &diagnosis, &texts, answer, know, extent)
-        }
-        Printing::Json => diagnosis_json(alloc, layout, &diagnosis, &texts),
-        Printing::Rank(rank) => of_rank(alloc, layout, &diagnosis, &texts, answer, know, rank),
-        Printing::Picture(extent) => {
-            diagnosis_picture(alloc, layout, &diagnosis, &texts, extent == Extent::Whole)
-        }
-    }
+    printed(printing, alloc, layout, &diagnosis, &texts, answer, know)
 }
 
 /// In words, and below them what is noted of the texts.

@@ -1,0 +1,12 @@
+use Rattle.std.proofs.Common.{arith}
+use Rattle.std.proofs.lemmas.Grind.{common_steps}
+use Rattle.trace_stuck.proofs.check.check_closed.Goals as goal
+
+pub loop-r-init : goal.loop-r-init
+loop-r-init c = grind (arith, common_steps)
+
+pub loop-r-preserved : goal.loop-r-preserved
+loop-r-preserved c = grind (arith, common_steps)
+
+pub returns : goal.returns
+returns c = grind (arith, common_steps)
