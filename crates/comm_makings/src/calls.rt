@@ -89,7 +89,7 @@ pub enum Action {
 }
 
 /// The calls that make windows (MPI 4.0, 12.2) and files (14.2.1).
-#[derive(Clone, Copy, Debug, PartialEq, Eq)]
+#[derive(Clone, Copy, PartialEq, Eq)]
 pub enum ObjectMaker {
     WinCreate,
     WinAllocate,

@@ -6,7 +6,7 @@ use mpi_model::Stretch;
 pub(crate) type Handle = Stretch;
 
 /// What a call gives.
-#[derive(Clone, Copy, PartialEq, Eq)]
+#[derive(Clone, Copy)]
 pub(crate) enum Gives {
     /// The call didn't return.
     Nothing,

@@ -22,7 +22,7 @@ use std::alloc::{AllocError, Global};
 use thiserror::Error;
 
 /// How much is printed of a run.
-#[derive(Clone, Copy, Debug, PartialEq, Eq)]
+#[derive(Clone, Copy, PartialEq, Eq)]
 pub enum Extent {
     /// Long lists are cut.
     Cut,
@@ -31,7 +31,7 @@ pub enum Extent {
 }
 
 /// What the program is asked to do.
-#[derive(Clone, Copy, Debug, PartialEq, Eq)]
+#[derive(Clone, Copy, PartialEq, Eq)]
 pub enum Verb {
     /// Say in words what holds up the run, where all ranks stand, and what may make that wrong.
     Explain(Extent),
@@ -72,7 +72,7 @@ impl Verb {
 }
 
 /// What `init` is to make of the texts.
-#[derive(Clone, Copy, Debug, PartialEq, Eq)]
+#[derive(Clone, Copy)]
 pub struct Wanted<'a> {
     /// How sends complete in the layout.
     pub sends: Sends,
@@ -85,7 +85,7 @@ pub struct Wanted<'a> {
 }
 
 /// What the words ask for, with the names of files as they spell them.
-#[derive(Debug, Drop)]
+#[derive(Drop)]
 pub enum Asked<'a> {
     /// A verb over a layout and a manifest.
     Pair {

@@ -35,7 +35,7 @@ use std::sync::Wait;
 use std::thread::Threads;
 
 /// The status of the program, and what standard error shows.
-#[derive(Debug, Drop)]
+#[derive(Drop)]
 pub struct Ending {
     /// 0 if the run was good, 1 for a refused run, 2 for a mistake in the words.
     pub status: u8,

@@ -50,7 +50,7 @@ impl<'a, O: Opener> Run<'a, O> {
 }
 
 /// How a run ended whose output was written completely.
-#[derive(Clone, Copy, Debug, PartialEq, Eq)]
+#[derive(Clone, Copy)]
 pub enum Outcome {
     /// All that was checked held.
     Good,

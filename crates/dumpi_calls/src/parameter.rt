@@ -81,7 +81,7 @@ impl fmt::Display for Parameter {
 }
 
 /// Why a call is refused.
-#[derive(Clone, Copy, Debug, PartialEq, Eq)]
+#[derive(Clone, Copy)]
 pub enum CallFault {
     /// No memory was left to read it.
     Memory,

@@ -33,7 +33,7 @@ pub const MOST_RANKS: u32 = 1024;
 pub const MOST_COMMS: usize = 65_536;
 
 /// How sends of standard mode complete. MPI allows both, and a program can't know which it gets (MPI 4.0, 3.4).
-#[derive(Clone, Copy, Debug, PartialEq, Eq)]
+#[derive(Clone, Copy, PartialEq, Eq)]
 pub enum Sends {
     /// A send completes only when its receive has been posted.
     Wait,
@@ -43,7 +43,7 @@ pub enum Sends {
 
 /// The ranks of a run, its communicators, windows and files (MPI 4.0, chapters 7, 12 and 14), and
 /// how its sends complete.
-#[derive(Debug, Drop)]
+#[derive(Drop)]
 pub struct Layout {
     ranks: u32,
     world: u32,

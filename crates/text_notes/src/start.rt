@@ -10,7 +10,7 @@ use mpi_model::{Failed, Read, ReadFault, read_exactly};
 pub const LONGEST_FRONT: usize = 512;
 
 /// What a text without calls is taken for, by its first bytes.
-#[derive(Clone, Copy, Debug, PartialEq, Eq)]
+#[derive(Clone, Copy)]
 pub enum Start {
     /// It has no byte.
     Empty,

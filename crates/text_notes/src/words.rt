@@ -14,7 +14,7 @@ use call_words::{Text, put_more};
 use std::alloc::Global;
 
 /// What is said of a text.
-#[derive(Clone, Copy, Debug, PartialEq, Eq)]
+#[derive(Clone, Copy, PartialEq, Eq)]
 pub enum Kind {
     /// The first of its calls that is not read.
     Unread,

@@ -6,7 +6,7 @@ ghost use Rattle.trace_ops.specs.Round.{is_barrier, is_communication};
 use mpi_model::{CollectiveFunction, Kind};
 
 /// A collective call that a rank entered, blocking or not (MPI 4.0, 6.1 and 6.12).
-#[derive(Clone, Copy, Debug, PartialEq, Eq)]
+#[derive(Clone, Copy)]
 pub struct Entered {
     /// The id of its object in the layout: of a communicator, a window or a file.
     pub comm: u32,

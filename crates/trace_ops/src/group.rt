@@ -7,7 +7,7 @@ ghost use Rattle.trace_ops.specs.Groups.{IsWorldOf, plain_group};
 use mpi_model::{Call, Collective, CommRef, Layout, Object, Peer};
 
 /// The group of an object: ranks of the trace, in the order of their ranks in the group (MPI 4.0, 7.2.1).
-#[derive(Clone, Copy, Debug)]
+#[derive(Clone, Copy)]
 pub(crate) struct Group<'a> {
     /// The object's id in the layout.
     pub comm: u32,

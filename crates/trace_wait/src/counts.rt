@@ -11,7 +11,7 @@ use std::alloc::{AllocError, Global};
 use std::marker::Model;
 
 /// The calls on a communicator, by member.
-#[derive(Debug, Drop)]
+#[derive(Drop)]
 pub(crate) struct CommCalls {
     comm: u32,
     calls: Vec<u64>,

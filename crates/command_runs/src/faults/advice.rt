@@ -23,7 +23,7 @@ use text_notes::Start;
 
 /// The advice below a fault line, for a person: what was found and what to do. It is nothing, or lines that begin with
 /// two spaces.
-#[derive(Clone, Copy, Debug)]
+#[derive(Clone, Copy)]
 pub struct Advice<'a> {
     fault: &'a RunFault,
     found: &'a Found,

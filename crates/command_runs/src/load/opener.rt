@@ -9,7 +9,7 @@ use std::fs::Files;
 use std::io;
 
 /// Why a file couldn't be opened.
-#[derive(Clone, Copy, Debug, PartialEq, Eq)]
+#[derive(Clone, Copy)]
 pub enum OpenFault {
     /// The file can't be opened.
     File,

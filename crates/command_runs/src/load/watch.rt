@@ -23,7 +23,7 @@ pub trait Watcher: Drop {
 }
 
 /// A watcher that does nothing.
-#[derive(Debug, Drop)]
+#[derive(Drop)]
 pub struct Unwatched;
 
 impl Watcher for Unwatched {

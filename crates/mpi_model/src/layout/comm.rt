@@ -11,7 +11,7 @@ use std::marker::Model;
 
 /// The number by which a rank names an object in some of its calls: from call `first` on and before call `end`, or to
 /// the end if that is `None`. Calls count from 0.
-#[derive(Clone, Copy, Debug, PartialEq, Eq)]
+#[derive(Clone, Copy)]
 pub struct Stretch {
     pub number: u32,
     /// The first call in which it does, from 0.
@@ -22,7 +22,7 @@ pub struct Stretch {
 
 /// A communicator, a window or a file: its id, and the ranks of its group in their order (MPI 4.0,
 /// 7.2.1).
-#[derive(Debug, Drop)]
+#[derive(Drop)]
 pub struct Comm {
     pub id: u32,
     pub object: Object,

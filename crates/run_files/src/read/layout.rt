@@ -33,7 +33,7 @@ pub fn layout_of(alloc: Global, text: &[u8]) -> Result<Layout, InputFault>
 }
 
 /// The fields of a layout, its communicators in the order of the file.
-#[derive(Debug, Drop)]
+#[derive(Drop)]
 struct Given {
     ranks: u32,
     world: u32,
