@@ -35,7 +35,9 @@ pub(crate) enum Grouper {
     Union,
     Intersection,
     Difference,
-    /// MPI_Comm_remote_group, MPI_Win_get_group and MPI_File_get_group.
+    /// MPI_Comm_remote_group.
+    OfRemote,
+    /// MPI_Win_get_group and MPI_File_get_group.
     Unread,
     /// MPI_Group_from_session_pset.
     UnreadNew,
@@ -49,10 +51,8 @@ pub(crate) enum Giver {
     SplitType,
     /// `newcomm`, on `comm`.
     NewComm,
-    /// `newintercomm`, on `local_comm`.
+    /// `newintercomm`, of groups.
     NewIntercomm,
-    /// MPI_Intercomm_merge: `newintracomm`, `newintercomm` or `newcomm`.
-    Merge,
     /// `intercomm`, on `comm`.
     Intercomm,
     /// `parent`.
@@ -68,6 +68,10 @@ pub(crate) enum Function {
     /// MPI_Comm_free and MPI_Comm_disconnect.
     Free,
     Group(Grouper),
+    /// MPI_Intercomm_create.
+    Join,
+    /// MPI_Intercomm_merge.
+    Merge,
     Give(Giver),
     /// What makes a window or a file.
     MakeObject(ObjectMaker),
@@ -167,12 +171,12 @@ fn group_named(name: &[u8]) -> Option<Grouper>
     }
 }
 
-/// Another function that gives a group: its ranks are unknown.
+/// Another function that gives a group: the remote one of an intercommunicator, or one whose ranks are unknown.
 fn other_group_named(name: &[u8]) -> Option<Grouper>
     ensures { result ≡ other_group_named name.now }
 {
     if is(name, "MPI_Comm_remote_group") {
-        Some(Grouper::Unread)
+        Some(Grouper::OfRemote)
     } else if is(name, "MPI_Win_get_group") {
         Some(Grouper::Unread)
     } else if is(name, "MPI_File_get_group") {
@@ -184,7 +188,7 @@ fn other_group_named(name: &[u8]) -> Option<Grouper>
     }
 }
 
-/// Another function that gives a communicator (MPI 4.0, 7.4.2, 7.6 and 11.8 to 11.10).
+/// Another function that gives a communicator (MPI 4.0, 7.4.2, 7.6.2 and 11.8 to 11.10).
 fn giver_named(name: &[u8]) -> Option<Giver>
     ensures { result ≡ giver_named name.now }
 {
@@ -196,12 +200,8 @@ fn giver_named(name: &[u8]) -> Option<Giver>
         Some(Giver::NewComm)
     } else if is(name, "MPI_Comm_create_from_group") {
         Some(Giver::NewComm)
-    } else if is(name, "MPI_Intercomm_create") {
-        Some(Giver::NewIntercomm)
     } else if is(name, "MPI_Intercomm_create_from_groups") {
         Some(Giver::NewIntercomm)
-    } else if is(name, "MPI_Intercomm_merge") {
-        Some(Giver::Merge)
     } else if is(name, "MPI_Comm_spawn") {
         Some(Giver::Intercomm)
     } else if is(name, "MPI_Comm_spawn_multiple") {
@@ -215,7 +215,8 @@ fn giver_named(name: &[u8]) -> Option<Giver>
     }
 }
 
-/// What tells a rank its own, or frees a communicator (MPI 4.0, 7.4.1, 7.4.3 and 11.10.4).
+/// What tells a rank its own, frees a communicator, or joins and merges groups (MPI 4.0, 7.4.1, 7.4.3, 7.6.2 and
+/// 11.10.4).
 fn single_named(name: &[u8]) -> Option<Function>
     ensures { result ≡ single_named name.now }
 {
@@ -225,6 +226,10 @@ fn single_named(name: &[u8]) -> Option<Function>
         Some(Function::Free)
     } else if is(name, "MPI_Comm_disconnect") {
         Some(Function::Free)
+    } else if is(name, "MPI_Intercomm_create") {
+        Some(Function::Join)
+    } else if is(name, "MPI_Intercomm_merge") {
+        Some(Function::Merge)
     } else {
         None
     }

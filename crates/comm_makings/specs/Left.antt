@@ -38,13 +38,16 @@ number_said _ = None
 -- the function of a call that gives a communicator, and the number that it gives
 abbrev pub giving : Action → Option Giver
 giving (actions.Make parent making given) = Some (record { made_by = function_of making; number = number_said given })
+giving (actions.Join local leaders given) = Some (record { made_by = functions.IntercommCreate; number = number_said given })
+giving (actions.Merge comm high given) = Some (record { made_by = functions.IntercommMerge; number = number_said given })
 giving (actions.GivesComm comm given) = Some (record { made_by = functions.Other; number = number_said given })
 giving _ = None
 
--- Why a handle is left out of which nothing was derived: by its function, by a parent that is left out, or by one that
--- is unknown.
+-- Why a handle is left out of which nothing was derived: by its function, since no leader answers, by a parent that is
+-- left out, or by one that is unknown.
 abbrev pub why_open : MadeBy → Bool → Why
 why_open functions.Other known = whys.Function
+why_open functions.IntercommCreate known = whys.Untold
 why_open _ true = whys.Parent
 why_open _ false = whys.UnknownParent
 
@@ -53,6 +56,7 @@ abbrev pub why_left : Option HandleState → MadeBy → Bool → Option Why
 why_left None function known = Some (why_open function known)
 why_left (Some standings.Open) function known = Some (why_open function known)
 why_left (Some (standings.Derived place)) function known = None
+why_left (Some (standings.Inter place second)) function known = None
 why_left (Some (standings.Left why)) function known = Some why
 
 -- a reason, with the handle

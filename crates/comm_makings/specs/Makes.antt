@@ -200,6 +200,8 @@ IsMadeBy ranks views dims all functions.DistGraphCreate parts = IsDistGraphMade 
 IsMadeBy ranks views dims all functions.DistGraphCreateAdjacent parts = IsDistGraphMade ranks views all parts
 IsMadeBy ranks views dims all functions.Create parts = ⊥
 IsMadeBy ranks views dims all functions.CreateGroup parts = ⊥
+IsMadeBy ranks views dims all functions.IntercommCreate parts = ⊥
+IsMadeBy ranks views dims all functions.IntercommMerge parts = ⊥
 IsMadeBy ranks views dims all functions.Other parts = ⊥
 
 -- The calls are one making of this function: those that are there call it, and what they give can be read.

@@ -53,6 +53,8 @@ pub enum MadeBy {
     GraphCreate,
     DistGraphCreate,
     DistGraphCreateAdjacent,
+    IntercommCreate,
+    IntercommMerge,
     /// Another function, whose communicators aren't derived.
     Other,
 }
@@ -69,7 +71,7 @@ pub enum Why {
     /// Its parent is left out.
     Parent,
     /// A member of the parent has no such call, or no call tells the ranks of one that is reordered, or the parent has
-    /// no known dimensions.
+    /// no known dimensions; or no leader of another group answers a MPI_Intercomm_create.
     Untold,
     /// The members' calls differ where they have to agree, or a parameter is unknown.
     Unsound,

@@ -38,4 +38,6 @@ pub(crate) struct Meant {
     /// The group that it names, or the first of two.
     pub group: GroupAt,
     pub second: GroupAt,
+    /// The handle that it names as that of the communicator of two leaders.
+    pub bridge: Option<usize>,
 }

@@ -116,6 +116,7 @@ wanted_text parameters.Comm = codes "a number from 0 to 2147483647, or (MPI_COMM
 wanted_text parameters.OldComm = codes "a number from 0 to 2147483647, or (MPI_COMM_WORLD) behind a number"
 wanted_text parameters.CommOld = codes "a number from 0 to 2147483647, or (MPI_COMM_WORLD) behind a number"
 wanted_text parameters.LocalComm = codes "a number from 0 to 2147483647, or (MPI_COMM_WORLD) behind a number"
+wanted_text parameters.Intercomm = codes "a number from 0 to 2147483647, or (MPI_COMM_WORLD) behind a number"
 wanted_text parameters.Win = codes "a number from 0 to 2147483647"
 wanted_text parameters.Fh = codes "a number from 0 to 2147483647"
 wanted_text parameters.File = codes "a number from 0 to 2147483647"

@@ -114,6 +114,8 @@ pub enum Kind {
     CommSetInfo,
     WinSetInfo,
     FileSetInfo,
+    // of an intercommunicator alone (MPI 4.0, 7.6.2)
+    IntercommMerge,
 }
 
 /// Which parameters may name the object of a call. The first of them that the call has names it.
@@ -127,6 +129,8 @@ pub enum ObjectParameter {
     CommOld,
     /// `local_comm`
     LocalComm,
+    /// `intercomm`
+    Intercomm,
     /// `win`
     Win,
     /// `fh`, `file`

@@ -4,11 +4,11 @@ use Rattle.json.specs.Json.{Json, null, number, string, array, object, Items, no
 use Rattle.json.specs.Print.{print}
 use Rattle.json.specs.Token.{Token}
 use Rattle.json.specs.Token as tokens
-use Rattle.json.specs.Tree.{json_tokens}
+use Rattle.json.specs.Tree.{items_tokens, json_tokens}
 use Rattle.json.specs.Written.{Written}
 use Rattle.mpi_model.specs.declared.object.Object.{Object}
 use Rattle.mpi_model.specs.declared.object.Object.TheVariants as sorts
-use Rattle.mpi_model.specs.Communicators.{Communicator}
+use Rattle.mpi_model.specs.Communicators.{Communicator, first_group, is_inter, second_group}
 use Rattle.mpi_model.specs.Layouts.{Parts}
 use Rattle.mpi_model.specs.declared.layout.Sends.{Sends}
 use Rattle.mpi_model.specs.declared.layout.Sends.TheVariants.{Wait, Buffer}
@@ -58,9 +58,18 @@ object_tokens sorts.Communicator = []
 object_tokens sorts.Window = tokens.key (codes "object") ∷ tokens.string (codes "window") ∷ []
 object_tokens sorts.File = tokens.key (codes "object") ∷ tokens.string (codes "file") ∷ []
 
--- `{"id":C,"object":"window","members":[..],"numbers":[..]}`, without the second field for a communicator
+-- the field of an intercommunicator's second group, before other fields
+abbrev pub with_remote : Communicator → Members → Members
+with_remote g others = if is_inter g then member (codes "remote") (array (items_of number_of (second_group g))) others else others
+
+-- the tokens of that field
+abbrev pub remote_tokens : Communicator → List Token
+remote_tokens g = if is_inter g then tokens.key (codes "remote") ∷ tokens.begin_array ∷ items_tokens (items_of number_of (second_group g)) else []
+
+-- `{"id":C,"object":"window","members":[..],"remote":[..],"numbers":[..]}`, without the second field for a
+-- communicator, and without the fourth for what has one group
 abbrev pub communicator_value : Communicator → Json
-communicator_value g = object (member (codes "id") (number_of g.comm) (with_object g.object (member (codes "members") (array (items_of number_of g.members)) (numbers_field g.numbers))))
+communicator_value g = object (member (codes "id") (number_of g.comm) (with_object g.object (member (codes "members") (array (items_of number_of (first_group g))) (with_remote g (numbers_field g.numbers)))))
 
 -- how sends of standard mode complete
 abbrev pub sends_word : Sends → List ℕ

@@ -3,7 +3,7 @@ use Rattle.std.specs.Prelude.{◌-◌, ℕ, List, [], ◌++◌, Option, Some, No
 use Rattle.std.specs.List.{flat_map}
 use Rattle.call_words.specs.More.{more_text}
 use Rattle.call_words.specs.Ranges.{named_ranks_text}
-use Rattle.mpi_model.specs.Communicators.{Communicator}
+use Rattle.mpi_model.specs.Communicators.{Communicator, first_group, is_inter, second_group}
 use Rattle.mpi_model.specs.declared.object.Object.{Object}
 use Rattle.mpi_model.specs.declared.object.Object.TheVariants as objects
 use Rattle.comm_makings.specs.declared.answer.LeftOut.{LeftOut}
@@ -23,9 +23,14 @@ sort_text objects.Communicator = []
 sort_text objects.Window = codes "window "
 sort_text objects.File = codes "file "
 
--- `  5: ranks 0, 2`, the members in their order, or `  window 9: ranks 0, 1`
+-- ` and ranks 2, 3`: the second group of an intercommunicator
+abbrev pub second_text : Communicator → List ℕ
+second_text g = if is_inter g then codes " and " ++ named_ranks_text (second_group g) else []
+
+-- `  5: ranks 0, 2`, the members in their order, or `  window 9: ranks 0, 1`; `  7: ranks 0, 1 and ranks 2, 3` of an
+-- intercommunicator
 abbrev pub comm_text : Communicator → List ℕ
-comm_text g = codes "  " ++ sort_text g.object ++ decimal g.comm ++ codes ": " ++ named_ranks_text g.members ++ codes "\n"
+comm_text g = codes "  " ++ sort_text g.object ++ decimal g.comm ++ codes ": " ++ named_ranks_text (first_group g) ++ second_text g ++ codes "\n"
 
 -- how many communicators, windows and files there are, and the first twenty of them
 abbrev pub comms_text : List Communicator → List ℕ
@@ -46,6 +51,8 @@ function_text makers.CartSub = codes "MPI_Cart_sub"
 function_text makers.GraphCreate = codes "MPI_Graph_create"
 function_text makers.DistGraphCreate = codes "MPI_Dist_graph_create"
 function_text makers.DistGraphCreateAdjacent = codes "MPI_Dist_graph_create_adjacent"
+function_text makers.IntercommCreate = codes "MPI_Intercomm_create"
+function_text makers.IntercommMerge = codes "MPI_Intercomm_merge"
 function_text makers.Other = codes "another function"
 
 -- why a communicator is left out

@@ -53,6 +53,7 @@ fn copy_of(alloc: Global, comm: &Comm) -> Result<Comm, AllocError>
         id: comm.id,
         object: comm.object,
         members,
+        remote_size: comm.remote_size,
         numbers,
     })
 }

@@ -4,7 +4,7 @@ ghost use Rattle.std.specs.Prelude.{◌≡◌, ◌-◌, length, take};
 ghost use Rattle.std.specs.List.{flat_map};
 ghost use Rattle.call_words.specs.Texts.{Adds};
 ghost use Rattle.text_layouts.specs.declared.words.TheConstants.{MOST_SHOWN};
-ghost use Rattle.text_layouts.specs.Words.{comm_text, comms_text, counts_text, function_text, given_text, left_out_text, left_text, notes_text, some_left_text, sort_text, why_text};
+ghost use Rattle.text_layouts.specs.Words.{comm_text, comms_text, counts_text, function_text, given_text, left_out_text, left_text, notes_text, second_text, some_left_text, sort_text, why_text};
 
 use call_words::{Text, put_more, put_named_ranks};
 use comm_makings::{Derived, LeftOut, MadeBy, Why};
@@ -35,7 +35,18 @@ fn put_sort(out: &mut Text, object: Object)
     }
 }
 
-/// `  5: ranks 0, 2`, the members in their order, or `  window 9: ranks 0, 1`.
+/// ` and ranks 2, 3`: the second group of an intercommunicator.
+fn put_second(out: &mut Text, comm: &Comm)
+    ensures { Adds out.old out.new (second_text comm.now) }
+{
+    if comm.is_inter() {
+        out.put(b" and ");
+        put_named_ranks(out, comm.second_group());
+    }
+}
+
+/// `  5: ranks 0, 2`, the members in their order, or `  window 9: ranks 0, 1`; `  7: ranks 0, 1 and ranks 2, 3` of an
+/// intercommunicator.
 fn put_comm(out: &mut Text, comm: &Comm)
     ensures { Adds out.old out.new (comm_text comm.now) }
 {
@@ -43,7 +54,8 @@ fn put_comm(out: &mut Text, comm: &Comm)
     put_sort(out, comm.object);
     out.put_number(comm.id as u64);
     out.put(b": ");
-    put_named_ranks(out, &comm.members);
+    put_named_ranks(out, comm.first_group());
+    put_second(out, comm);
     out.put(b"\n");
 }
 
@@ -84,6 +96,8 @@ fn function_text(made_by: MadeBy) -> &'static [u8]
         MadeBy::GraphCreate => b"MPI_Graph_create",
         MadeBy::DistGraphCreate => b"MPI_Dist_graph_create",
         MadeBy::DistGraphCreateAdjacent => b"MPI_Dist_graph_create_adjacent",
+        MadeBy::IntercommCreate => b"MPI_Intercomm_create",
+        MadeBy::IntercommMerge => b"MPI_Intercomm_merge",
         MadeBy::Other => b"another function",
     }
 }

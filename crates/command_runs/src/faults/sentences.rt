@@ -214,7 +214,11 @@ pub(crate) fn wanted_text(parameter: Parameter) -> &'static str
             "a number from 0 to 2147483647, and of a receive also -1 or (MPI_ANY_TAG)"
         }
         Parameter::RecvTag => "a number from 0 to 2147483647, or -1 or (MPI_ANY_TAG)",
-        Parameter::Comm | Parameter::OldComm | Parameter::CommOld | Parameter::LocalComm => {
+        Parameter::Comm
+        | Parameter::OldComm
+        | Parameter::CommOld
+        | Parameter::LocalComm
+        | Parameter::Intercomm => {
             "a number from 0 to 2147483647, or (MPI_COMM_WORLD) behind a number"
         }
         Parameter::Requests => "a list of numbers, as [2] {4, 5}",
