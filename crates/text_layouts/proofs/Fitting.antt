@@ -16,8 +16,11 @@ all_fit ranks n world sends comms n_is world_is sound h =
 pub used_are : (ranks : List RankCalls) (n world : ℕ) (sends : Sends) (named comms : List Communicator) → n ≡ length ranks → world ≡ world_of ranks
     → IsSound choices.Named (world_of ranks) ranks named → fits n world sends named ≡ false → IsSound choices.Used (world_of ranks) ranks comms → AreObjectsOf sends ranks comms
 used_are ranks n world sends named comms n_is world_is sound h used =
-    inr (used, record {
-      named = named;
-      sound = sound;
-      too_much = subst (λ (m : ℕ). fits m (world_of ranks) sends named ≡ false) n_is (subst (λ (w : ℕ). fits n w sends named ≡ false) world_is h);
-    })
+    inr (
+      used,
+      record {
+        named = named;
+        sound = sound;
+        too_much = subst (λ (m : ℕ). fits m (world_of ranks) sends named ≡ false) n_is (subst (λ (w : ℕ). fits n w sends named ≡ false) world_is h);
+      },
+    )
