@@ -15,15 +15,15 @@ _mpimatch() {
             case $verb in
                 "") words="$verbs -h --help -V --version" ;;
                 help) words="$verbs" ;;
-                explain) words="--json --all --rank -h --help" files=yes ;;
-                graph) words="--all -h --help" files=yes ;;
-                page) words="-h --help" files=yes ;;
-                report) words="--json -h --help" files=yes ;;
-                replay) words="-h --help" files=yes ;;
-                cluster) words="-h --help" files=yes ;;
-                check) words="-h --help" files=yes ;;
-                pack) words="-h --help" files=yes ;;
-                init) words="--sends --layout --manifest --force -h --help" files=yes ;;
+                explain) words="-q --quiet --verbose --json --all --rank -h --help" files=yes ;;
+                graph) words="-q --quiet --verbose --all -h --help" files=yes ;;
+                page) words="-q --quiet --verbose -h --help" files=yes ;;
+                report) words="-q --quiet --verbose --json -h --help" files=yes ;;
+                replay) words="-q --quiet -h --help" files=yes ;;
+                cluster) words="-q --quiet -h --help" files=yes ;;
+                check) words="-q --quiet --verbose --json -h --help" files=yes ;;
+                pack) words="-q --quiet -h --help" files=yes ;;
+                init) words="--sends --layout --manifest --force -q --quiet --json -h --help" files=yes ;;
             esac
             [[ $word == -* ]] && files= || { [[ $files ]] && words=; }
             ;;

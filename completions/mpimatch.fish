@@ -14,29 +14,45 @@ complete -c mpimatch -n __fish_use_subcommand -s h -l help -d 'Print help'
 complete -c mpimatch -n __fish_use_subcommand -s V -l version -d 'Print version'
 complete -c mpimatch -n '__fish_seen_subcommand_from help' -a 'explain graph page report replay cluster check pack init help'
 complete -c mpimatch -n '__fish_seen_subcommand_from explain' -F
+complete -c mpimatch -n '__fish_seen_subcommand_from explain' -s q -l quiet -d 'Writes nothing on standard error but faults'
+complete -c mpimatch -n '__fish_seen_subcommand_from explain' -l verbose -d 'Names the communicators that the texts make, and those that are left out'
 complete -c mpimatch -n '__fish_seen_subcommand_from explain' -l json -d 'Prints the same facts as one JSON object'
 complete -c mpimatch -n '__fish_seen_subcommand_from explain' -l all -d 'Cuts no list'
 complete -c mpimatch -n '__fish_seen_subcommand_from explain' -l rank -x -d 'Says what is known of this rank alone'
 complete -c mpimatch -n '__fish_seen_subcommand_from explain' -s h -l help -d 'Print help'
 complete -c mpimatch -n '__fish_seen_subcommand_from graph' -F
+complete -c mpimatch -n '__fish_seen_subcommand_from graph' -s q -l quiet -d 'Writes nothing on standard error but faults'
+complete -c mpimatch -n '__fish_seen_subcommand_from graph' -l verbose -d 'Names the communicators that the texts make, and those that are left out'
 complete -c mpimatch -n '__fish_seen_subcommand_from graph' -l all -d 'Draws all nodes, also more than 200'
 complete -c mpimatch -n '__fish_seen_subcommand_from graph' -s h -l help -d 'Print help'
 complete -c mpimatch -n '__fish_seen_subcommand_from page' -F
+complete -c mpimatch -n '__fish_seen_subcommand_from page' -s q -l quiet -d 'Writes nothing on standard error but faults'
+complete -c mpimatch -n '__fish_seen_subcommand_from page' -l verbose -d 'Names the communicators that the texts make, and those that are left out'
 complete -c mpimatch -n '__fish_seen_subcommand_from page' -s h -l help -d 'Print help'
 complete -c mpimatch -n '__fish_seen_subcommand_from report' -F
+complete -c mpimatch -n '__fish_seen_subcommand_from report' -s q -l quiet -d 'Writes nothing on standard error but faults'
+complete -c mpimatch -n '__fish_seen_subcommand_from report' -l verbose -d 'Names the communicators that the texts make, and those that are left out'
 complete -c mpimatch -n '__fish_seen_subcommand_from report' -l json -d 'Prints the report as one JSON object'
 complete -c mpimatch -n '__fish_seen_subcommand_from report' -s h -l help -d 'Print help'
 complete -c mpimatch -n '__fish_seen_subcommand_from replay' -F
+complete -c mpimatch -n '__fish_seen_subcommand_from replay' -s q -l quiet -d 'Writes nothing on standard error but faults'
 complete -c mpimatch -n '__fish_seen_subcommand_from replay' -s h -l help -d 'Print help'
 complete -c mpimatch -n '__fish_seen_subcommand_from cluster' -F
+complete -c mpimatch -n '__fish_seen_subcommand_from cluster' -s q -l quiet -d 'Writes nothing on standard error but faults'
 complete -c mpimatch -n '__fish_seen_subcommand_from cluster' -s h -l help -d 'Print help'
 complete -c mpimatch -n '__fish_seen_subcommand_from check' -F
+complete -c mpimatch -n '__fish_seen_subcommand_from check' -s q -l quiet -d 'Writes nothing on standard error but faults'
+complete -c mpimatch -n '__fish_seen_subcommand_from check' -l verbose -d 'Names the communicators that the texts make, and those that are left out'
+complete -c mpimatch -n '__fish_seen_subcommand_from check' -l json -d 'Prints the same as one JSON object'
 complete -c mpimatch -n '__fish_seen_subcommand_from check' -s h -l help -d 'Print help'
 complete -c mpimatch -n '__fish_seen_subcommand_from pack' -F
+complete -c mpimatch -n '__fish_seen_subcommand_from pack' -s q -l quiet -d 'Writes nothing on standard error but faults'
 complete -c mpimatch -n '__fish_seen_subcommand_from pack' -s h -l help -d 'Print help'
 complete -c mpimatch -n '__fish_seen_subcommand_from init' -F
 complete -c mpimatch -n '__fish_seen_subcommand_from init' -l sends -x -a 'wait buffer' -d 'Says how a send of standard mode completes: wait or buffer [default: wait]'
 complete -c mpimatch -n '__fish_seen_subcommand_from init' -l layout -r -F -d 'Names the file for the layout [default: layout.json]'
 complete -c mpimatch -n '__fish_seen_subcommand_from init' -l manifest -r -F -d 'Names the file for the manifest [default: manifest.json]'
 complete -c mpimatch -n '__fish_seen_subcommand_from init' -l force -d 'Writes over files of these names that are there'
+complete -c mpimatch -n '__fish_seen_subcommand_from init' -s q -l quiet -d 'Writes nothing on standard error but faults'
+complete -c mpimatch -n '__fish_seen_subcommand_from init' -l json -d 'Prints what was found as one JSON object'
 complete -c mpimatch -n '__fish_seen_subcommand_from init' -s h -l help -d 'Print help'

@@ -145,9 +145,10 @@ class Sweep:
 
 
 def folders(room):
-    """The folders of tests/cases/ whose streams and files are as usual, each laid out in a folder of its own."""
+    """The folders of tests/cases/ whose streams and files are as usual and where nothing is written, each laid out in a
+    folder of its own."""
     for folder in sorted(CASES.iterdir()):
-        if any((folder / it).exists() for it in ("full", "terminal", "unreadable")):
+        if any((folder / it).exists() for it in ("full", "terminal", "unreadable", "writable")):
             continue
         data = folder / "data"
         if (folder / "example").exists():

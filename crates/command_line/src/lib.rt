@@ -12,7 +12,7 @@
 ghost use Rattle.std.specs.Prelude.{◌≡◌, [], IfErr, IfOk, OnOk, Some, codes, false, option_and_then, option_map};
 ghost use Rattle.clap.specs.Words.{app_of, fault_of, found_of, new_app, rows_of, rule_of, subcommand_of, subcommand_rows_of};
 ghost use Rattle.clap.specs.declared.builder.command.Command.TheViews.{out-Command};
-ghost use Rattle.command_line.specs.Program.{Refuses, all_rule, answering, bare, cluster_in, cluster_of, explain_app, extent_in, explain_in, file_rule, files_app, files_in, force_rule, form_in, graph_app, in_form, init_app, init_in, json_rule, layout_rule, wanted_of, wish_in, wish_of, manifest_rule, option_rule, pair_app, pair_in, pair_of, program, rank_rule, report_app, report_in, request_in, request_of, sends_named, sends_rule, several_rule, shown_status_of, text_of, told_in, verb_in, texts_of, verb_named, with_explain as and_explain, with_files as and_files, with_graph as and_graph, with_init as and_init, with_pair as and_pair, with_report as and_report};
+ghost use Rattle.command_line.specs.Program.{Refuses, all_rule, answering, bare, check_app, check_in, cluster_in, cluster_of, explain_app, extent_in, explain_in, file_rule, files_app, files_in, force_rule, form_in, graph_app, in_form, init_app, init_in, json_rule, layout_rule, wanted_of, wish_in, wish_of, manifest_rule, is_set, option_rule, pair_app, pair_in, pair_of, program, quiet_rule, rank_rule, report_app, report_in, request_in, request_of, sends_named, sends_rule, several_rule, shown_status_of, text_of, told_in, verb_in, verbose_rule, verbosity_in, verbosity_of, texts_of, verb_named, with_check as and_check, with_explain as and_explain, with_files as and_files, with_graph as and_graph, with_init as and_init, with_pair as and_pair, with_report as and_report};
 
 use clap::builder::ValueParser;
 use clap::error::ErrorKind;
@@ -28,6 +28,17 @@ pub enum Extent {
     Cut,
     /// Lists aren't cut.
     Whole,
+}
+
+/// How much is said on standard error beside faults.
+#[derive(Clone, Copy, Debug, PartialEq, Eq)]
+pub enum Verbosity {
+    /// Nothing.
+    Quiet,
+    /// What was found in texts, on one line.
+    Brief,
+    /// All that was found in texts.
+    Verbose,
 }
 
 /// What the program is asked to do.
@@ -52,6 +63,8 @@ pub enum Verb {
     Replay,
     /// Make the contents of a report a second time, straight from the rules, and print whether both agree.
     Check,
+    /// Print the same as one JSON object.
+    CheckJson,
     /// Write what the pieces say together as one packed file, which can be a piece of another run.
     Pack,
 }
@@ -82,6 +95,8 @@ pub struct Wanted<'a> {
     pub manifest: &'a str,
     /// Whether files of these names may be overwritten.
     pub force: bool,
+    /// Whether what was found is printed as JSON.
+    pub json: bool,
 }
 
 /// What the words ask for, with the names of files as they spell them.
@@ -90,12 +105,14 @@ pub enum Asked<'a> {
     /// A verb over a layout and a manifest.
     Pair {
         verb: Verb,
+        verbosity: Verbosity,
         layout: &'a str,
         manifest: &'a str,
     },
     /// A verb over its files: a layout and a manifest, or the texts of all ranks.
     Files {
         verb: Verb,
+        verbosity: Verbosity,
         files: Vec<&'a str>,
     },
     /// The pieces of a manifest are read by two nodes with two workers each, the nodes exchange what they know, and the
@@ -109,6 +126,22 @@ pub enum Asked<'a> {
         texts: Vec<&'a str>,
         wanted: Wanted<'a>,
     },
+}
+
+impl<'a> Asked<'a> {
+    ghost use Rattle.std.specs.Prelude.{◌≡◌};
+    ghost use Rattle.command_line.specs.Program.{asked_verbosity, request_of};
+
+    /// How much a verb says beside faults. A cluster and `init` say nothing there.
+    pub fn verbosity(&self) -> Verbosity
+        ensures { result ≡ asked_verbosity (request_of self.now) }
+    {
+        match self {
+            Asked::Pair { verbosity, .. } => *verbosity,
+            Asked::Files { verbosity, .. } => *verbosity,
+            Asked::Cluster { .. } | Asked::Init { .. } => Verbosity::Quiet,
+        }
+    }
 }
 
 /// Why the words ask for nothing that can be run.
@@ -275,6 +308,7 @@ rank that is named stuck or is let go on is looked at by itself. It prints two l
                                after another; or invalid
 It ends with 0 where they say equal and valid, and else with 1. mpimatch is proved to print nothing else:
 unequal or invalid is a fault of the program, its proof or the machine.
+With --json it prints the four counts, and whether both lines hold, as one JSON object on one line.
 Each piece costs a pass over all calls of its rank, so a rank in many pieces takes long.
 "#;
 
@@ -303,6 +337,8 @@ It writes both or none, and over a file that is there only with --force. It prin
 calls and communicators with their members, and what it left out, by the call that made it.
 The first text is that of rank 0, and so on; or the digits at each name's end are the rank, where every
 name has some and they are 0 to n-1, each once.
+With --json it prints what it found as one JSON object on one line: docs/formats.md has its keys.
+A folder stands for the files in it whose names end in .txt.
 To get the answer at once, give the texts to explain, graph, page, report or check in place of both files.
 "#;
 
@@ -314,11 +350,13 @@ Nodes that exchange what they know: replay, cluster. A trace in parts, on many m
 A layout and a manifest from texts: init.
 
 Example: mpimatch explain r0.txt r1.txt
+Example: mpimatch explain mpimatch-trace/
 Example: mpimatch explain layout.json manifest.json
 
 FILE... are a LAYOUT and a MANIFEST, or the texts of all ranks, rank 0 first, of which both are then
 made as init makes them, but not written. They are texts where the first one that isn't empty has a line
 among its first 4,096 bytes that begins with MPI_, as no line of JSON does. None may come by a pipe.
+A folder stands for the files in it whose names end in .txt.
 
 LAYOUT has the ranks and communicators of the run, in one JSON text:
   {"ranks":2,"world":2,"sends":"wait","comms":[{"id":2,"members":[0,1]}]}
@@ -330,8 +368,8 @@ MANIFEST has the text files of the trace, each with its rank and the number of i
   {"pieces":[{"rank":0,"first":0,"file":"r0.txt"},{"rank":1,"first":0,"file":"r1.txt"}]}
 and for replay also "nodes" and a "schedule", for cluster a "node" and a "worker" of each piece:
 mpimatch help replay and mpimatch help cluster say what they may hold. A file that pack has written
-is a piece {"packed":"FILE"}. Calls of a rank are numbered from 0. Files are named from the folder
-in which mpimatch runs.
+is a piece {"packed":"FILE"}. Calls of a rank are numbered from 0. A file is looked for from the folder
+in which mpimatch runs, and then beside the manifest.
 
 It ends with 0 and what the verb prints, with 2 for a mistake in the words, or with 1 and a line on
 standard error where an input is refused:
@@ -362,13 +400,7 @@ fn program_command<'a>(alloc: Global) -> Result<Command<'a>, AllocError>
         "Reads the pieces of two nodes, which exchange what they know, and prints the report of each",
         CLUSTER_HELP,
     )?;
-    let command = with_files(
-        command,
-        alloc,
-        "check",
-        "Makes pairs and stuck ranks once more straight from the rules, and prints whether they agree",
-        CHECK_HELP,
-    )?;
+    let command = with_check(command, alloc)?;
     let command = with_pair(
         command,
         alloc,
@@ -524,6 +556,28 @@ fn report_command<'a>(alloc: Global) -> Result<Command<'a>, AllocError>
     bare.arg(json_argument(alloc, "Prints the report as one JSON object"))
 }
 
+/// Adds `check`, which has a flag.
+fn with_check<'a>(command: Command<'a>, alloc: Global) -> Result<Command<'a>, AllocError>
+    ensures { IfOk result (λ c. app_of c ≡ and_check (app_of command.entry)) }
+{
+    let check = check_command(alloc)?;
+    command.subcommand(check)
+}
+
+/// `check`, over texts or a layout and a manifest, and whether as JSON.
+fn check_command<'a>(alloc: Global) -> Result<Command<'a>, AllocError>
+    ensures shape { IfOk result (λ c. app_of c ≡ check_app) }
+    ensures local { IfOk result (λ c. (out-Command c).has_globals ≡ false) }
+{
+    let bare = files_command(
+        alloc,
+        "check",
+        "Makes pairs and stuck ranks once more straight from the rules, and prints whether they agree",
+        CHECK_HELP,
+    )?;
+    bare.arg(json_argument(alloc, "Prints the same as one JSON object"))
+}
+
 /// The flag for JSON.
 fn json_argument<'a>(alloc: Global, help: &'a str) -> Arg<'a>
     ensures rule { rule_of result ≡ json_rule }
@@ -553,7 +607,9 @@ fn init_command<'a>(alloc: Global) -> Result<Command<'a>, AllocError>
     let sends = texts.arg(sends_argument(alloc))?;
     let layout = sends.arg(layout_argument(alloc))?;
     let manifest = layout.arg(manifest_argument(alloc))?;
-    manifest.arg(force_argument(alloc))
+    let force = manifest.arg(force_argument(alloc))?;
+    let quiet = force.arg(quiet_argument(alloc))?;
+    quiet.arg(json_argument(alloc, "Prints what was found as one JSON object"))
 }
 
 /// `init`, without its texts and options.
@@ -622,6 +678,29 @@ fn force_argument<'a>(alloc: Global) -> Arg<'a>
         .action(ArgAction::SetTrue)
 }
 
+/// `-q`, `--quiet`, which leaves nothing on standard error but faults.
+fn quiet_argument<'a>(alloc: Global) -> Arg<'a>
+    ensures rule { rule_of result ≡ quiet_rule }
+    ensures local { result.global ≡ false }
+{
+    Arg::new(alloc, "quiet")
+        .short('q')
+        .long("quiet")
+        .help("Writes nothing on standard error but faults")
+        .action(ArgAction::SetTrue)
+}
+
+/// `--verbose`, which names what was found in the texts.
+fn verbose_argument<'a>(alloc: Global) -> Arg<'a>
+    ensures rule { rule_of result ≡ verbose_rule }
+    ensures local { result.global ≡ false }
+{
+    Arg::new(alloc, "verbose")
+        .long("verbose")
+        .help("Names the communicators that the texts make, and those that are left out")
+        .action(ArgAction::SetTrue)
+}
+
 /// A verb over a layout and a manifest.
 fn pair_command<'a>(
     alloc: Global,
@@ -642,11 +721,10 @@ fn pair_command<'a>(
         "MANIFEST",
         "The pieces of the trace: text files by rank, or packed ones (JSON)",
     );
-    Command::new(alloc, name)
-        .about(about)
-        .after_help(more)
-        .arg(layout)?
-        .arg(manifest)
+    let bare = Command::new(alloc, name).about(about).after_help(more);
+    let one = bare.arg(layout)?;
+    let both = one.arg(manifest)?;
+    both.arg(quiet_argument(alloc))
 }
 
 /// A verb over its files.
@@ -664,10 +742,10 @@ fn files_command<'a>(
         "FILE",
         "A layout and a manifest (JSON), or the texts of all ranks, rank 0 first",
     );
-    Command::new(alloc, name)
-        .about(about)
-        .after_help(more)
-        .arg(files)
+    let bare = Command::new(alloc, name).about(about).after_help(more);
+    let named = bare.arg(files)?;
+    let quiet = named.arg(quiet_argument(alloc))?;
+    quiet.arg(verbose_argument(alloc))
 }
 
 /// A file that has to be named.
@@ -721,6 +799,7 @@ fn in_form(verb: Verb, json: Option<&str>, all: Option<&str>, rank: Option<&str>
         (Verb::Explain(_), Some(json), Some(all), None) => Some(told_in(json, all)),
         (Verb::Graph(_), _, Some(all), _) => Some(Verb::Graph(extent_in(all))),
         (Verb::Report, Some(text), _, _) => Some(report_in(text)),
+        (Verb::Check, Some(text), _, _) => Some(check_in(text)),
         (verb, _, _, _) => Some(verb),
     }
 }
@@ -768,6 +847,17 @@ fn report_in(flag: &str) -> Verb
     }
 }
 
+/// A check, as JSON where the value of the flag says so.
+fn check_in(flag: &str) -> Verb
+    ensures { result ≡ check_in flag.now }
+{
+    if flag == "true" {
+        Verb::CheckJson
+    } else {
+        Verb::Check
+    }
+}
+
 /// The verb of a name in the form that its flags give it.
 fn form_in(name: &str, inner: &ArgMatches<'_>) -> Option<Verb>
     ensures { result ≡ form_in name.now (rows_of (found_of inner.now)) }
@@ -779,13 +869,51 @@ fn form_in(name: &str, inner: &ArgMatches<'_>) -> Option<Verb>
     in_form(verb, json, all, rank)
 }
 
+/// Whether a flag is set, by its value.
+fn is_set(flag: Option<&str>) -> bool
+    ensures { result ≡ is_set (text_of flag.entry) }
+{
+    match flag {
+        Some(flag) => flag == "true",
+        None => false,
+    }
+}
+
+/// How much is said by the values of both flags: `--quiet` before `--verbose`.
+fn verbosity_of(quiet: Option<&str>, verbose: Option<&str>) -> Verbosity
+    ensures { result ≡ verbosity_of (text_of quiet.entry) (text_of verbose.entry) }
+{
+    if is_set(quiet) {
+        Verbosity::Quiet
+    } else if is_set(verbose) {
+        Verbosity::Verbose
+    } else {
+        Verbosity::Brief
+    }
+}
+
+/// How much a verb is to say beside faults.
+fn verbosity_in(inner: &ArgMatches<'_>) -> Verbosity
+    ensures { result ≡ verbosity_in (rows_of (found_of inner.now)) }
+{
+    let quiet = inner.get_str("quiet");
+    let verbose = inner.get_str("verbose");
+    verbosity_of(quiet, verbose)
+}
+
 /// A verb over a layout and a manifest, where both are named.
-fn pair_of<'a>(verb: Verb, layout: Option<&'a str>, manifest: Option<&'a str>) -> Option<Asked<'a>>
-    ensures { option_map request_of result ≡ pair_of verb (text_of layout.entry) (text_of manifest.entry) }
+fn pair_of<'a>(
+    verb: Verb,
+    verbosity: Verbosity,
+    layout: Option<&'a str>,
+    manifest: Option<&'a str>,
+) -> Option<Asked<'a>>
+    ensures { option_map request_of result ≡ pair_of verb verbosity (text_of layout.entry) (text_of manifest.entry) }
 {
     match (layout, manifest) {
         (Some(layout), Some(manifest)) => Some(Asked::Pair {
             verb,
+            verbosity,
             layout,
             manifest,
         }),
@@ -799,7 +927,7 @@ fn pair_in<'a>(verb: Verb, inner: &ArgMatches<'a>) -> Option<Asked<'a>>
 {
     let layout = inner.get_str("LAYOUT");
     let manifest = inner.get_str("MANIFEST");
-    pair_of(verb, layout, manifest)
+    pair_of(verb, verbosity_in(inner), layout, manifest)
 }
 
 /// A verb over its files, or over its layout and its manifest.
@@ -813,7 +941,12 @@ fn files_in<'a>(
     match inner.get_strs("FILE") {
         Some(names) => {
             let files = Vec::from_slice(alloc, names)?;
-            Ok(Some(Asked::Files { verb, files }))
+            let verbosity = verbosity_in(inner);
+            Ok(Some(Asked::Files {
+                verb,
+                verbosity,
+                files,
+            }))
         }
         None => Ok(pair_in(verb, inner)),
     }
@@ -867,15 +1000,17 @@ fn wanted_of<'a>(
     layout: Option<&'a str>,
     manifest: Option<&'a str>,
     force: Option<&str>,
+    json: Option<&str>,
 ) -> Option<Wanted<'a>>
-    ensures { option_map wish_of result ≡ wanted_of sends (text_of layout.entry) (text_of manifest.entry) (text_of force.entry) }
+    ensures { option_map wish_of result ≡ wanted_of sends (text_of layout.entry) (text_of manifest.entry) (text_of force.entry) (text_of json.entry) }
 {
-    match (sends, layout, manifest, force) {
-        (Some(sends), Some(layout), Some(manifest), Some(force)) => Some(Wanted {
+    match (sends, layout, manifest, force, json) {
+        (Some(sends), Some(layout), Some(manifest), Some(force), Some(json)) => Some(Wanted {
             sends,
             layout,
             manifest,
             force: force == "true",
+            json: json == "true",
         }),
         _ => None,
     }
@@ -890,7 +1025,8 @@ fn wanted_in<'a>(inner: &ArgMatches<'a>) -> Option<Wanted<'a>>
     let layout = inner.get_str("layout");
     let manifest = inner.get_str("manifest");
     let force = inner.get_str("force");
-    wanted_of(sends, layout, manifest, force)
+    let json = inner.get_str("json");
+    wanted_of(sends, layout, manifest, force, json)
 }
 
 /// `init` over its texts, with what it is to make.

@@ -1,4 +1,5 @@
 pub mod AllTold
+pub mod Folders
 pub mod AnyOrder
 pub mod ByPlace
 pub mod ByRank
@@ -9,6 +10,7 @@ pub mod Looks
 pub mod Nodes
 pub mod Notes
 pub mod OneByOne
+pub mod Prepared
 pub mod Opening
 pub mod Ordered
 pub mod OwnPieces

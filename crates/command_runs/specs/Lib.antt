@@ -1,16 +1,19 @@
 pub mod Advice
+pub mod CheckJson
 pub mod Clusters
 pub mod Endings
 pub mod Explains
 pub mod FaultLines
 pub mod FileNames
 pub mod Files
+pub mod Folders
 pub mod InitAdvice
 pub mod InitFaults
 pub mod Inits
 pub mod Inputs
 pub mod Known
 pub mod Looks
+pub mod NoTexts
 pub mod NodeTexts
 pub mod Nodes
 pub mod Notes
@@ -27,6 +30,7 @@ pub mod Schedules
 pub mod Sentences
 pub mod Shares
 pub mod ShownBytes
+pub mod Telling
 pub mod TextCalls
 pub mod Traces
 pub mod Verbs

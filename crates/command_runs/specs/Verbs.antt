@@ -1,12 +1,13 @@
 -- What each verb prints, and why it is refused.
-use Rattle.std.specs.Prelude.{◌≡◌, ◌⊎◌, ℕ, List, Option, Result, Ok, Err}
+use Rattle.std.specs.Prelude.{◌≡◌, ◌⊎◌, ℕ, List, Option, Result, Ok, Err, true}
 use Rattle.std.specs.Io.KnownBytes.{Keeps}
 use Rattle.mpi_model.specs.Layouts.{Parts}
 use Rattle.trace_check.specs.Checker.{IsCheckOf}
 use Rattle.trace_wire.specs.Packed.{IsPacked}
 use Rattle.command_line.specs.declared.Verb.{Verb}
-use Rattle.command_line.specs.declared.Verb.TheVariants.{Explain, ExplainJson, ExplainRank, Graph, Page, Report, ReportJson, Replay, Check, Pack}
+use Rattle.command_line.specs.declared.Verb.TheVariants.{Explain, ExplainJson, ExplainRank, Graph, Page, Report, ReportJson, Replay, Check, CheckJson, Pack}
 use Rattle.run_files.specs.Manifests.{ManifestParts}
+use Rattle.command_runs.specs.CheckJson.{check_json}
 use Rattle.command_runs.specs.Clusters.{IsClusterOf, RefusesCluster}
 use Rattle.command_runs.specs.Explains.{IsExplainOf}
 use Rattle.command_runs.specs.Known.{OfAllTold}
@@ -32,6 +33,7 @@ IsOutputOf file Report l m text = OfAllTold file l m (λ view. IsReported l view
 IsOutputOf file ReportJson l m text = OfAllTold file l m (λ view. IsReportedJson l view text)
 IsOutputOf file Replay l m text = IsReplayOf file l m text
 IsOutputOf file Check l m text = OfAllTold file l m (λ view. IsCheckOf l view text)
+IsOutputOf file CheckJson l m text = OfAllTold file l m (λ view. (lines : List ℕ) × IsCheckOf l view lines × (text ≡ check_json true lines))
 IsOutputOf file Pack l m text = OfAllTold file l m (λ view. IsPacked view text)
 
 -- What a verb prints begins so: its output whole, or the first nodes of a replay.

@@ -11,6 +11,7 @@ use crate::faults::fault::RunFault;
 use crate::load::opener::Opener;
 use crate::load::watch::Watcher;
 use crate::verbs::check::check;
+use crate::verbs::check_json::check_as_json;
 use crate::verbs::explain::{Printing, explain};
 use crate::verbs::pack::pack;
 use crate::verbs::page::page;
@@ -94,6 +95,7 @@ pub fn run_with<O: Opener, V: Watcher, W: Write>(
         Verb::ReportJson => report_as_json(run, watcher, out),
         Verb::Replay => replay(run, watcher, out),
         Verb::Check => check(run, watcher, out),
+        Verb::CheckJson => check_as_json(run, watcher, out),
         Verb::Pack => pack(run, watcher, out),
     }
 }

@@ -3,6 +3,7 @@
 pub(crate) mod answerer;
 pub(crate) mod arguments;
 pub(crate) mod check;
+pub(crate) mod check_json;
 pub(crate) mod cluster;
 pub(crate) mod explain;
 pub(crate) mod facts;

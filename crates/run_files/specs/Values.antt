@@ -13,6 +13,7 @@ use Rattle.mpi_model.specs.Layouts.{Parts}
 use Rattle.mpi_model.specs.declared.layout.Sends.{Sends}
 use Rattle.mpi_model.specs.declared.layout.Sends.TheVariants.{Wait, Buffer}
 use Rattle.mpi_model.specs.declared.layout.comm.Stretch.{Stretch}
+use Rattle.run_files.specs.Manifests.{PieceParts}
 
 -- a number, in decimal digits
 abbrev pub number_of : ℕ → Json
@@ -85,18 +86,13 @@ abbrev pub layout_value : Parts → Json
 layout_value l = object (member (codes "ranks") (number_of l.ranks) (member (codes "world") (number_of l.world)
     (member (codes "sends") (string (sends_word l.sends)) (member (codes "comms") (array (items_of communicator_value l.comms)) no_members))))
 
--- the whole text of a rank: `{"rank":R,"first":0,"file":".."}`
-abbrev pub piece_value : ℕ → List ℕ → Json
-piece_value rank file = object (member (codes "rank") (number_of rank) (member (codes "first") (number_of 0) (member (codes "file") (string file) no_members)))
-
--- the files of this rank and of those behind it
-abbrev pub pieces_from : ℕ → List (List ℕ) → Items
-pieces_from rank [] = no_items
-pieces_from rank (file ∷ files) = item (piece_value rank file) (pieces_from (rank + 1) files)
+-- a text that names no node and no worker: `{"rank":R,"first":N,"file":".."}`
+abbrev pub piece_value : PieceParts → Json
+piece_value p = object (member (codes "rank") (number_of p.rank) (member (codes "first") (number_of p.first) (member (codes "file") (string p.file) no_members)))
 
 -- `{"pieces":[..]}`
-abbrev pub manifest_value : List (List ℕ) → Json
-manifest_value files = object (member (codes "pieces") (array (pieces_from 0 files)) no_members)
+abbrev pub manifest_value : List PieceParts → Json
+manifest_value texts = object (member (codes "pieces") (array (items_of piece_value texts)) no_members)
 
 -- a value without spaces, and a line feed
 abbrev pub line_of : Json → List ℕ

@@ -80,26 +80,33 @@ fn put_comms(out: &mut Text, comms: &[Comm])
 }
 
 /// The function that gave a communicator.
-fn function_text(made_by: MadeBy) -> &'static [u8]
+pub(crate) fn function_text(made_by: MadeBy) -> &'static str
     ensures { result.now ≡ function_text made_by }
 {
     match made_by {
-        MadeBy::Dup => b"MPI_Comm_dup",
-        MadeBy::DupWithInfo => b"MPI_Comm_dup_with_info",
-        MadeBy::Idup => b"MPI_Comm_idup",
-        MadeBy::IdupWithInfo => b"MPI_Comm_idup_with_info",
-        MadeBy::Split => b"MPI_Comm_split",
-        MadeBy::Create => b"MPI_Comm_create",
-        MadeBy::CreateGroup => b"MPI_Comm_create_group",
-        MadeBy::CartCreate => b"MPI_Cart_create",
-        MadeBy::CartSub => b"MPI_Cart_sub",
-        MadeBy::GraphCreate => b"MPI_Graph_create",
-        MadeBy::DistGraphCreate => b"MPI_Dist_graph_create",
-        MadeBy::DistGraphCreateAdjacent => b"MPI_Dist_graph_create_adjacent",
-        MadeBy::IntercommCreate => b"MPI_Intercomm_create",
-        MadeBy::IntercommMerge => b"MPI_Intercomm_merge",
-        MadeBy::Other => b"another function",
+        MadeBy::Dup => "MPI_Comm_dup",
+        MadeBy::DupWithInfo => "MPI_Comm_dup_with_info",
+        MadeBy::Idup => "MPI_Comm_idup",
+        MadeBy::IdupWithInfo => "MPI_Comm_idup_with_info",
+        MadeBy::Split => "MPI_Comm_split",
+        MadeBy::Create => "MPI_Comm_create",
+        MadeBy::CreateGroup => "MPI_Comm_create_group",
+        MadeBy::CartCreate => "MPI_Cart_create",
+        MadeBy::CartSub => "MPI_Cart_sub",
+        MadeBy::GraphCreate => "MPI_Graph_create",
+        MadeBy::DistGraphCreate => "MPI_Dist_graph_create",
+        MadeBy::DistGraphCreateAdjacent => "MPI_Dist_graph_create_adjacent",
+        MadeBy::IntercommCreate => "MPI_Intercomm_create",
+        MadeBy::IntercommMerge => "MPI_Intercomm_merge",
+        MadeBy::Other => "another function",
     }
+}
+
+/// The function that gave a communicator.
+fn put_function(out: &mut Text, made_by: MadeBy)
+    ensures { Adds out.old out.new (function_text made_by) }
+{
+    out.put(function_text(made_by).as_bytes());
 }
 
 /// Why a communicator is left out.
@@ -136,7 +143,7 @@ fn put_left(out: &mut Text, left: &LeftOut)
     out.put(b", call ");
     out.put_number(left.call);
     out.put(b", ");
-    out.put(function_text(left.made_by));
+    put_function(out, left.made_by);
     out.put(b": ");
     put_given(out, left.number);
     out.put(b", calls that name it: ");

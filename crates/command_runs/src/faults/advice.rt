@@ -167,7 +167,8 @@ pub fn is_in_words(verb: Verb) -> bool
     match verb {
         Verb::Explain(_) | Verb::ExplainRank(_) => true,
         Verb::ExplainJson | Verb::Graph(_) | Verb::Page => false,
-        Verb::Report | Verb::ReportJson | Verb::Replay | Verb::Check | Verb::Pack => false,
+        Verb::Report | Verb::ReportJson | Verb::Replay | Verb::Pack => false,
+        Verb::Check | Verb::CheckJson => false,
     }
 }
 
