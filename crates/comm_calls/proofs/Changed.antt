@@ -32,7 +32,7 @@ made maker raw returned (actions.Free comm) is e = absurd is
 made maker raw returned (actions.Group group given) is e = absurd is
 made maker raw returned (actions.Join local leaders given) is e = absurd is
 made maker raw returned (actions.Merge comm high given) is e = absurd is
-made maker raw returned (actions.GivesComm comm given) is e = absurd is
+made maker raw returned (actions.GivesComm giver comm given) is e = absurd is
 made maker raw returned (actions.MakeObject of parent given) is e = absurd is
 made maker raw returned (actions.EndObject object number) is e = absurd is
 
@@ -43,7 +43,7 @@ grouped grouper raw returned (actions.Free comm) is = absurd is
 grouped grouper raw returned (actions.Group group given) is = refl
 grouped grouper raw returned (actions.Join local leaders given) is = absurd is
 grouped grouper raw returned (actions.Merge comm high given) is = absurd is
-grouped grouper raw returned (actions.GivesComm comm given) is = absurd is
+grouped grouper raw returned (actions.GivesComm giver comm given) is = absurd is
 grouped grouper raw returned (actions.MakeObject of parent given) is = absurd is
 grouped grouper raw returned (actions.EndObject object number) is = absurd is
 

@@ -13,14 +13,14 @@ use Rattle.comm_makings.specs.declared.calls.GroupName.{GroupName}
 use Rattle.comm_makings.specs.declared.calls.Leaders.{Leaders}
 use Rattle.comm_makings.specs.declared.calls.Making.{Making}
 use Rattle.comm_makings.specs.declared.calls.Making.TheVariants as makings
+use Rattle.comm_makings.specs.declared.calls.OtherMaker.{OtherMaker}
+use Rattle.comm_makings.specs.declared.calls.OtherMaker.TheVariants as givers
 use Rattle.comm_makings.specs.declared.calls.RankRange.{RankRange}
 use Rattle.comm_calls.specs.Lists.{flags_in, ranges_in, ranks_in, sizes_in}
 use Rattle.comm_calls.specs.Numbers.{color_in, comm_in, flag_in, given_in, group_in, int_in, natural_in, object_of}
 use Rattle.comm_calls.specs.Parameters.{or_text, text_of}
 use Rattle.comm_calls.specs.declared.function.Function.{Function}
 use Rattle.comm_calls.specs.declared.function.Function.TheVariants as functions
-use Rattle.comm_calls.specs.declared.function.Giver.{Giver}
-use Rattle.comm_calls.specs.declared.function.Giver.TheVariants as givers
 use Rattle.comm_calls.specs.declared.function.Grouper.{Grouper}
 use Rattle.comm_calls.specs.declared.function.Grouper.TheVariants as groupers
 use Rattle.comm_calls.specs.declared.function.Maker.{Maker}
@@ -135,20 +135,28 @@ grouped_in _ raw = group_at (codes "newgroup") raw
 -- ---- other functions
 
 -- the communicator that another function gives
-abbrev pub other_of : Giver → TextCall → Option (List ℕ)
+abbrev pub other_of : OtherMaker → TextCall → Option (List ℕ)
 other_of givers.SplitType raw = text_of (codes "newcomm") raw
-other_of givers.NewComm raw = text_of (codes "newcomm") raw
-other_of givers.NewIntercomm raw = text_of (codes "newintercomm") raw
-other_of givers.Intercomm raw = text_of (codes "intercomm") raw
-other_of givers.Parent raw = text_of (codes "parent") raw
+other_of givers.Accept raw = text_of (codes "newcomm") raw
+other_of givers.Connect raw = text_of (codes "newcomm") raw
+other_of givers.CreateFromGroup raw = text_of (codes "newcomm") raw
+other_of givers.IntercommCreateFromGroups raw = text_of (codes "newintercomm") raw
+other_of givers.Spawn raw = text_of (codes "intercomm") raw
+other_of givers.SpawnMultiple raw = text_of (codes "intercomm") raw
+other_of givers.Join raw = text_of (codes "intercomm") raw
+other_of givers.GetParent raw = text_of (codes "parent") raw
 
 -- the communicator that such a function is called on (MPI 4.0, 7.4.2, 7.6.2 and 11.8 to 11.10)
-abbrev pub called_on : Giver → TextCall → Option (List ℕ)
+abbrev pub called_on : OtherMaker → TextCall → Option (List ℕ)
 called_on givers.SplitType raw = parent_text raw
-called_on givers.NewComm raw = text_of (codes "comm") raw
-called_on givers.NewIntercomm raw = None
-called_on givers.Intercomm raw = text_of (codes "comm") raw
-called_on givers.Parent raw = None
+called_on givers.Accept raw = text_of (codes "comm") raw
+called_on givers.Connect raw = text_of (codes "comm") raw
+called_on givers.CreateFromGroup raw = text_of (codes "comm") raw
+called_on givers.IntercommCreateFromGroups raw = None
+called_on givers.Spawn raw = text_of (codes "comm") raw
+called_on givers.SpawnMultiple raw = text_of (codes "comm") raw
+called_on givers.Join raw = text_of (codes "comm") raw
+called_on givers.GetParent raw = None
 
 -- ---- intercommunicators
 
@@ -201,6 +209,6 @@ IsAction functions.Free raw action = action ≡ actions.Free (comm_in (text_of (
 IsAction (functions.Group grouper) raw action = IsGroup grouper raw action
 IsAction functions.Join raw action = action ≡ actions.Join (comm_in (text_of (codes "local_comm") raw)) (leaders_in raw) (given_in (text_of (codes "newintercomm") raw))
 IsAction functions.Merge raw action = action ≡ actions.Merge (comm_in (text_of (codes "intercomm") raw)) (flag_in (text_of (codes "high") raw)) (given_in (merged_of raw))
-IsAction (functions.Give giver) raw action = action ≡ actions.GivesComm (comm_in (called_on giver raw)) (given_in (other_of giver raw))
+IsAction (functions.Give maker) raw action = action ≡ actions.GivesComm maker (comm_in (called_on maker raw)) (given_in (other_of maker raw))
 IsAction (functions.MakeObject maker) raw action = action ≡ actions.MakeObject maker (comm_in (text_of (codes "comm") raw)) (object_in (object_made maker) raw)
 IsAction (functions.EndObject object) raw action = action ≡ actions.EndObject object (natural_in (object_text object raw))

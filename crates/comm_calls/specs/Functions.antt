@@ -6,10 +6,10 @@ use Rattle.mpi_model.specs.declared.object.Object.TheVariants as objects
 use Rattle.dumpi_text.specs.Call.{TextCall}
 use Rattle.comm_makings.specs.declared.calls.ObjectMaker.{ObjectMaker}
 use Rattle.comm_makings.specs.declared.calls.ObjectMaker.TheVariants as object_makers
+use Rattle.comm_makings.specs.declared.calls.OtherMaker.{OtherMaker}
+use Rattle.comm_makings.specs.declared.calls.OtherMaker.TheVariants as givers
 use Rattle.comm_calls.specs.declared.function.Function.{Function}
 use Rattle.comm_calls.specs.declared.function.Function.TheVariants as functions
-use Rattle.comm_calls.specs.declared.function.Giver.{Giver}
-use Rattle.comm_calls.specs.declared.function.Giver.TheVariants as givers
 use Rattle.comm_calls.specs.declared.function.Grouper.{Grouper}
 use Rattle.comm_calls.specs.declared.function.Grouper.TheVariants as groupers
 use Rattle.comm_calls.specs.declared.function.Maker.{Maker}
@@ -60,17 +60,17 @@ group_named name =
     else other_group_named name
 
 -- other functions that give a communicator (MPI 4.0, 7.4.2, 7.6.2 and 11.8 to 11.10)
-abbrev pub giver_named : List ℕ → Option Giver
+abbrev pub giver_named : List ℕ → Option OtherMaker
 giver_named name =
     if bytes_eq name (codes "MPI_Comm_split_type") then Some givers.SplitType
-    else if bytes_eq name (codes "MPI_Comm_accept") then Some givers.NewComm
-    else if bytes_eq name (codes "MPI_Comm_connect") then Some givers.NewComm
-    else if bytes_eq name (codes "MPI_Comm_create_from_group") then Some givers.NewComm
-    else if bytes_eq name (codes "MPI_Intercomm_create_from_groups") then Some givers.NewIntercomm
-    else if bytes_eq name (codes "MPI_Comm_spawn") then Some givers.Intercomm
-    else if bytes_eq name (codes "MPI_Comm_spawn_multiple") then Some givers.Intercomm
-    else if bytes_eq name (codes "MPI_Comm_join") then Some givers.Intercomm
-    else if bytes_eq name (codes "MPI_Comm_get_parent") then Some givers.Parent
+    else if bytes_eq name (codes "MPI_Comm_accept") then Some givers.Accept
+    else if bytes_eq name (codes "MPI_Comm_connect") then Some givers.Connect
+    else if bytes_eq name (codes "MPI_Comm_create_from_group") then Some givers.CreateFromGroup
+    else if bytes_eq name (codes "MPI_Intercomm_create_from_groups") then Some givers.IntercommCreateFromGroups
+    else if bytes_eq name (codes "MPI_Comm_spawn") then Some givers.Spawn
+    else if bytes_eq name (codes "MPI_Comm_spawn_multiple") then Some givers.SpawnMultiple
+    else if bytes_eq name (codes "MPI_Comm_join") then Some givers.Join
+    else if bytes_eq name (codes "MPI_Comm_get_parent") then Some givers.GetParent
     else None
 
 -- what tells a rank its own, what frees, and what joins and merges groups (MPI 4.0, 7.4.1, 7.4.3, 7.6.2 and 11.10.4)

@@ -78,7 +78,7 @@ changed_of_action returned (actions.Free comm) = (objects.Communicator, comm)
 changed_of_action returned (actions.Group group given) = (objects.Communicator, None)
 changed_of_action returned (actions.Join local leaders given) = (objects.Communicator, number_given returned given)
 changed_of_action returned (actions.Merge comm high given) = (objects.Communicator, number_given returned given)
-changed_of_action returned (actions.GivesComm comm given) = (objects.Communicator, number_given returned given)
+changed_of_action returned (actions.GivesComm maker comm given) = (objects.Communicator, number_given returned given)
 changed_of_action returned (actions.MakeObject maker parent given) = (object_made maker, number_returned returned given)
 changed_of_action returned (actions.EndObject object number) = (object, number)
 
@@ -94,7 +94,7 @@ changed_in functions.Free raw = (objects.Communicator, comm_in (text_of (codes "
 changed_in (functions.Group grouper) raw = (objects.Communicator, None)
 changed_in functions.Join raw = (objects.Communicator, number_given (is_some raw.exit) (given_in (text_of (codes "newintercomm") raw)))
 changed_in functions.Merge raw = (objects.Communicator, number_given (is_some raw.exit) (given_in (merged_of raw)))
-changed_in (functions.Give giver) raw = (objects.Communicator, number_given (is_some raw.exit) (given_in (other_of giver raw)))
+changed_in (functions.Give maker) raw = (objects.Communicator, number_given (is_some raw.exit) (given_in (other_of maker raw)))
 changed_in (functions.MakeObject maker) raw = (object_made maker, number_returned (is_some raw.exit) (object_in (object_made maker) raw))
 changed_in (functions.EndObject object) raw = (object, natural_in (object_text object raw))
 

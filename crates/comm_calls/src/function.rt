@@ -4,7 +4,7 @@ ghost use Rattle.std.specs.Prelude.{◌≡◌, ◌||◌};
 ghost use Rattle.std.specs.Str.{bytes_eq};
 ghost use Rattle.comm_calls.specs.Functions.{ender_named, function_named, giver_named, grid_named, group_named, maker_named, object_maker_named, other_group_named, single_named};
 
-use comm_makings::ObjectMaker;
+use comm_makings::{ObjectMaker, OtherMaker};
 use mpi_model::Object;
 
 /// A function that makes communicators of the members of another (MPI 4.0, 7.4.2 and 8.5).
@@ -43,22 +43,6 @@ pub(crate) enum Grouper {
     UnreadNew,
 }
 
-/// The parameters of a function whose communicators aren't derived: the one that gives the communicator, and the one
-/// that names the communicator it is called on.
-#[derive(Clone, Copy)]
-pub(crate) enum Giver {
-    /// MPI_Comm_split_type: `newcomm`, on `oldcomm` or `comm`.
-    SplitType,
-    /// `newcomm`, on `comm`.
-    NewComm,
-    /// `newintercomm`, of groups.
-    NewIntercomm,
-    /// `intercomm`, on `comm`.
-    Intercomm,
-    /// `parent`.
-    Parent,
-}
-
 /// A function whose calls are read.
 #[derive(Clone, Copy)]
 pub(crate) enum Function {
@@ -72,7 +56,8 @@ pub(crate) enum Function {
     Join,
     /// MPI_Intercomm_merge.
     Merge,
-    Give(Giver),
+    /// What gives a communicator from which nothing is derived.
+    Give(OtherMaker),
     /// What makes a window or a file.
     MakeObject(ObjectMaker),
     /// MPI_Win_free and MPI_File_close.
@@ -189,27 +174,27 @@ fn other_group_named(name: &[u8]) -> Option<Grouper>
 }
 
 /// Another function that gives a communicator (MPI 4.0, 7.4.2, 7.6.2 and 11.8 to 11.10).
-fn giver_named(name: &[u8]) -> Option<Giver>
+fn giver_named(name: &[u8]) -> Option<OtherMaker>
     ensures { result ≡ giver_named name.now }
 {
     if is(name, "MPI_Comm_split_type") {
-        Some(Giver::SplitType)
+        Some(OtherMaker::SplitType)
     } else if is(name, "MPI_Comm_accept") {
-        Some(Giver::NewComm)
+        Some(OtherMaker::Accept)
     } else if is(name, "MPI_Comm_connect") {
-        Some(Giver::NewComm)
+        Some(OtherMaker::Connect)
     } else if is(name, "MPI_Comm_create_from_group") {
-        Some(Giver::NewComm)
+        Some(OtherMaker::CreateFromGroup)
     } else if is(name, "MPI_Intercomm_create_from_groups") {
-        Some(Giver::NewIntercomm)
+        Some(OtherMaker::IntercommCreateFromGroups)
     } else if is(name, "MPI_Comm_spawn") {
-        Some(Giver::Intercomm)
+        Some(OtherMaker::Spawn)
     } else if is(name, "MPI_Comm_spawn_multiple") {
-        Some(Giver::Intercomm)
+        Some(OtherMaker::SpawnMultiple)
     } else if is(name, "MPI_Comm_join") {
-        Some(Giver::Intercomm)
+        Some(OtherMaker::Join)
     } else if is(name, "MPI_Comm_get_parent") {
-        Some(Giver::Parent)
+        Some(OtherMaker::GetParent)
     } else {
         None
     }
@@ -289,8 +274,8 @@ pub(crate) fn function_named(name: &[u8]) -> Option<Function>
     if let Some(grouper) = group_named(name) {
         return Some(Function::Group(grouper));
     }
-    if let Some(giver) = giver_named(name) {
-        return Some(Function::Give(giver));
+    if let Some(maker) = giver_named(name) {
+        return Some(Function::Give(maker));
     }
     if let Some(maker) = object_maker_named(name) {
         return Some(Function::MakeObject(maker));

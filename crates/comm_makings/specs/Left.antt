@@ -40,13 +40,13 @@ abbrev pub giving : Action → Option Giver
 giving (actions.Make parent making given) = Some (record { made_by = function_of making; number = number_said given })
 giving (actions.Join local leaders given) = Some (record { made_by = functions.IntercommCreate; number = number_said given })
 giving (actions.Merge comm high given) = Some (record { made_by = functions.IntercommMerge; number = number_said given })
-giving (actions.GivesComm comm given) = Some (record { made_by = functions.Other; number = number_said given })
+giving (actions.GivesComm maker comm given) = Some (record { made_by = functions.Other maker; number = number_said given })
 giving _ = None
 
 -- Why a handle is left out of which nothing was derived: by its function, since no leader answers, by a parent that is
 -- left out, or by one that is unknown.
 abbrev pub why_open : MadeBy → Bool → Why
-why_open functions.Other known = whys.Function
+why_open (functions.Other maker) known = whys.Function
 why_open functions.IntercommCreate known = whys.Untold
 why_open _ true = whys.Parent
 why_open _ false = whys.UnknownParent

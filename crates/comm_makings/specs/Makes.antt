@@ -202,7 +202,7 @@ IsMadeBy ranks views dims all functions.Create parts = ⊥
 IsMadeBy ranks views dims all functions.CreateGroup parts = ⊥
 IsMadeBy ranks views dims all functions.IntercommCreate parts = ⊥
 IsMadeBy ranks views dims all functions.IntercommMerge parts = ⊥
-IsMadeBy ranks views dims all functions.Other parts = ⊥
+IsMadeBy ranks views dims all (functions.Other maker) parts = ⊥
 
 -- The calls are one making of this function: those that are there call it, and what they give can be read.
 pub record IsOneMaking (function : MadeBy) (all : List (Option Here)) : Type 0 where

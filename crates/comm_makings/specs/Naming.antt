@@ -65,7 +65,7 @@ comm_named (actions.Free comm) = comm
 comm_named (actions.Group group given) = comm_of_group group
 comm_named (actions.Join local leaders given) = local
 comm_named (actions.Merge comm high given) = comm
-comm_named (actions.GivesComm comm given) = comm
+comm_named (actions.GivesComm maker comm given) = comm
 comm_named (actions.MakeObject maker parent given) = parent
 comm_named (actions.EndObject object number) = None
 
@@ -116,7 +116,7 @@ abbrev pub gives_by : (ℕ → Bool) → ℕ → Bool → Action → Gives
 gives_by taken place returned (actions.Make parent making given) = gives_of taken returned given place
 gives_by taken place returned (actions.Join local leaders given) = gives_of taken returned given place
 gives_by taken place returned (actions.Merge comm high given) = gives_of taken returned given place
-gives_by taken place returned (actions.GivesComm comm given) = gives_of taken returned given place
+gives_by taken place returned (actions.GivesComm maker comm given) = gives_of taken returned given place
 gives_by taken place returned _ = gives.Nothing
 
 -- what a call gives, as these names say
@@ -198,7 +198,7 @@ after_action taken at naming call (actions.Free comm) = after_free taken naming 
 after_action taken at naming call (actions.Group group given) = after_group at naming call given
 after_action taken at naming call (actions.Join local leaders given) = after_given taken naming call given
 after_action taken at naming call (actions.Merge comm high given) = after_given taken naming call given
-after_action taken at naming call (actions.GivesComm comm given) = after_given taken naming call given
+after_action taken at naming call (actions.GivesComm maker comm given) = after_given taken naming call given
 after_action taken at naming call (actions.MakeObject maker parent given) = naming
 after_action taken at naming call (actions.EndObject object number) = naming
 

@@ -75,7 +75,7 @@ number_on (actions.Make parent making given) = parent
 number_on (actions.Free comm) = comm
 number_on (actions.Join local leaders given) = local
 number_on (actions.Merge comm high given) = comm
-number_on (actions.GivesComm comm given) = comm
+number_on (actions.GivesComm maker comm given) = comm
 number_on (actions.MakeObject maker parent given) = parent
 number_on _ = None
 

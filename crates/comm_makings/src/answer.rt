@@ -1,5 +1,6 @@
 //! What is derived: the communicators of a layout, and what is left out of it.
 
+use crate::calls::OtherMaker;
 use mpi_model::Comm;
 
 /// Which communicators, windows and files are written.
@@ -55,8 +56,8 @@ pub enum MadeBy {
     DistGraphCreateAdjacent,
     IntercommCreate,
     IntercommMerge,
-    /// Another function, whose communicators aren't derived.
-    Other,
+    /// A function whose communicators aren't derived.
+    Other(OtherMaker),
 }
 
 /// Why a communicator is left out.

@@ -84,6 +84,7 @@ pub enum Action {
     },
     /// Another call that gives a communicator: nothing is derived from it. It may be one on a communicator.
     GivesComm {
+        maker: OtherMaker,
         comm: Option<u32>,
         given: Given,
     },
@@ -121,6 +122,20 @@ pub enum ObjectMaker {
     WinAllocateShared,
     WinCreateDynamic,
     FileOpen,
+}
+
+/// The other calls that give communicators (MPI 4.0, 7.4.2, 7.6.2 and 11.8 to 11.10).
+#[derive(Clone, Copy, Debug, PartialEq, Eq)]
+pub enum OtherMaker {
+    SplitType,
+    Accept,
+    Connect,
+    CreateFromGroup,
+    IntercommCreateFromGroups,
+    Spawn,
+    SpawnMultiple,
+    Join,
+    GetParent,
 }
 
 /// Whether the call makes a window or a file.

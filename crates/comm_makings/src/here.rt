@@ -184,7 +184,7 @@ pub(crate) fn gives_later(function: MadeBy) -> bool
         | MadeBy::DistGraphCreateAdjacent
         | MadeBy::IntercommCreate
         | MadeBy::IntercommMerge
-        | MadeBy::Other => false,
+        | MadeBy::Other(_) => false,
     }
 }
 

@@ -551,7 +551,7 @@ fn is_copy(function: MadeBy) -> bool
         | MadeBy::DistGraphCreateAdjacent
         | MadeBy::IntercommCreate
         | MadeBy::IntercommMerge
-        | MadeBy::Other => false,
+        | MadeBy::Other(_) => false,
     }
 }
 

@@ -53,8 +53,8 @@ fn giving(action: &Action) -> Option<Giver>
             made_by: MadeBy::IntercommMerge,
             number: number_said(*given),
         }),
-        Action::GivesComm { given, .. } => Some(Giver {
-            made_by: MadeBy::Other,
+        Action::GivesComm { maker, given, .. } => Some(Giver {
+            made_by: MadeBy::Other(*maker),
             number: number_said(*given),
         }),
         Action::CommRank { .. }
@@ -70,7 +70,7 @@ fn why_open(function: MadeBy, is_known: bool) -> Why
     ensures { result ≡ why_open function is_known }
 {
     match function {
-        MadeBy::Other => Why::Function,
+        MadeBy::Other(_) => Why::Function,
         MadeBy::IntercommCreate => Why::Untold,
         MadeBy::Dup
         | MadeBy::DupWithInfo

@@ -60,7 +60,7 @@ mod written;
 
 pub use answer::{Choice, DeriveFault, Derived, LeftOut, MadeBy, Why};
 pub use calls::{
-    Action, Color, CommCall, Given, GroupCall, GroupName, Leaders, Making, ObjectMaker, RankCalls,
-    RankRange, Uses, object_made,
+    Action, Color, CommCall, Given, GroupCall, GroupName, Leaders, Making, ObjectMaker, OtherMaker,
+    RankCalls, RankRange, Uses, object_made,
 };
 pub use derivation::derive;

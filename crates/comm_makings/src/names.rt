@@ -355,7 +355,7 @@ impl Names {
                 let gives = self.give(call, *given)?;
                 Ok(naming(comm, gives))
             },
-            Action::GivesComm { comm, given } => {
+            Action::GivesComm { comm, given, .. } => {
                 let comm = self.comm(*comm);
                 let gives = self.give(call, *given)?;
                 Ok(naming(comm, gives))

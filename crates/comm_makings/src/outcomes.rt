@@ -52,7 +52,7 @@ fn outcome_of(
         | MadeBy::CreateGroup
         | MadeBy::IntercommCreate
         | MadeBy::IntercommMerge
-        | MadeBy::Other => Ok(Outcome::Unsound),
+        | MadeBy::Other(_) => Ok(Outcome::Unsound),
     }
 }
 

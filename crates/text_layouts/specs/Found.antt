@@ -1,12 +1,10 @@
 -- What is said of a layout that was made, as JSON.
-use Rattle.std.specs.Prelude.{◌==◌, ℕ, Bool, true, false, List, Option, Some, None, codes, length, if◌then◌else◌}
+use Rattle.std.specs.Prelude.{◌==◌, ℕ, Bool, List, Option, Some, None, codes, length, if◌then◌else◌}
 use Rattle.json.specs.Json.{Json, null, boolean, string, array, object, no_members, member}
 use Rattle.mpi_model.specs.Communicators.{Communicator}
 use Rattle.mpi_model.specs.declared.object.Object.{Object}
 use Rattle.mpi_model.specs.declared.object.Object.TheVariants as objects
 use Rattle.comm_makings.specs.declared.answer.LeftOut.{LeftOut}
-use Rattle.comm_makings.specs.declared.answer.MadeBy.{MadeBy}
-use Rattle.comm_makings.specs.declared.answer.MadeBy.TheVariants as makers
 use Rattle.comm_makings.specs.declared.answer.Why.{Why}
 use Rattle.comm_makings.specs.declared.answer.Why.TheVariants as reasons
 use Rattle.run_files.specs.Values.{entry_value, items_of, number_of}
@@ -28,15 +26,6 @@ abbrev pub comm_value : ℕ → Communicator → Json
 comm_value world g = object (member (codes "id") (number_of g.comm) (member (codes "object") (string (object_word g.object)) (member (codes "name") (name_value world g.comm)
     (member (codes "members") (array (items_of number_of g.members)) (member (codes "numbers") (array (items_of entry_value g.numbers)) no_members)))))
 
--- communicators are derived from calls of the function
-abbrev pub is_derived : MadeBy → Bool
-is_derived makers.Other = false
-is_derived _ = true
-
--- the function that gave a communicator, where others are derived from its calls
-abbrev pub function_value : MadeBy → Json
-function_value made_by = if is_derived made_by then string (function_text made_by) else null
-
 -- the number that a call gave, where it can be read
 abbrev pub given_value : Option ℕ → Json
 given_value None = null
@@ -54,7 +43,7 @@ why_word reasons.Behind = codes "behind"
 
 -- `{"rank":1,"call":12,"function":"MPI_Comm_split","number":5,"uses":3,"why":"parent"}`
 abbrev pub left_value : LeftOut → Json
-left_value l = object (member (codes "rank") (number_of l.rank) (member (codes "call") (number_of l.call) (member (codes "function") (function_value l.made_by)
+left_value l = object (member (codes "rank") (number_of l.rank) (member (codes "call") (number_of l.call) (member (codes "function") (string (function_text l.made_by))
     (member (codes "number") (given_value l.number) (member (codes "uses") (number_of l.uses) (member (codes "why") (string (why_word l.why)) no_members))))))
 
 -- `{"init":1,"texts":4,"calls":120,"ranks":4,"by_digits":true,"missing":[],"comms":[..],"left_out":[..],"layout":"..","manifest":".."}`:

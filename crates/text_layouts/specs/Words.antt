@@ -10,6 +10,8 @@ use Rattle.comm_makings.specs.declared.answer.LeftOut.{LeftOut}
 use Rattle.comm_makings.specs.declared.answer.MadeBy.{MadeBy}
 use Rattle.comm_makings.specs.declared.answer.MadeBy.TheVariants as makers
 use Rattle.comm_makings.specs.declared.answer.Why.{Why}
+use Rattle.comm_makings.specs.declared.calls.OtherMaker.{OtherMaker}
+use Rattle.comm_makings.specs.declared.calls.OtherMaker.TheVariants as others
 use Rattle.comm_makings.specs.declared.answer.Why.TheVariants as reasons
 use Rattle.text_layouts.specs.declared.words.TheConstants.{MOST_SHOWN}
 
@@ -37,6 +39,18 @@ abbrev pub comms_text : List Communicator → List ℕ
 comms_text comms = codes "communicators: " ++ decimal (length comms) ++ codes "\n"
     ++ flat_map comm_text (take MOST_SHOWN comms) ++ more_text (length comms - MOST_SHOWN)
 
+-- a function that gives communicators from which nothing is derived
+abbrev pub other_text : OtherMaker → List ℕ
+other_text others.SplitType = codes "MPI_Comm_split_type"
+other_text others.Accept = codes "MPI_Comm_accept"
+other_text others.Connect = codes "MPI_Comm_connect"
+other_text others.CreateFromGroup = codes "MPI_Comm_create_from_group"
+other_text others.IntercommCreateFromGroups = codes "MPI_Intercomm_create_from_groups"
+other_text others.Spawn = codes "MPI_Comm_spawn"
+other_text others.SpawnMultiple = codes "MPI_Comm_spawn_multiple"
+other_text others.Join = codes "MPI_Comm_join"
+other_text others.GetParent = codes "MPI_Comm_get_parent"
+
 -- the function that gave a communicator
 abbrev pub function_text : MadeBy → List ℕ
 function_text makers.Dup = codes "MPI_Comm_dup"
@@ -53,7 +67,7 @@ function_text makers.DistGraphCreate = codes "MPI_Dist_graph_create"
 function_text makers.DistGraphCreateAdjacent = codes "MPI_Dist_graph_create_adjacent"
 function_text makers.IntercommCreate = codes "MPI_Intercomm_create"
 function_text makers.IntercommMerge = codes "MPI_Intercomm_merge"
-function_text makers.Other = codes "another function"
+function_text (makers.Other maker) = other_text maker
 
 -- why a communicator is left out
 abbrev pub why_text : Why → List ℕ

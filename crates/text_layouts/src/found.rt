@@ -4,11 +4,11 @@ ghost use Rattle.std.specs.Prelude.{◌≡◌, ◌∷◌, ◌++◌, [], IfOk, co
 ghost use Rattle.json.specs.Token.{begin_array, boolean, key};
 ghost use Rattle.json.specs.Tree.{items_tokens, json_tokens};
 ghost use Rattle.run_files.specs.Values.{Puts, items_of, line_of, number_of};
-ghost use Rattle.text_layouts.specs.Found.{comm_value, found_value, function_value, given_value, is_derived, left_value, name_value, object_word, why_word};
+ghost use Rattle.text_layouts.specs.Found.{comm_value, found_value, given_value, left_value, name_value, object_word, why_word};
 
 use crate::made::Made;
 use crate::words::function_text;
-use comm_makings::{LeftOut, MadeBy, Why};
+use comm_makings::{LeftOut, Why};
 use json::Writer;
 use mpi_model::{Comm, Object};
 use run_files::{line_of, put_entries, put_number_field, put_numbers, put_string_field};
@@ -80,27 +80,6 @@ fn put_comms(out: &mut Writer, world: u32, comms: &[Comm]) -> Result<(), AllocEr
     out.end_array()
 }
 
-/// Whether communicators are derived from calls of this function.
-fn is_derived(made_by: MadeBy) -> bool
-    ensures { result ≡ is_derived made_by }
-{
-    match made_by {
-        MadeBy::Other => false,
-        _ => true,
-    }
-}
-
-/// Puts the function that gave a communicator, where others are derived from its calls.
-fn put_function(out: &mut Writer, made_by: MadeBy) -> Result<(), AllocError>
-    ensures { Puts result out.old out.new (json_tokens (function_value made_by)) }
-{
-    if is_derived(made_by) {
-        out.string(function_text(made_by))
-    } else {
-        out.null()
-    }
-}
-
 /// Puts the number that a call gave, where it can be read.
 fn put_given(out: &mut Writer, number: Option<u32>) -> Result<(), AllocError>
     ensures { Puts result out.old out.new (json_tokens (given_value number)) }
@@ -133,8 +112,7 @@ fn put_left(out: &mut Writer, left: &LeftOut) -> Result<(), AllocError>
     out.begin_object()?;
     put_number_field(out, "rank", left.rank as u64)?;
     put_number_field(out, "call", left.call)?;
-    out.key("function")?;
-    put_function(out, left.made_by)?;
+    put_string_field(out, "function", function_text(left.made_by))?;
     out.key("number")?;
     put_given(out, left.number)?;
     put_number_field(out, "uses", left.uses)?;

@@ -4,10 +4,10 @@ ghost use Rattle.std.specs.Prelude.{◌≡◌, ◌-◌, length, take};
 ghost use Rattle.std.specs.List.{flat_map};
 ghost use Rattle.call_words.specs.Texts.{Adds};
 ghost use Rattle.text_layouts.specs.declared.words.TheConstants.{MOST_SHOWN};
-ghost use Rattle.text_layouts.specs.Words.{comm_text, comms_text, counts_text, function_text, given_text, left_out_text, left_text, notes_text, second_text, some_left_text, sort_text, why_text};
+ghost use Rattle.text_layouts.specs.Words.{comm_text, comms_text, counts_text, function_text, given_text, left_out_text, left_text, notes_text, other_text, second_text, some_left_text, sort_text, why_text};
 
 use call_words::{Text, put_more, put_named_ranks};
-use comm_makings::{Derived, LeftOut, MadeBy, Why};
+use comm_makings::{Derived, LeftOut, MadeBy, OtherMaker, Why};
 use mpi_model::{Comm, Object};
 
 /// How many lines of a kind are written.
@@ -79,6 +79,23 @@ fn put_comms(out: &mut Text, comms: &[Comm])
     put_more(out, comms.len().saturating_sub(MOST_SHOWN));
 }
 
+/// A function that gives communicators from which nothing is derived.
+fn other_text(maker: OtherMaker) -> &'static str
+    ensures { result.now ≡ other_text maker }
+{
+    match maker {
+        OtherMaker::SplitType => "MPI_Comm_split_type",
+        OtherMaker::Accept => "MPI_Comm_accept",
+        OtherMaker::Connect => "MPI_Comm_connect",
+        OtherMaker::CreateFromGroup => "MPI_Comm_create_from_group",
+        OtherMaker::IntercommCreateFromGroups => "MPI_Intercomm_create_from_groups",
+        OtherMaker::Spawn => "MPI_Comm_spawn",
+        OtherMaker::SpawnMultiple => "MPI_Comm_spawn_multiple",
+        OtherMaker::Join => "MPI_Comm_join",
+        OtherMaker::GetParent => "MPI_Comm_get_parent",
+    }
+}
+
 /// The function that gave a communicator.
 pub(crate) fn function_text(made_by: MadeBy) -> &'static str
     ensures { result.now ≡ function_text made_by }
@@ -98,7 +115,7 @@ pub(crate) fn function_text(made_by: MadeBy) -> &'static str
         MadeBy::DistGraphCreateAdjacent => "MPI_Dist_graph_create_adjacent",
         MadeBy::IntercommCreate => "MPI_Intercomm_create",
         MadeBy::IntercommMerge => "MPI_Intercomm_merge",
-        MadeBy::Other => "another function",
+        MadeBy::Other(maker) => other_text(maker),
     }
 }
 
