@@ -3,6 +3,7 @@ use Rattle.std.proofs.Common.{◌≡◌, List, Option, Some, codes, option_and_t
 use Rattle.clap.specs.Words.{Row, Text, all_of, first_of}
 use Rattle.mpi_model.specs.declared.layout.Sends.{Sends}
 use Rattle.command_line.specs.Program.{Wish, form_in, in_form, init, init_in, verb_named, wanted_of, wish_in}
+use Rattle.command_line.specs.Windows.{window_by}
 use Rattle.command_line.specs.declared.Verb.{Verb}
 
 pub formed : (name : Text) (rows : List Row) (verb : Verb) (json all rank : Option Text)
@@ -18,3 +19,7 @@ wanted_from sends other_sends layout manifest force other_layout other_manifest 
 pub init_by : (rows : List Row) (wish : Option Wish) (texts : Option (List Text)) → wish_in rows ≡ wish → all_of (codes "TEXT") rows ≡ texts
     → init_in rows ≡ option_and_then (λ w. option_map (λ t. init t w) texts) wish
 init_by rows wish texts w t = rw (w, t) refl
+
+pub window_from : (from other_from to other_to ranks other_ranks : Option Text)
+    → from ≡ other_from → to ≡ other_to → ranks ≡ other_ranks → window_by from to ranks ≡ window_by other_from other_to other_ranks
+window_from from other_from to other_to ranks other_ranks f t r = rw (f, t, r) refl

@@ -11,6 +11,7 @@ pub mod Notes
 pub mod OneByOne
 pub mod Opening
 pub mod Ordered
+pub mod OwnOps
 pub mod OwnPieces
 pub mod PackedShares
 pub mod Packing
@@ -20,6 +21,7 @@ pub mod Runs
 pub mod Segments
 pub mod Sharing
 pub mod Stops
+pub mod Streaming
 pub mod Told
 pub mod Traces
 pub mod Unpacking

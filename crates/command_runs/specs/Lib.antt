@@ -27,6 +27,8 @@ pub mod Schedules
 pub mod Sentences
 pub mod Shares
 pub mod ShownBytes
+pub mod Streams
+pub mod Tables
 pub mod TextCalls
 pub mod Traces
 pub mod Verbs

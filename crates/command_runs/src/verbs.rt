@@ -2,6 +2,7 @@
 
 pub(crate) mod answerer;
 pub(crate) mod arguments;
+pub(crate) mod calls;
 pub(crate) mod check;
 pub(crate) mod cluster;
 pub(crate) mod explain;
@@ -13,4 +14,7 @@ pub(crate) mod page;
 pub(crate) mod replay;
 pub(crate) mod report;
 pub(crate) mod schedule;
+pub(crate) mod streaming;
+pub(crate) mod survey;
+pub(crate) mod timeline;
 pub(crate) mod writing;
