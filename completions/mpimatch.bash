@@ -1,13 +1,16 @@
 # completions of mpimatch for bash, made by tools/words of its help
 _mpimatch() {
     local word=${COMP_WORDS[COMP_CWORD]} before=${COMP_WORDS[COMP_CWORD - 1]} verb= words= files= at
-    local verbs="explain graph page report replay cluster check pack init help"
+    local verbs="explain graph page report calls timeline replay cluster check pack init help"
     for ((at = 1; at < COMP_CWORD; at++)); do
         [[ " $verbs " == *" ${COMP_WORDS[at]} "* ]] && verb=${COMP_WORDS[at]} && break
     done
     COMPREPLY=()
     case $verb:$before in
         explain:--rank) return ;;
+        timeline:--from) return ;;
+        timeline:--to) return ;;
+        timeline:--ranks) return ;;
         init:--sends) words="wait buffer" ;;
         init:--layout) files=yes ;;
         init:--manifest) files=yes ;;
@@ -19,6 +22,8 @@ _mpimatch() {
                 graph) words="-q --quiet --verbose --all -h --help" files=yes ;;
                 page) words="-q --quiet --verbose -h --help" files=yes ;;
                 report) words="-q --quiet --verbose --json -h --help" files=yes ;;
+                calls) words="-q --quiet --verbose --csv --json -h --help" files=yes ;;
+                timeline) words="-q --quiet --verbose --from --to --ranks -h --help" files=yes ;;
                 replay) words="-q --quiet -h --help" files=yes ;;
                 cluster) words="-q --quiet -h --help" files=yes ;;
                 check) words="-q --quiet --verbose --json -h --help" files=yes ;;

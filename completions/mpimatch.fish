@@ -4,6 +4,8 @@ complete -c mpimatch -n __fish_use_subcommand -a explain -d 'Says in words what 
 complete -c mpimatch -n __fish_use_subcommand -a graph -d 'Draws what holds up the run, and who waits for it, as a graph for Graphviz'
 complete -c mpimatch -n __fish_use_subcommand -a page -d 'Writes what holds up the run as a page for a browser, in one file'
 complete -c mpimatch -n __fish_use_subcommand -a report -d 'Prints who received what from whom, and which ranks are stuck'
+complete -c mpimatch -n __fish_use_subcommand -a calls -d 'Prints every call with its partner, as a table for other programs'
+complete -c mpimatch -n __fish_use_subcommand -a timeline -d 'Prints the calls of all ranks in time, as trace events for a viewer'
 complete -c mpimatch -n __fish_use_subcommand -a replay -d 'Runs a schedule of nodes that exchange what they know, and prints the report of each'
 complete -c mpimatch -n __fish_use_subcommand -a cluster -d 'Reads the pieces of two nodes, which exchange what they know, and prints the report of each'
 complete -c mpimatch -n __fish_use_subcommand -a check -d 'Makes pairs and stuck ranks once more straight from the rules, and prints whether they agree'
@@ -12,7 +14,7 @@ complete -c mpimatch -n __fish_use_subcommand -a init -d 'Writes the layout and 
 complete -c mpimatch -n __fish_use_subcommand -a help -d 'Print this message or the help of the given subcommand(s)'
 complete -c mpimatch -n __fish_use_subcommand -s h -l help -d 'Print help'
 complete -c mpimatch -n __fish_use_subcommand -s V -l version -d 'Print version'
-complete -c mpimatch -n '__fish_seen_subcommand_from help' -a 'explain graph page report replay cluster check pack init help'
+complete -c mpimatch -n '__fish_seen_subcommand_from help' -a 'explain graph page report calls timeline replay cluster check pack init help'
 complete -c mpimatch -n '__fish_seen_subcommand_from explain' -F
 complete -c mpimatch -n '__fish_seen_subcommand_from explain' -s q -l quiet -d 'Writes nothing on standard error but faults'
 complete -c mpimatch -n '__fish_seen_subcommand_from explain' -l verbose -d 'Names the communicators that the texts make, and those that are left out'
@@ -34,6 +36,19 @@ complete -c mpimatch -n '__fish_seen_subcommand_from report' -s q -l quiet -d 'W
 complete -c mpimatch -n '__fish_seen_subcommand_from report' -l verbose -d 'Names the communicators that the texts make, and those that are left out'
 complete -c mpimatch -n '__fish_seen_subcommand_from report' -l json -d 'Prints the report as one JSON object'
 complete -c mpimatch -n '__fish_seen_subcommand_from report' -s h -l help -d 'Print help'
+complete -c mpimatch -n '__fish_seen_subcommand_from calls' -F
+complete -c mpimatch -n '__fish_seen_subcommand_from calls' -s q -l quiet -d 'Writes nothing on standard error but faults'
+complete -c mpimatch -n '__fish_seen_subcommand_from calls' -l verbose -d 'Names the communicators that the texts make, and those that are left out'
+complete -c mpimatch -n '__fish_seen_subcommand_from calls' -l csv -d 'Prints CSV, as it does without a flag'
+complete -c mpimatch -n '__fish_seen_subcommand_from calls' -l json -d 'Prints a JSON object a line'
+complete -c mpimatch -n '__fish_seen_subcommand_from calls' -s h -l help -d 'Print help'
+complete -c mpimatch -n '__fish_seen_subcommand_from timeline' -F
+complete -c mpimatch -n '__fish_seen_subcommand_from timeline' -s q -l quiet -d 'Writes nothing on standard error but faults'
+complete -c mpimatch -n '__fish_seen_subcommand_from timeline' -l verbose -d 'Names the communicators that the texts make, and those that are left out'
+complete -c mpimatch -n '__fish_seen_subcommand_from timeline' -l from -x -d 'Leaves out what ends before so many seconds of the run'
+complete -c mpimatch -n '__fish_seen_subcommand_from timeline' -l to -x -d 'Leaves out what begins after so many seconds of the run'
+complete -c mpimatch -n '__fish_seen_subcommand_from timeline' -l ranks -x -d 'Shows the ranks from A to B alone'
+complete -c mpimatch -n '__fish_seen_subcommand_from timeline' -s h -l help -d 'Print help'
 complete -c mpimatch -n '__fish_seen_subcommand_from replay' -F
 complete -c mpimatch -n '__fish_seen_subcommand_from replay' -s q -l quiet -d 'Writes nothing on standard error but faults'
 complete -c mpimatch -n '__fish_seen_subcommand_from replay' -s h -l help -d 'Print help'

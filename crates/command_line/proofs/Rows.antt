@@ -3,6 +3,7 @@ use Rattle.std.proofs.Common.{◌≡◌, List, Option, Some, codes, option_and_t
 use Rattle.clap.specs.Words.{Row, Text, all_of, first_of}
 use Rattle.mpi_model.specs.declared.layout.Sends.{Sends}
 use Rattle.command_line.specs.Program.{Wish, form_in, in_form, init, init_in, pair_of, verb_named, wanted_of, wish_in}
+use Rattle.command_line.specs.Windows.{window_by}
 use Rattle.command_line.specs.declared.Verb.{Verb}
 use Rattle.command_line.specs.declared.Verbosity.{Verbosity}
 
@@ -24,3 +25,7 @@ pub pair_by : (verb : Verb) (verbosity other_verbosity : Verbosity) (layout othe
     → verbosity ≡ other_verbosity → layout ≡ other_layout → manifest ≡ other_manifest
     → pair_of verb verbosity layout manifest ≡ pair_of verb other_verbosity other_layout other_manifest
 pair_by verb verbosity other_verbosity layout other_layout manifest other_manifest v l m = rw (v, l, m) refl
+
+pub window_from : (from other_from to other_to ranks other_ranks : Option Text)
+    → from ≡ other_from → to ≡ other_to → ranks ≡ other_ranks → window_by from to ranks ≡ window_by other_from other_to other_ranks
+window_from from other_from to other_to ranks other_ranks f t r = rw (f, t, r) refl

@@ -2,13 +2,9 @@
 use Rattle.std.specs.Prelude.{◌≡◌, ◌∷◌, ℕ, Bool, List, [], Option, Some, None, if◌then◌else◌, false, true, codes, map, option_map, option_and_then}
 use denote.Bor.{Bor}
 use Rattle.std.specs.Str.{bytes_eq}
-use Rattle.std.specs.Str.Parse.{digits_value, without_leading_plus}
 use Rattle.clap.specs.Words.{App, IsAmong, Row, Rule, Text, all_of, fault_of, first_of, kind_of, new_app, new_rule, subcommand_of, with_rule, with_subcommand}
 use Rattle.clap.specs.Simple.{on_top}
-use Rattle.clap.specs.ValueTests.{accepts}
 use Rattle.clap.specs.declared.builder.action.ArgAction.TheVariants.{Append, SetTrue}
-use Rattle.clap.specs.declared.builder.value_parser.ValueParser.{ValueParser}
-use Rattle.clap.specs.declared.builder.value_parser.ValueParser.TheVariants.{Unsigned}
 use Rattle.clap.specs.declared.error.kind.ErrorKind.{ErrorKind}
 use Rattle.clap.specs.declared.error.kind.ErrorKind.TheVariants as kinds
 use Rattle.mpi_model.specs.declared.layout.Sends.{Sends}
@@ -20,10 +16,12 @@ use Rattle.command_line.specs.declared.CommandFault.TheVariants.{Memory, Shown, 
 use Rattle.command_line.specs.declared.Wanted.{Wanted}
 use Rattle.command_line.specs.declared.Extent.{Extent}
 use Rattle.command_line.specs.declared.Extent.TheVariants.{Cut, Whole}
+use Rattle.command_line.specs.Ranks.{rank_in, rank_parser}
+use Rattle.command_line.specs.Windows.{calls_asked, window_in}
 use Rattle.command_line.specs.declared.Verb.{Verb}
 use Rattle.command_line.specs.declared.Verbosity.{Verbosity}
 use Rattle.command_line.specs.declared.Verbosity.TheVariants.{Quiet, Brief, Verbose}
-use Rattle.command_line.specs.declared.Verb.TheVariants.{Explain, ExplainJson, ExplainRank, Graph, Page, Report, ReportJson, Replay, Check, CheckJson, Pack}
+use Rattle.command_line.specs.declared.Verb.TheVariants.{Explain, ExplainJson, ExplainRank, Graph, Page, Report, ReportJson, Timeline, Replay, Check, CheckJson, Pack}
 
 -- the texts behind these references
 abbrev pub texts_of : List (Bor Text) → List Text
@@ -64,10 +62,6 @@ json_rule = record (new_rule (codes "json")) { long = Some (codes "json"); actio
 -- `report`, over texts or a layout and a manifest, and whether as JSON
 abbrev pub report_app : App
 report_app = with_rule (files_app (codes "report")) json_rule
-
--- the rank of which `explain` tells: a number of 32 bits
-abbrev pub rank_parser : ValueParser
-rank_parser = Unsigned 0 4294967295
 
 -- `--rank`, a number
 abbrev pub rank_rule : Rule
@@ -141,6 +135,42 @@ init_app = with_rule (with_rule (with_rule (with_rule (with_rule (with_rule (wit
 abbrev pub with_init : App → App
 with_init app = with_subcommand app init_app.top
 
+-- the flag for CSV
+abbrev pub csv_rule : Rule
+csv_rule = record (new_rule (codes "csv")) { long = Some (codes "csv"); action = Some SetTrue }
+
+-- `calls`, over texts or a layout and a manifest, as CSV or as JSON lines
+abbrev pub calls_app : App
+calls_app = with_rule (with_rule (files_app (codes "calls")) csv_rule) json_rule
+
+-- the program with `calls`
+abbrev pub with_calls : App → App
+with_calls app = with_subcommand app calls_app.top
+
+-- an option for a value, which it may lack
+abbrev pub free_rule : Text → Rule
+free_rule id = record (new_rule id) { long = Some id; value_names = 1 }
+
+-- `--from`, a moment
+abbrev pub from_rule : Rule
+from_rule = free_rule (codes "from")
+
+-- `--to`, a moment
+abbrev pub to_rule : Rule
+to_rule = free_rule (codes "to")
+
+-- `--ranks`, the first and the last
+abbrev pub ranks_rule : Rule
+ranks_rule = free_rule (codes "ranks")
+
+-- `timeline`, over texts or a layout and a manifest, perhaps cut by time and by rank
+abbrev pub timeline_app : App
+timeline_app = with_rule (with_rule (with_rule (files_app (codes "timeline")) from_rule) to_rule) ranks_rule
+
+-- the program with `timeline`
+abbrev pub with_timeline : App → App
+with_timeline app = with_subcommand app timeline_app.top
+
 -- the program without its verbs
 abbrev pub bare : App
 bare = on_top (λ s. record s { has_version = true; subcommand_required = true }) (new_app (codes "mpimatch"))
@@ -149,9 +179,13 @@ bare = on_top (λ s. record s { has_version = true; subcommand_required = true }
 abbrev pub answering : App
 answering = with_report (with_files (with_graph (with_explain bare)) (codes "page"))
 
+-- the same, with the verbs that say what each call did
+abbrev pub telling : App
+telling = with_timeline (with_calls answering)
+
 -- all verbs of the program
 abbrev pub program : App
-program = with_init (with_pair (with_check (with_pair (with_pair answering (codes "replay")) (codes "cluster"))) (codes "pack"))
+program = with_init (with_pair (with_check (with_pair (with_pair telling (codes "replay")) (codes "cluster"))) (codes "pack"))
 
 -- the verb of a name
 abbrev pub verb_named : Text → Option Verb
@@ -222,10 +256,6 @@ report_in flag = if bytes_eq flag (codes "true") then ReportJson else Report
 -- a check, as JSON where the value of the flag says so
 abbrev pub check_in : Text → Verb
 check_in flag = if bytes_eq flag (codes "true") then CheckJson else Check
-
--- the number that a text writes, where it is one of 32 bits
-abbrev pub rank_in : Text → Option ℕ
-rank_in text = if accepts false rank_parser text then Some (digits_value 10 (without_leading_plus text)) else None
 
 -- an explanation of the rank that the value of the flag says
 abbrev pub explain_in : Text → Option Verb
@@ -302,9 +332,22 @@ init_in rows = option_and_then (λ wish. option_map (λ texts. init texts wish) 
 abbrev pub verb_in : Text → List Row → Option Request
 verb_in name rows = option_and_then (λ verb. files_in verb rows) (form_in name rows)
 
+-- the verb that the words of `calls` ask for
+abbrev pub calls_named : List Row → Option Verb
+calls_named rows = calls_asked (first_of (codes "csv") rows) (first_of (codes "json") rows)
+
+-- what the words of `calls` ask for
+abbrev pub calls_in : List Row → Option Request
+calls_in rows = option_and_then (λ verb. files_in verb rows) (calls_named rows)
+
+-- what the words of `timeline` ask for
+abbrev pub timeline_in : List Row → Option Request
+timeline_in rows = option_and_then (λ window. files_in (Timeline window) rows) (window_in rows)
+
 -- what a subcommand asks for, with its values
 abbrev pub asks_for : Text → List Row → Option Request
-asks_for name rows = if bytes_eq name (codes "init") then init_in rows else if bytes_eq name (codes "cluster") then cluster_in rows else verb_in name rows
+asks_for name rows = if bytes_eq name (codes "init") then init_in rows else if bytes_eq name (codes "cluster") then cluster_in rows
+    else if bytes_eq name (codes "calls") then calls_in rows else if bytes_eq name (codes "timeline") then timeline_in rows else verb_in name rows
 
 -- what the subcommand that was met asks for
 abbrev pub request_in : Option (Text × List Row) → Option Request

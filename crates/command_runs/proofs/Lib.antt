@@ -13,6 +13,7 @@ pub mod OneByOne
 pub mod Prepared
 pub mod Opening
 pub mod Ordered
+pub mod OwnOps
 pub mod OwnPieces
 pub mod PackedShares
 pub mod Packing
@@ -22,6 +23,7 @@ pub mod Runs
 pub mod Segments
 pub mod Sharing
 pub mod Stops
+pub mod Streaming
 pub mod Told
 pub mod Traces
 pub mod Unpacking

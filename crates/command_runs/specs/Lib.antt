@@ -30,6 +30,8 @@ pub mod Schedules
 pub mod Sentences
 pub mod Shares
 pub mod ShownBytes
+pub mod Streams
+pub mod Tables
 pub mod Telling
 pub mod TextCalls
 pub mod Traces

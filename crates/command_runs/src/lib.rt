@@ -3,13 +3,14 @@
 //! The input of a run is loaded once, in one place: a layout and a manifest, from their files or made of the texts of
 //! all ranks. A verb is a function of a [`Run`], which has both and the files of the manifest's pieces, and of the
 //! output. `report` reads the pieces, joins them into one knowledge, and writes its answer; `check` makes it once more
-//! straight from the rules (`trace_check`), `explain`, `graph` and `page` tell what holds up the run
-//! (`trace_diagnosis`) in words, as JSON and as a picture (`diagnosis_words`), and as a page (`page_words`); `pack`
-//! writes what the pieces tell as bytes. `replay` runs the manifest's schedule over nodes that exchange what they know
-//! (`trace_world`), and `cluster` lets two nodes read their pieces and exchange what they know over a socket
-//! (`trace_cluster`). `init` writes the layout and the manifest that are made of texts. Nothing is written before the
-//! whole run is good. Files come from an [`Opener`], so that a run can be proved and tested over files in memory; the
-//! program opens those of the system.
+//! straight from the rules (`trace_check`), `calls` and `timeline` print every call with its partner (`call_table`),
+//! `explain`, `graph` and `page` tell what holds up the run (`trace_diagnosis`) in words, as JSON and as a picture
+//! (`diagnosis_words`), and as a page (`page_words`); `pack` writes what the pieces tell as bytes. `replay` runs the
+//! manifest's schedule over nodes that exchange what they know (`trace_world`), and `cluster` lets two nodes read their
+//! pieces and exchange what they know over a socket (`trace_cluster`). `init` writes the layout and the manifest that
+//! are made of texts. Nothing is written before the whole run is good; `calls` and `timeline`, whose output may be
+//! longer than what is known, write it while they read the pieces a second time. Files come from an [`Opener`], so that
+//! a run can be proved and tested over files in memory; the program opens those of the system.
 //!
 //! The work is linear in the texts, but for the joins of their pieces (`trace_know`) and the answer
 //! (`trace_node`). Memory holds what is known and the events of one piece; that of a replay also all

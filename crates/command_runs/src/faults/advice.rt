@@ -167,6 +167,7 @@ pub fn is_in_words(verb: Verb) -> bool
     match verb {
         Verb::Explain(_) | Verb::ExplainRank(_) => true,
         Verb::ExplainJson | Verb::Graph(_) | Verb::Page => false,
+        Verb::Calls(_) | Verb::Timeline(_) => false,
         Verb::Report | Verb::ReportJson | Verb::Replay | Verb::Pack => false,
         Verb::Check | Verb::CheckJson => false,
     }
