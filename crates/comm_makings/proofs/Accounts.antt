@@ -1,5 +1,5 @@
 -- What is made, written and left out, together.
-use Rattle.std.proofs.Common.{◌≡◌, ◌⊎◌, ◌<◌, ◌≤◌, ◌+◌, ◌++◌, ◌∙◌, ℕ, zero, suc, Bool, List, [], ◌∷◌, Option, Some, None, Vec, length, ap, sym, subst, refl, inl, inr, arith, add-one, append-nil, option_map, option_and_then, unwrap_or}
+use Rattle.std.proofs.Common.{◌≡◌, ◌⊎◌, ◌<◌, ◌++◌, ◌∙◌, ℕ, zero, suc, List, [], ◌∷◌, Option, Some, None, Vec, length, ap, sym, subst, refl, inl, inr, arith, add-one, option_map, option_and_then, unwrap_or}
 use Rattle.std.specs.List.{Contains, cons_option, filter_map, flat_map, range_with_len, slice_get}
 use Rattle.std.specs.declared.alloc.Global.{Global}
 use Rattle.std.proofs.lemmas.Bool.{cases_lt}
@@ -8,9 +8,9 @@ use Rattle.std.proofs.lemmas.Option.{slice_get_within}
 use Rattle.mpi_model.specs.Communicators.{Communicator}
 use Rattle.comm_makings.specs.Derived.{AreAccounted, IsDerivedFrom, IsLeftOut, IsOfMade, IsSound}
 use Rattle.comm_makings.specs.Here.{call_at, meant_at}
-use Rattle.comm_makings.specs.Left.{calls_in, giving, is_known_to, left_at, left_by, left_in, left_of, left_out_of, left_with, standing_given, why_left, why_of, why_open, with_handle}
+use Rattle.comm_makings.specs.Left.{calls_in, giving, is_known_to, left_at, left_in, left_out_of, left_with, why_left, why_open, with_handle}
 use Rattle.comm_makings.specs.ObjectMakings.{AreObjects}
-use Rattle.comm_makings.specs.State.{AreInterMembers, AreMembers, IsMemberOf, IsRight, standing_at}
+use Rattle.comm_makings.specs.State.{AreInterMembers, AreMembers, IsRight, standing_at}
 use Rattle.comm_makings.specs.Uses.{AreAllCounted, count_at}
 use Rattle.comm_makings.specs.Views.{AreViews}
 use Rattle.comm_makings.specs.World.{world_of}
@@ -22,7 +22,6 @@ use Rattle.comm_makings.specs.declared.answer.Why.{Why}
 use Rattle.comm_makings.specs.declared.calls.CommCall.{CommCall}
 use Rattle.comm_makings.specs.declared.calls.RankCalls.{RankCalls}
 use Rattle.comm_makings.specs.declared.group_value.GroupValue.{GroupValue}
-use Rattle.comm_makings.specs.declared.handle.Gives.{Gives}
 use Rattle.comm_makings.specs.declared.handle.Gives.TheVariants as gives
 use Rattle.comm_makings.specs.declared.handle.Meant.{Meant}
 use Rattle.comm_makings.specs.declared.left.Giver.{Giver}

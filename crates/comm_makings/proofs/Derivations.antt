@@ -2,7 +2,6 @@
 use Rattle.std.proofs.Common.{◌≡◌, ◌+◌, ℕ, ℤ, ◌++◌, false, true, is_some, List, [], ◌∷◌, Option, Some, None, All, Vec, length, ap, ◌∙◌, sym, inl, inr, refl, subst}
 use Rattle.std.specs.List.{list_any, slice_get}
 use Rattle.std.specs.declared.alloc.Global.{Global}
-use Rattle.std.proofs.lemmas.Option.{same_Some}
 use Rattle.comm_groups.specs.Groups.{has}
 use Rattle.comm_makings.specs.ByGroups.{AreFound, AreRightOffers, IsAmong, IsFound, IsRightOffer}
 use Rattle.comm_makings.specs.Derives.{ArePlaces, Derives, IsCreation, IsGroupCall, IsGroupMaking, IsMaking, IsOfOffered, by_group, communicator, created, kth_calls, made, member_with, members_at, own, ranks_in, ranks_of, read_creation, read_left, read_making, read_to, world, world_members}
@@ -13,7 +12,6 @@ use Rattle.comm_makings.specs.Offers.{AreKnown, AreOfWanted, IsOfWanted, IsWante
 use Rattle.comm_makings.specs.Selection.{Selection}
 use Rattle.comm_makings.specs.State.{AreAllDerivedGroups, AreDerived, AreMadeOf, AreNext, IsDerivedComm, IsDerivedOutcome, IsFirstComm, IsOfDerived, IsOfPart, dims_of, is_read, parts_in}
 use Rattle.comm_makings.specs.Untold.{AreLeft}
-use Rattle.comm_makings.specs.Views.{AreViews}
 use Rattle.comm_makings.specs.declared.answer.MadeBy.{MadeBy}
 use Rattle.comm_makings.specs.declared.answer.MadeBy.TheVariants as functions
 use Rattle.comm_makings.specs.declared.by_groups.Offer.{Offer}
@@ -22,12 +20,10 @@ use Rattle.comm_makings.specs.declared.group_value.GroupValue.{GroupValue}
 use Rattle.comm_makings.specs.declared.here.Here.{Here}
 use Rattle.comm_makings.specs.declared.parts.Outcome.{Outcome}
 use Rattle.comm_makings.specs.declared.parts.Outcome.TheVariants as outcomes
-use Rattle.comm_makings.specs.declared.run.Gained.{Gained}
 use Rattle.comm_makings.specs.declared.run.Gained.TheVariants as gains
 use Rattle.comm_makings.specs.declared.state.Made.{Made}
 use Rattle.comm_makings.specs.declared.state.Member.{Member}
 use Rattle.comm_makings.specs.declared.state.Order.{Order}
-use Rattle.comm_makings.specs.declared.uses.HandleUses.{HandleUses}
 use Rattle.comm_makings.specs.declared.view.RankView.{RankView}
 use Rattle.comm_makings.proofs.Lists.{each_more, get_join}
 use Rattle.comm_makings.proofs.Values.{group_derives}

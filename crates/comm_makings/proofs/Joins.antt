@@ -4,7 +4,7 @@ use Rattle.std.specs.List.{slice_get}
 use Rattle.std.specs.declared.alloc.Global.{Global}
 use Rattle.std.proofs.lemmas.Option.{same_Some}
 use Rattle.comm_groups.specs.Groups.{intersection_of}
-use Rattle.comm_makings.specs.Derives.{Derives, communicator, copied, intercomm, joined, kth_calls, members_at, merged, ranks_in}
+use Rattle.comm_makings.specs.Derives.{Derives, copied, intercomm, joined, kth_calls, members_at, merged, ranks_in}
 use Rattle.comm_makings.specs.Here.{first_of, gives_later, meant_at}
 use Rattle.comm_makings.specs.Intercomms.{AreOwnCalls, IsJoining, IsMerge, IsMergedOf, IsOwnCall, Offers, SaysHigh, SaysLeader, first_size, is_copy, leaders_at, own_here, whole}
 use Rattle.comm_makings.specs.Made.{IsMakingOrder}

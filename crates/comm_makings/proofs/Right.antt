@@ -1,10 +1,10 @@
 -- That what is derived so far is right, step by step.
-use Rattle.std.proofs.Common.{◌≡◌, ◌⊎◌, ◌<◌, ◌+◌, ℕ, Bool, true, false, zero, suc, ◌++◌, List, [], ◌∷◌, Option, Some, None, Vec, length, option_and_then, replicate, set, ap, ◌∙◌, sym, subst, inl, inr, refl, arith, length-append, length-set}
+use Rattle.std.proofs.Common.{◌≡◌, ◌+◌, ℕ, Bool, true, false, zero, suc, ◌++◌, List, [], ◌∷◌, Option, Some, None, Vec, length, option_and_then, replicate, set, ap, ◌∙◌, sym, subst, inl, inr, refl, arith, length-append, length-set}
 use Rattle.std.specs.List.{slice_get}
 use Rattle.std.specs.declared.alloc.Global.{Global}
-use Rattle.std.proofs.lemmas.Option.{same_Some, slice_get_within}
+use Rattle.std.proofs.lemmas.Option.{same_Some}
 use Rattle.comm_makings.specs.Derives.{Derives, kth_calls, read_to, unread}
-use Rattle.comm_makings.specs.State.{AreAllDerivedGroups, AreDerived, AreDerivedGroups, AreMembers, AreNext, AreRead, IfComms, IsDerivedComm, IsDerivedGroup, IsEnded, IsMemberOf, IsNotListed, IsOfDerived, IsReadTo, IsRight, KeepsComms, KeepsDerived, NamesMembers, NoneListed, NoneListedAt, NoneStands, NoneStandsAt, StandsFor, dims_of, is_gained}
+use Rattle.comm_makings.specs.State.{AreAllDerivedGroups, AreDerived, AreNext, AreRead, IfComms, IsDerivedComm, IsDerivedGroup, IsEnded, IsMemberOf, IsNotListed, IsOfDerived, IsReadTo, IsRight, KeepsComms, KeepsDerived, NamesMembers, NoneListed, NoneListedAt, NoneStands, NoneStandsAt, dims_of, is_gained}
 use Rattle.comm_makings.specs.declared.answer.Why.{Why}
 use Rattle.comm_makings.specs.declared.calls.RankCalls.{RankCalls}
 use Rattle.comm_makings.specs.declared.group_value.GroupValue.{GroupValue}

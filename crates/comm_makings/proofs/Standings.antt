@@ -3,7 +3,7 @@ use Rattle.std.proofs.Common.{◌≡◌, ◌⊎◌, ℕ, List, Option, Some, Non
 use Rattle.std.specs.List.{slice_get}
 use Rattle.std.specs.declared.alloc.Global.{Global}
 use Rattle.comm_makings.specs.Derives.{member_with}
-use Rattle.comm_makings.specs.State.{BindsMember, IsMember, KeepsDerived, NamesMembers, SetsStanding, StandsFor, standing_at}
+use Rattle.comm_makings.specs.State.{BindsMember, KeepsDerived, NamesMembers, SetsStanding, standing_at}
 use Rattle.comm_makings.specs.declared.answer.Why.{Why}
 use Rattle.comm_makings.specs.declared.state.Member.{Member}
 use Rattle.comm_makings.specs.declared.state.HandleState.{HandleState}

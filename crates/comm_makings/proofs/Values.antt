@@ -1,5 +1,5 @@
 -- The groups that the calls of ranks give, as they become known.
-use Rattle.std.proofs.Common.{◌≡◌, ◌⊎◌, ℕ, ◌<◌, ◌-◌, true, false, not, nat_le, Bool, List, [], Option, Some, None, Vec, length, get_or, option_map, option_and_then, set, ap, ◌∙◌, sym, subst, inl, inr, refl}
+use Rattle.std.proofs.Common.{◌≡◌, ℕ, ◌<◌, ◌-◌, true, false, not, nat_le, Bool, List, [], Option, Some, None, Vec, length, get_or, option_map, option_and_then, set, ap, ◌∙◌, sym, subst, inl, inr, refl}
 use Rattle.std.specs.List.{slice_get}
 use Rattle.std.specs.declared.alloc.Global.{Global}
 use Rattle.std.proofs.lemmas.List.{length-map}

@@ -14,7 +14,6 @@ use Rattle.comm_makings.specs.declared.answer.MadeBy.{MadeBy}
 use Rattle.comm_makings.specs.declared.answer.MadeBy.TheVariants as functions
 use Rattle.comm_makings.specs.declared.calls.Action.{Action}
 use Rattle.comm_makings.specs.declared.calls.Action.TheVariants as actions
-use Rattle.comm_makings.specs.declared.calls.CommCall.{CommCall}
 use Rattle.comm_makings.specs.declared.calls.GroupCall.{GroupCall}
 use Rattle.comm_makings.specs.declared.calls.GroupCall.TheVariants as calls
 use Rattle.comm_makings.specs.declared.calls.Making.{Making}
@@ -22,7 +21,6 @@ use Rattle.comm_makings.specs.declared.calls.Making.TheVariants as makings
 use Rattle.comm_makings.specs.declared.calls.RankCalls.{RankCalls}
 use Rattle.comm_makings.specs.declared.handle.GroupAt.{GroupAt}
 use Rattle.comm_makings.specs.declared.handle.GroupAt.TheVariants as groups
-use Rattle.comm_makings.specs.declared.handle.Meant.{Meant}
 use Rattle.comm_makings.specs.declared.here.Here.{Here}
 use Rattle.comm_makings.specs.declared.state.Member.{Member}
 use Rattle.comm_makings.specs.declared.state.Order.{Order}

@@ -1,12 +1,12 @@
 -- What is left out: each communicator that a call gives and that isn't derived, with the calls of the profile that name
 -- it.
-use Rattle.std.specs.Prelude.{◌≡◌, ◌⊎◌, ℕ, Bool, true, false, List, Option, Some, None, cond, length, nat_lt, unwrap_or}
-use Rattle.std.specs.List.{Contains, filter_map, flat_map, range_with_len, slice_get}
+use Rattle.std.specs.Prelude.{ℕ, Bool, true, false, List, Option, Some, None, cond, length, nat_lt, unwrap_or}
+use Rattle.std.specs.List.{filter_map, flat_map, range_with_len, slice_get}
 use Rattle.std.specs.Option.{option_and_then, option_map}
 use Rattle.std.specs.Prelude.{Vec}
 use Rattle.std.specs.declared.alloc.Global.{Global}
 use Rattle.comm_makings.specs.Here.{call_at, function_of, gives_later, meant_at}
-use Rattle.comm_makings.specs.State.{IsMemberOf, standing_at}
+use Rattle.comm_makings.specs.State.{standing_at}
 use Rattle.comm_makings.specs.Uses.{count_at}
 use Rattle.comm_makings.specs.declared.answer.LeftOut.{LeftOut}
 use Rattle.comm_makings.specs.declared.answer.MadeBy.{MadeBy}
@@ -26,7 +26,6 @@ use Rattle.comm_makings.specs.declared.left.Giver.{Giver}
 use Rattle.comm_makings.specs.declared.left.Reason.{Reason}
 use Rattle.comm_makings.specs.declared.state.HandleState.{HandleState}
 use Rattle.comm_makings.specs.declared.state.HandleState.TheVariants as standings
-use Rattle.comm_makings.specs.declared.state.Made.{Made}
 use Rattle.comm_makings.specs.declared.uses.HandleUses.{HandleUses}
 use Rattle.comm_makings.specs.declared.view.RankView.{RankView}
 

@@ -1,5 +1,5 @@
 -- What the calls of a communicator's members make together (MPI 4.0, chapters 7 and 8).
-use Rattle.std.specs.Prelude.{◌≡◌, ◌<◌, ◌≤◌, ◌⊎◌, ◌||◌, ℕ, ℤ, pos, Bool, true, false, not, List, [], ◌∷◌, Option, Some, None, All, is_some, length, map}
+use Rattle.std.specs.Prelude.{◌≡◌, ◌<◌, ◌≤◌, ◌⊎◌, ◌||◌, ℕ, ℤ, pos, Bool, true, false, not, List, Option, Some, None, All, is_some, length, map}
 use Rattle.std.specs.List.{filter_map, list_any, range_with_len, slice_get}
 use Rattle.comm_groups.specs.Grids.{AreParts, kept, size_within}
 use Rattle.comm_groups.specs.Groups.{has}

@@ -15,7 +15,6 @@ use Rattle.comm_makings.specs.declared.answer.Choice.TheVariants as choices
 use Rattle.comm_makings.specs.declared.calls.Action.{Action}
 use Rattle.comm_makings.specs.declared.calls.Action.TheVariants as actions
 use Rattle.comm_makings.specs.declared.calls.CommCall.{CommCall}
-use Rattle.comm_makings.specs.declared.calls.Making.{Making}
 use Rattle.comm_makings.specs.declared.calls.Making.TheVariants as makings
 use Rattle.comm_makings.specs.declared.calls.RankCalls.{RankCalls}
 use Rattle.comm_makings.specs.declared.calls.Uses.{Uses}

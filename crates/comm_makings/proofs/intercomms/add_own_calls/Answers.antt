@@ -1,6 +1,5 @@
-use Rattle.std.proofs.Common.{◌∷◌, [], None, Option, arith, get_or, length-append, refl}
+use Rattle.std.proofs.Common.{◌∷◌, [], None, arith, get_or, length-append, refl}
 use Rattle.std.proofs.lemmas.Option.{slice_get-get_or}
-use Rattle.comm_makings.specs.declared.here.Here.{Here}
 use Rattle.comm_makings.specs.declared.state.Member.{Member}
 use Rattle.comm_makings.proofs.Joins.{own_more, own_none}
 use Rattle.comm_makings.proofs.intercomms.add_own_calls.Goals as goal
