@@ -1,5 +1,5 @@
 -- The text of each rank, where some rank may have none: by the numbers at the ends of the names.
-use Rattle.std.specs.Prelude.{◌≡◌, ℕ, zero, suc, ◌+◌, ◌-◌, ◌^◌, ◌==◌, ◌&&◌, Bool, true, false, not, List, [], ◌∷◌, ◌++◌, Option, Some, None, String, codes, fold, is_some, length, map, min, nat_le, nat_lt, option_and_then, option_map, slice_get, string_bytes, if◌then◌else◌}
+use Rattle.std.specs.Prelude.{◌≡◌, ℕ, zero, suc, ◌+◌, ◌-◌, ◌^◌, ◌==◌, ◌&&◌, Bool, true, false, List, [], ◌∷◌, ◌++◌, Option, Some, None, String, codes, fold, is_some, length, map, min, nat_le, nat_lt, option_and_then, option_map, slice_get, string_bytes, if◌then◌else◌}
 use Rattle.std.specs.declared.alloc.Global.{Global}
 use Rattle.mpi_model.specs.declared.layout.TheConstants.{MOST_RANKS}
 use Rattle.comm_makings.specs.declared.calls.RankCalls.{RankCalls}
