@@ -1,7 +1,7 @@
 -- What is said of a layout that was made, as JSON.
 use Rattle.std.specs.Prelude.{◌==◌, ℕ, Bool, List, Option, Some, None, codes, length, if◌then◌else◌}
 use Rattle.json.specs.Json.{Json, null, boolean, string, array, object, no_members, member}
-use Rattle.mpi_model.specs.Communicators.{Communicator}
+use Rattle.mpi_model.specs.Communicators.{Communicator, first_group, second_group}
 use Rattle.mpi_model.specs.declared.object.Object.{Object}
 use Rattle.mpi_model.specs.declared.object.Object.TheVariants as objects
 use Rattle.comm_makings.specs.declared.answer.LeftOut.{LeftOut}
@@ -21,10 +21,12 @@ object_word objects.File = codes "file"
 abbrev pub name_value : ℕ → ℕ → Json
 name_value world id = if id == world then string (codes "MPI_COMM_WORLD") else null
 
--- `{"id":2,"object":"communicator","name":"MPI_COMM_WORLD","members":[0,1],"numbers":[]}`
+-- `{"id":2,"object":"communicator","name":"MPI_COMM_WORLD","members":[0,1],"remote":[],"numbers":[]}`, where `remote`
+-- has the members of an intercommunicator's second group
 abbrev pub comm_value : ℕ → Communicator → Json
 comm_value world g = object (member (codes "id") (number_of g.comm) (member (codes "object") (string (object_word g.object)) (member (codes "name") (name_value world g.comm)
-    (member (codes "members") (array (items_of number_of g.members)) (member (codes "numbers") (array (items_of entry_value g.numbers)) no_members)))))
+    (member (codes "members") (array (items_of number_of (first_group g))) (member (codes "remote") (array (items_of number_of (second_group g)))
+    (member (codes "numbers") (array (items_of entry_value g.numbers)) no_members))))))
 
 -- the number that a call gave, where it can be read
 abbrev pub given_value : Option ℕ → Json

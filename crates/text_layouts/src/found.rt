@@ -52,8 +52,8 @@ fn put_name(out: &mut Writer, world: u32, id: u32) -> Result<(), AllocError>
     }
 }
 
-/// Puts a communicator, a window or a file: its id, its sort, its name, its members, and the numbers by which they name
-/// it.
+/// Puts a communicator, a window or a file: its id, its sort, its name, its members, those of the second group of an
+/// intercommunicator apart, and the numbers by which they name it.
 fn put_comm(out: &mut Writer, world: u32, comm: &Comm) -> Result<(), AllocError>
     ensures { Puts result out.old out.new (json_tokens (comm_value world comm.now)) }
 {
@@ -62,7 +62,8 @@ fn put_comm(out: &mut Writer, world: u32, comm: &Comm) -> Result<(), AllocError>
     put_string_field(out, "object", object_word(comm.object))?;
     out.key("name")?;
     put_name(out, world, comm.id)?;
-    put_numbers_field(out, "members", &comm.members)?;
+    put_numbers_field(out, "members", comm.first_group())?;
+    put_numbers_field(out, "remote", comm.second_group())?;
     out.key("numbers")?;
     put_entries(out, &comm.numbers)?;
     out.end_object()

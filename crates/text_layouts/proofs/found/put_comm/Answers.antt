@@ -12,15 +12,14 @@ pub returns : goal.returns
 returns c =
     let id : c.comm.inside.id ≡ c.args.comm.now.comm = ap (λ (g : Communicator). g.comm) c.comm.view_is in
     let sort : c.comm.inside.object ≡ c.args.comm.now.object = ap (λ (g : Communicator). g.object) c.comm.view_is in
-    let listed : c.comm.inside.members.items ≡ c.args.comm.now.members = ap (λ (g : Communicator). g.members) c.comm.view_is in
     let told : c.comm.inside.numbers.items ≡ c.args.comm.now.numbers = ap (λ (g : Communicator). g.numbers) c.comm.view_is in
-    let members : c.deref.result.now ≡ c.args.comm.now.members = cc in
-    let numbers : c.deref-2.result.now ≡ c.args.comm.now.numbers = cc in
+    let numbers : c.deref.result.now ≡ c.args.comm.now.numbers = cc in
     then (one c.in_ok-begin_object.ensures)
     (then (reads c.in_ok-put_number_field.ensures (ap (λ (n : ℕ). key (codes "id") ∷ json_tokens (number_of n)) id))
     (then (reads c.in_ok-put_string_field.ensures (ap (λ (word : List ℕ). key (codes "object") ∷ string word ∷ []) (c.object_word.ensures ∙ ap object_word sort)))
     (then (one c.in_ok-key.ensures)
     (then (reads c.in_ok-put_name.ensures (ap (λ (n : ℕ). json_tokens (name_value c.args.world n)) id))
-    (then (reads c.in_ok-put_numbers_field.ensures (ap (λ (ms : List ℕ). key (codes "members") ∷ begin_array ∷ items_tokens (items_of number_of ms)) members))
+    (then (reads c.in_ok-put_numbers_field.ensures (ap (λ (ms : List ℕ). key (codes "members") ∷ begin_array ∷ items_tokens (items_of number_of ms)) c.first_group.ensures))
+    (then (reads c.in_ok-put_numbers_field-2.ensures (ap (λ (ms : List ℕ). key (codes "remote") ∷ begin_array ∷ items_tokens (items_of number_of ms)) c.second_group.ensures))
     (then (one c.in_ok-key-2.ensures)
-    (then (reads c.in_ok-put_entries.ensures (ap (λ (es : List (Option Stretch)). begin_array ∷ items_tokens (items_of entry_value es)) numbers)) (one c.end_object.ensures))))))))
+    (then (reads c.in_ok-put_entries.ensures (ap (λ (es : List (Option Stretch)). begin_array ∷ items_tokens (items_of entry_value es)) numbers)) (one c.end_object.ensures)))))))))
