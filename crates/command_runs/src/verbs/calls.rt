@@ -84,12 +84,12 @@ fn all_ranks<O: Opener>(
 }
 
 /// Adds the rows of a call.
-fn put_rows(
+fn put_rows<'a>(
     lines: &mut Vec<u8>,
     rows: &Rows<'_>,
-    calls: &RankCalls<'_>,
+    calls: &RankCalls<'a>,
     number: u64,
-    called: &Called<'_>,
+    called: &Called<'a>,
 ) -> Result<(), RunFault>
     ensures { IfErr result (λ fault. fault ≡ RunFault.Memory) }
 {
