@@ -1,5 +1,5 @@
 -- A file that can't be opened, or read whole, as what it is refused for.
-use Rattle.std.proofs.Common.{◌≢◌, ◌<◌, arith, inl, inr, ℕ, List, Option, Some, None, ap, length, refl, subst, sym}
+use Rattle.std.proofs.Common.{◌≡◌, ◌≢◌, ◌<◌, arith, inl, inr, ℕ, List, Option, Some, None, ap, length, refl, subst, sym}
 use Rattle.std.proofs.lemmas.List.{length-append}
 use Rattle.std.specs.Io.KnownBytes.{Consumes}
 use Rattle.dumpi_text.specs.Failing.{Fails}

@@ -1,5 +1,6 @@
 use Rattle.std.proofs.Common.{◌≡◌, ℕ, List, Option, ap, false, inl, inr, refl, subst}
 use Rattle.std.proofs.lemmas.Result.{IfOk-weaker}
+use Rattle.dumpi_text.specs.Failing.{Fails}
 use Rattle.command_runs.specs.Endings.{EndsClusterRun}
 use Rattle.command_runs.proofs.Endings.{if_both, shown_so}
 use Rattle.command_runs.proofs.ending.over_cluster.Goals as goal
@@ -11,7 +12,7 @@ returns-in-Ok g c =
       c.in-Ok.input.layout,
       c.in-Ok.input.manifest,
       c.in-Ok.ensures.ok,
-      subst (λ (f : List ℕ → Option (List ℕ)). EndsClusterRun _ f c.in-Ok.input.layout c.in-Ok.input.manifest g.W.Write.written g.W.Write.failures c.args.out.now c.cluster_over.new.out e)
+      subst (λ (f : List ℕ → Option (List ℕ)). EndsClusterRun (Fails g.O.R.Read.failures) f c.in-Ok.input.layout c.in-Ok.input.manifest g.W.Write.written g.W.Write.failures c.args.out.now c.cluster_over.new.out e)
           (ap g.O.Opener.file c.new-beside.ensures) h,
     )) c.cluster_over.ensures
 

@@ -8,7 +8,7 @@ use Rattle.command_runs.proofs.ending.over_input.Goals as goal
 
 pub run_with-ran-requires : goal.run_with-ran-requires
 run_with-ran-requires g c =
-    record { rank = subst (λ (l : Parts). HasRank (asked_rank c.args.verb) l) (sym c.new.ensures.layout) c.requires }
+    subst (λ (l : Parts). HasRank (asked_rank c.args.verb) l) (sym c.new.ensures.layout) c.requires.rank
 
 pub returns : goal.returns
 returns g c =

@@ -24,7 +24,7 @@ returns-in-Err-has_rank g c =
 
 pub over_input-requires : goal.over_input-requires
 over_input-requires g c =
-    let has : HasRank (asked_rank c.args.how.0) c.in-Ok.prepared.made.input.layout = rw c.asked_rank.ensures at c.in_default-has_rank.ensures.ok in has
+    let has : HasRank (asked_rank c.args.how.0) c.in-Ok.prepared.made.input.layout = rw c.asked_rank.ensures at c.in_default-has_rank.ensures.ok in record { rank = has }
 
 pub returns : goal.returns
 returns g c = IfOk-weaker c.over_input.result _ _ (λ e h. inr (c.in-Ok.prepared.made, c.in-Ok.ensures.made.0, inl h)) c.over_input.ensures

@@ -12,5 +12,5 @@ returns-in_err-add_rank-clause-err g c = handed_on c.from_residual-in_err-add_ra
 
 pub returns-clause-ok : goal.returns-clause-ok
 returns-clause-ok g c =
-    let end : c.loop-rank.rank ≡ c.args.run.now.layout.now.ranks = omega (arith, c.ranks.ensures) in
+    let end : c.loop-rank.rank ≡ c.args.run.now.layout.now.ranks = omega (arith, c.ranks-rank-end.ensures) in
     subst (λ (n : ℕ). HoldsRanks n c.loop-rank.ops.items) end c.loop-rank.invariant

@@ -1,4 +1,4 @@
-use Rattle.std.proofs.Common.{rules, ◌≡◌, ◌∙◌, ◌×◌, ℕ, Bool, List, ap, ap₂, inl, refl, string_bytes, subst, sym, true}
+use Rattle.std.proofs.Common.{rules, ◌≡◌, ◌∙◌, ℕ, Bool, List, ap, ap₂, inl, refl, string_bytes, subst, sym, true}
 use Rattle.trace_check.specs.Checker.{Held, IsCheckOf}
 use Rattle.command_runs.specs.CheckJson.{check_json}
 use Rattle.command_runs.specs.declared.faults.fault.RunFault.TheVariants.{Memory}
