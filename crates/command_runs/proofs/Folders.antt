@@ -1,6 +1,10 @@
 -- Names for which words stand, and what is no text.
-use Rattle.std.proofs.Common.{◌≡◌, ◌∙◌, ◌<◌, ◌+◌, ◌++◌, ◌∷◌, [], ℕ, suc, List, Option, None, String, Global, true, ap₂, arith, drop, drop-cons, get_or, inl, inr, length, map, string_bytes, subst, sym}
-use Rattle.command_runs.specs.Folders.{AreTextsIn, IsNoFolder, IsTextIn, StandFor, is_text_name, name_in}
+use Rattle.std.specs.Prelude.{Contains, codes, if◌then◌else◌}
+use Rattle.std.proofs.Common.{◌≡◌, ◌∙◌, ◌<◌, ◌+◌, ◌++◌, ◌∷◌, [], ℕ, suc, Bool, Bor, List, Option, None, String, Global, true, false, append_assoc, ap, arith, drop, drop-cons, get_or, inl, inr, length, map, refl, string_bytes, subst, sym}
+use Rattle.std.proofs.lemmas.List.{get_or-map, length-map}
+use Rattle.clap.specs.Words.{Text}
+use Rattle.command_line.specs.Program.{texts_of}
+use Rattle.command_runs.specs.Folders.{AreTextsIn, IsNoFolder, IsTextIn, NamesNoFolder, StandFor, StandForAll, ends_in, is_text_name, name_in}
 use Rattle.command_runs.specs.NoTexts.{IsNoText}
 use Rattle.command_runs.specs.declared.faults.init_fault.InitFault.{InitFault}
 
@@ -29,7 +33,30 @@ no_folder word file fault e h = subst (λ (f : Option (List ℕ)). IsNoFolder wo
 pub untold_no_text : (name : List ℕ) (file : Option (List ℕ)) (fault : InitFault) → file ≡ None → IsNoText name None fault → IsNoText name file fault
 untold_no_text name file fault e h = subst (λ (f : Option (List ℕ)). IsNoText name f fault) (sym e) h
 
-pub drop_next : {X : Type 0} (xs : List X) (i : ℕ) (x : X) → i < length xs → x ≡ get_or xs i x → drop i xs ≡ x ∷ drop (i + 1) xs
-drop_next {X} xs i x below is =
+-- the name of a file in a folder whose name ends without a slash
+pub slash_between : (folder entry : List ℕ) → ends_in folder (codes "/") ≡ false → folder ++ (codes "/" ++ entry) ≡ name_in folder entry
+slash_between folder entry other =
+    sym (append_assoc folder (codes "/") entry) ∙ ap (λ (b : Bool). if b then folder ++ entry else folder ++ codes "/" ++ entry) (sym other)
+
+-- the word at a place is among the words
+text_at : (words : List (Bor Text)) (i : ℕ) (d : Bor Text) → i < length words → Contains (texts_of words) (get_or words i d).now
+text_at words i d below =
+    let long = length-map words (λ (w : Bor Text). w.now) in
+    (i, subst (λ (n : ℕ). i < n) (sym long) below, get_or-map (λ (w : Bor Text). w.now) words i d (get_or words i d).now below)
+
+-- the word at a place stands for no names
+pub names_none : (file : List ℕ → Option (List ℕ)) (words : List (Bor Text)) (i : ℕ) (d : Bor Text) (fault : InitFault) → i < length words
+    → IsNoFolder (get_or words i d).now (file (get_or words i d).now) fault → NamesNoFolder file (texts_of words) fault
+names_none file words i d fault below h = inr ((get_or words i d).now, text_at words i d below, h)
+
+drop_at : (words : List (Bor Text)) (i : ℕ) (d : Bor Text) → i < length words → drop i words ≡ get_or words i d ∷ drop (i + 1) words
+drop_at words i d below =
     let one : suc i ≡ i + 1 = omega arith in
-    drop-cons xs i x below ∙ ap₂ (λ (y : X) (n : ℕ). y ∷ drop n xs) (sym is) one
+    drop-cons words i d below ∙ ap (λ (n : ℕ). get_or words i d ∷ drop n words) one
+
+-- the names of a word, and then those of the words after it
+pub stand_more : (file : List ℕ → Option (List ℕ)) (words : List (Bor Text)) (i : ℕ) (d : Bor Text) (some : List (String Global)) (more : List (List ℕ)) → i < length words
+    → StandFor (file (get_or words i d).now) (get_or words i d).now some → StandForAll file (texts_of (drop (i + 1) words)) more
+    → StandForAll file (texts_of (drop i words)) (map string_bytes some ++ more)
+stand_more file words i d some more below h rest =
+    subst (λ (ws : List (Bor Text)). StandForAll file (texts_of ws) (map string_bytes some ++ more)) (sym (drop_at words i d below)) (some, more, h, rest, refl)

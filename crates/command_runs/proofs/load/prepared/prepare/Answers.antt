@@ -33,7 +33,7 @@ returns-in-None g c =
     let say : AllSay file (in_order names) read told.0 =
     subst (λ (ss : List (Option (List ℕ))). AllSay file ss read told.0) (ap kept c.deref-2.ensures.value ∙ ordered) told.1 in
     let none : spread_by (told_size read) names ≡ None =
-    ap₂ (λ (rs : List RankCalls) (ts : List (String Global)). spread_by (told_size rs) (map string_bytes ts)) (sym c.deref-4.ensures.value) (sym c.deref-3.ensures.value) ∙ subst (λ (o : Option (List (Option (String Global)))). IfNone o (spread_by (told_size c.deref-4.result.now) (map string_bytes c.deref-3.result.now) ≡ None)) c.in-None.is c.in_ok-seats_of.ensures.none in
+    ap₂ (λ (rs : List RankCalls) (ts : List (String Global)). spread_by (told_size rs) (map string_bytes ts)) (sym c.deref-4.ensures.value) (sym c.deref-3.ensures.value) ∙ subst (λ o. IfNone o (spread_by (told_size c.deref-4.result.now) (map string_bytes c.deref-3.result.now) ≡ None)) c.in-None.is c.in_ok-seats_of.ensures.none in
     let seated = seated_so file words names by_digits read told.0 (in_order names) c.in_ok-texts.ensures.ok say (none_missing (told_size read) names none) in
     record {
       made = IfOk-weaker c.prepared_by.result _ _ (λ p h. prepared_so file (form_of c.args.saying) c.args.sends words by_digits read told.0 c.in_ok-all.all.calls (in_order names) p.made p.notes.items seated
@@ -55,7 +55,7 @@ returns-in_err-spread-in-Some-clause-err g c =
     subst (λ (ss : List (Option (List ℕ))). AllSay file ss read told.0) (ap kept c.deref-2.ensures.value ∙ ordered) told.1 in
     let spread : IsSpread (spread_by (told_size read) names) names c.in-Some.seats.items =
     subst (λ (rs : List RankCalls). IsSpread (spread_by (told_size rs) names) names c.in-Some.seats.items) c.deref-4.ensures.value
-    (subst (λ (ts : List (String Global)). IsSpread (spread_by (told_size c.deref-4.result.now) (map string_bytes ts)) (map string_bytes ts) c.in-Some.seats.items) c.deref-3.ensures.value (subst (λ (o : Option (List (Option (String Global)))). IfSome o (λ s. IsSpread (spread_by (told_size c.deref-4.result.now) (map string_bytes c.deref-3.result.now)) (map string_bytes c.deref-3.result.now) s.items)) c.in-Some.is c.in_ok-seats_of.ensures.some)) in
+    (subst (λ (ts : List (String Global)). IsSpread (spread_by (told_size c.deref-4.result.now) (map string_bytes ts)) (map string_bytes ts) c.in-Some.seats.items) c.deref-3.ensures.value (subst (λ o. IfSome o (λ s. IsSpread (spread_by (told_size c.deref-4.result.now) (map string_bytes c.deref-3.result.now)) (map string_bytes c.deref-3.result.now) s.items)) c.in-Some.is c.in_ok-seats_of.ensures.some)) in
     let seated = seated_so file words names c.in_ok-texts.by_digits read told.0 (kept c.in-Some.seats.items) c.in_ok-texts.ensures.ok say (spread_out (told_size read) names c.in-Some.seats.items spread) in
     let fault = c.in_err-spread-in-Some.field-0.0 in
     let refuses : RefusesOne file (kept c.in-Some.seats.items) fault =
@@ -75,7 +75,7 @@ returns g c =
     subst (λ (ss : List (Option (List ℕ))). AllSay file ss read told.0) (ap kept c.deref-2.ensures.value ∙ ordered) told.1 in
     let spread : IsSpread (spread_by (told_size read) names) names c.in-Some.seats.items =
     subst (λ (rs : List RankCalls). IsSpread (spread_by (told_size rs) names) names c.in-Some.seats.items) c.deref-4.ensures.value
-    (subst (λ (ts : List (String Global)). IsSpread (spread_by (told_size c.deref-4.result.now) (map string_bytes ts)) (map string_bytes ts) c.in-Some.seats.items) c.deref-3.ensures.value (subst (λ (o : Option (List (Option (String Global)))). IfSome o (λ s. IsSpread (spread_by (told_size c.deref-4.result.now) (map string_bytes c.deref-3.result.now)) (map string_bytes c.deref-3.result.now) s.items)) c.in-Some.is c.in_ok-seats_of.ensures.some)) in
+    (subst (λ (ts : List (String Global)). IsSpread (spread_by (told_size c.deref-4.result.now) (map string_bytes ts)) (map string_bytes ts) c.in-Some.seats.items) c.deref-3.ensures.value (subst (λ o. IfSome o (λ s. IsSpread (spread_by (told_size c.deref-4.result.now) (map string_bytes c.deref-3.result.now)) (map string_bytes c.deref-3.result.now) s.items)) c.in-Some.is c.in_ok-seats_of.ensures.some)) in
     let seats = kept c.in-Some.seats.items in
     let seated = seated_so file words names c.in_ok-texts.by_digits read told.0 seats c.in_ok-texts.ensures.ok say (spread_out (told_size read) names c.in-Some.seats.items spread) in
     let of = c.in_ok-spread-in-Some.spread in
