@@ -5,10 +5,10 @@ use Rattle.command_runs.specs.Folders.{StandForAll}
 use Rattle.command_runs.proofs.Endings.{if_both}
 use Rattle.command_runs.proofs.ending.over_named.Goals as goal
 
-pub returns-in-Ok : goal.returns-in-Ok
-returns-in-Ok g c =
+pub returns : goal.returns
+returns g c =
     let lent : map (λ n. n.now) c.as_slice.result.now ≡ map string_bytes c.in-Ok.standing.items =
-    ap (map (λ n. n.now)) c.as_slice.ensures.value ∙ c.in_ok-names.ensures ∙ ap (map string_bytes) c.deref.ensures.value in
+    ap (map (λ n. n.now)) c.as_slice.ensures.value ∙ c.in_ok-names-in-Ok.ensures ∙ ap (map string_bytes) c.deref.ensures.value in
     IfOk-weaker c.over_files.result _ _ (λ e h. inl (_, subst (StandForAll (g.O.Opener.file c.args.files.now) (map (λ w. w.now) c.args.words.now)) (sym lent) c.in-Ok.ensures.ok, h)) c.over_files.ensures
 
 pub returns-in-Err : goal.returns-in-Err
