@@ -1,5 +1,5 @@
 -- `init`: how it ran, and how the program ends; and texts that are no files.
-use Rattle.std.specs.Prelude.{◌≡◌, ◌⊎◌, ℕ, Bool, true, false, List, [], Option, Result, Ok, Err, string_bytes, Contains, None}
+use Rattle.std.specs.Prelude.{◌≡◌, ◌⊎◌, ℕ, Bool, true, false, List, [], Option, Result, Ok, Err, map, string_bytes, Contains, None}
 use Rattle.std.specs.Io.KnownBytes.{Appends, Keeps}
 use Rattle.command_line.specs.Program.{Wish}
 use Rattle.run_files.specs.Stores.{AddsBoth, File, Files, Goes, HasBoth, LeavesNothing, RefusesAdding, RefusesReplacing, Same, spare_name}
@@ -9,7 +9,8 @@ use Rattle.text_layouts.specs.Making.{IsFile, RefusesLayoutFile, RefusesManifest
 use Rattle.text_layouts.specs.declared.fault.MadeFault.{MadeFault}
 use Rattle.text_layouts.specs.declared.made.Made.{Made}
 use Rattle.command_runs.specs.InitFaults.{IsPutFault, init_fault_line_of}
-use Rattle.command_runs.specs.Prepared.{IsMadeOf, RefusesWords, notes_of}
+use Rattle.command_runs.specs.Prepared.{IsMadeOf, notes_of}
+use Rattle.command_runs.specs.Seen.{Reads, RefusesTexts}
 use Rattle.command_runs.specs.Writing.{BreaksOff}
 use Rattle.command_runs.specs.declared.ending.Ending.{Ending}
 use Rattle.command_runs.specs.declared.faults.init_fault.InitFault.{InitFault}
@@ -22,15 +23,19 @@ NamesPiped file words _ = ⊥
 
 -- ---- both files
 
--- These are the bytes of both files of what was made, of texts with these names by rank.
-pub record AreFilesOf (made : Made) (names : List (List ℕ)) (layout manifest : List ℕ) : Type 0 where
+-- the texts of a manifest by their names, and whether each was cut off
+abbrev pub marked : (List ℕ → Bool) → List (List ℕ) → List (List ℕ × Bool)
+marked is_cut names = map (λ name. (name, is_cut name)) names
+
+-- These are the bytes of both files of what was made, of texts with these names by rank, each with whether it was cut off.
+pub record AreFilesOf (made : Made) (is_cut : List ℕ → Bool) (names : List (List ℕ)) (layout manifest : List ℕ) : Type 0 where
   pub layout_is : IsFile (made_layout made) layout
-  pub manifest_is : IsFile (manifest_value names) manifest
+  pub manifest_is : IsFile (manifest_value (marked is_cut names)) manifest
 
 -- One of the two files would be too long, or memory was wanting.
-abbrev pub RefusesFiles : Made → List (List ℕ) → InitFault → Type 0
-RefusesFiles made names fault = (fault ≡ faults.Memory) ⊎ ((cause : MadeFault) × (fault ≡ faults.Made cause)
-    × (RefusesLayoutFile (made_layout made) cause ⊎ RefusesManifestFile (manifest_value names) cause))
+abbrev pub RefusesFiles : Made → (List ℕ → Bool) → List (List ℕ) → InitFault → Type 0
+RefusesFiles made is_cut names fault = (fault ≡ faults.Memory) ⊎ ((cause : MadeFault) × (fault ≡ faults.Made cause)
+    × (RefusesLayoutFile (made_layout made) cause ⊎ RefusesManifestFile (manifest_value (marked is_cut names)) cause))
 
 -- a file
 abbrev pub file_with : List ℕ → List ℕ → File
@@ -60,22 +65,31 @@ pub record IsUnkept (wish : Wish) (old new : Option Files) (failed : Type 0) (fa
 -- ---- `init`
 
 -- Both files of what was made are kept as they are wanted.
-pub record KeepsMade (wish : Wish) (made : Made) (names : List (List ℕ)) (old new : Option Files) : Type 0 where
+pub record KeepsMade (wish : Wish) (made : Made) (is_cut : List ℕ → Bool) (names : List (List ℕ)) (old new : Option Files) : Type 0 where
   pub layout : List ℕ
   pub manifest : List ℕ
-  pub are : AreFilesOf made names layout manifest
+  pub are : AreFilesOf made is_cut names layout manifest
   pub kept : Goes (PutsBoth wish.force (file_with wish.layout layout) (file_with wish.manifest manifest)) old new
+
+-- The texts that these words name were read so, and those are told of which a part was dropped: where it says of one that none
+-- was, it was read whole.
+pub record TellsCuts (file : List ℕ → Option (List ℕ)) (words : List (List ℕ)) (seen : List ℕ → Option (List ℕ)) (is_cut : List ℕ → Bool) : Type 0 where
+  pub reads : Reads file words seen
+  pub whole : (name : List ℕ) → is_cut name ≡ false → seen name ≡ file name
 
 -- How `init` ran over the texts that these words name, in a store of these files: both files are kept and the notes of them
 -- written; or nothing was made, or what was made isn't kept, and nothing written; or only a front of the notes is.
 abbrev pub RanInit : {W : Type 0} → (List ℕ → Option (List ℕ)) → List (List ℕ) → Wish → Option Files → Option Files → Type 0 → Result (Unit {0}) InitFault → (W → Option (List ℕ)) → (W → ℕ) → W → W → Type 0
-RanInit file words wish old new failed (Ok done) written failures before after = (made : Made) × (is : IsMadeOf file wish.sends words made)
-    × KeepsMade wish made is.names old new × Appends (written before) (written after) (notes_of made is)
+RanInit file words wish old new failed (Ok done) written failures before after =
+    (seen : List ℕ → Option (List ℕ)) × (is_cut : List ℕ → Bool) × TellsCuts file words seen is_cut
+    × (made : Made) × (is : IsMadeOf seen wish.sends words made) × KeepsMade wish made is_cut is.names old new × Appends (written before) (written after) (notes_of made is)
 RanInit file words wish old new failed (Err fault) written failures before after =
-    (RefusesWords file words fault × Goes Same old new × Keeps (written before) (written after))
-    ⊎ (((made : Made) × (is : IsMadeOf file wish.sends words made) × ((RefusesFiles made is.names fault × Goes Same old new) ⊎ IsUnkept wish old new failed fault)
+    (RefusesTexts file words fault × Goes Same old new × Keeps (written before) (written after))
+    ⊎ (((seen : List ℕ → Option (List ℕ)) × (is_cut : List ℕ → Bool) × TellsCuts file words seen is_cut
+    × (made : Made) × (is : IsMadeOf seen wish.sends words made) × ((RefusesFiles made is_cut is.names fault × Goes Same old new) ⊎ IsUnkept wish old new failed fault)
     × Keeps (written before) (written after))
-    ⊎ ((fault ≡ faults.Write) × ((made : Made) × (is : IsMadeOf file wish.sends words made) × KeepsMade wish made is.names old new
+    ⊎ ((fault ≡ faults.Write) × ((seen : List ℕ → Option (List ℕ)) × (is_cut : List ℕ → Bool) × TellsCuts file words seen is_cut
+    × (made : Made) × (is : IsMadeOf seen wish.sends words made) × KeepsMade wish made is_cut is.names old new
     × BreaksOff (λ text. text ≡ notes_of made is) written failures before after)))
 
 -- the ending after such a run of `init`

@@ -1,38 +1,42 @@
 //! How the program ends: from words to a status and what standard error shows.
 
-ghost use Rattle.std.specs.Prelude.{◌≡◌, ◌≢◌, ◌∷◌, [], Contains, IfOk, IfSome, IsTrue, None, Option, length, string_bytes};
+ghost use Rattle.std.specs.Prelude.{◌≡◌, ◌≢◌, ◌∷◌, [], Contains, IfOk, IfSome, IsTrue, None, Option, length, map, string_bytes};
 ghost use Rattle.mpi_model.specs.Failures.{HasFailed};
 ghost use Rattle.dumpi_text.specs.Failing.{Fails};
-ghost use Rattle.command_line.specs.Program.{texts_of, wish_of};
+ghost use Rattle.command_line.specs.Program.{asked_rank, texts_of, wish_of};
 ghost use Rattle.run_files.specs.Stores.{Files};
 ghost use Rattle.command_runs.specs.Advice.{IsShownIn};
-ghost use Rattle.command_runs.specs.Endings.{BeginsWithText, EndsCluster, EndsFiles, EndsFor, EndsPair, EndsTexts, IsEndedBy, IsEnding, first_name, strange_line};
+ghost use Rattle.command_runs.specs.Endings.{BeginsWithText, EndsCluster, EndsFiles, EndsFor, EndsInput, EndsMade, EndsNodes, EndsPair, EndsTexts, IsEndedBy, IsEnding, first_name, strange_line};
 ghost use Rattle.command_runs.specs.FaultLines.{fault_line_of};
 ghost use Rattle.command_runs.specs.Files.{IsLength};
+ghost use Rattle.command_runs.specs.Seen.{kept_of, seen_by};
 ghost use Rattle.command_runs.specs.InitAdvice.{IsInitShown};
 ghost use Rattle.command_runs.specs.Inits.{EndsInit};
+ghost use Rattle.command_runs.specs.Inputs.{HasRank};
 
 use crate::faults::advice::{is_in_words, shown_fault};
 use crate::faults::fault::{RunFault, fault_line};
 use crate::faults::file_name::FileName;
 use crate::faults::init_advice::shown_init_fault;
 use crate::faults::init_fault::{InitFault, init_fault_line};
+use crate::load::cut_files::CutFiles;
 use crate::load::first_look::begins_as_text;
 use crate::load::input::{has_rank, input_at};
 use crate::load::opener::Opener;
-use crate::load::prepared::prepare;
+use crate::load::seen::{files_of, prepared_of};
 use crate::load::watch::Watcher;
 use crate::run::{Outcome, Run, run_with};
 use crate::verbs::cluster::cluster;
 use crate::verbs::init::init;
 use command_line::{Asked, CommandFault, Verb, Wanted, command_of};
 use mpi_model::{Sends, Write, write_all};
-use run_files::Store;
+use run_files::{RunInput, Store};
 use std::alloc::{AllocError, Global};
 use std::io::Eprint;
 use std::net::{Net, TcpListener, TcpStream};
 use std::sync::Wait;
 use std::thread::Threads;
+use text_layouts::Made;
 
 /// The status of the program, and what standard error shows.
 #[derive(Debug, Drop)]
@@ -101,9 +105,27 @@ fn over_pair<O: Opener, V: Watcher, W: Write>(
 {
     let (layout, manifest) = names;
     match input_at(alloc, verb.asked_rank(), layout, manifest, files) {
-        Ok(input) => {
-            let ran = run_with(verb, &Run::new(alloc, &input, files), watcher, out);
-            ending_after(alloc, is_in_words(verb), ran, files)
+        Ok(input) => over_input(alloc, verb, &input, files, watcher, out),
+        Err(fault) => showing(alloc, is_in_words(verb), &fault, files),
+    }
+}
+
+/// Runs a verb over an input: of texts that may have been cut off over what is kept of them.
+fn over_input<O: Opener, V: Watcher, W: Write>(
+    alloc: Global,
+    verb: Verb,
+    input: &RunInput,
+    files: &O,
+    watcher: &mut V,
+    out: &mut W,
+) -> Result<Ending, AllocError>
+    requires rank { HasRank (asked_rank verb) input.now.layout }
+    ensures { IfOk result (EndsInput (Fails O.R.failures) (O.file files.now) verb input.now.layout input.now.manifest W.written W.failures out.old out.new) }
+{
+    match files_of(alloc, input.manifest.pieces(), files) {
+        Ok(seen) => {
+            let ran = run_with(verb, &Run::new(alloc, input, &seen), watcher, out);
+            ending_after(alloc, is_in_words(verb), ran, &seen)
         }
         Err(fault) => showing(alloc, is_in_words(verb), &fault, files),
     }
@@ -146,17 +168,32 @@ fn over_texts<R: Eprint, O: Opener, V: Watcher, W: Write>(
         let path = path.to_string(alloc)?;
         return showing_init(alloc, verb, &InitFault::Piped { path }, files);
     }
-    let prepared = match prepare(alloc, Sends::Wait, texts, files) {
-        Ok(prepared) => prepared,
-        Err(fault) => return showing_init(alloc, verb, &fault, files),
-    };
-    show(rt, &prepared.notes);
-    let input = &prepared.made.input;
-    if let Err(fault) = has_rank(verb.asked_rank(), &input.layout) {
-        return showing(alloc, is_in_words(verb), &fault, files);
+    match prepared_of(alloc, Sends::Wait, texts, files) {
+        Ok((prepared, seen)) => {
+            show(rt, &prepared.notes);
+            over_made(alloc, verb, &prepared.made, &seen, watcher, out)
+        }
+        Err(fault) => showing_init(alloc, verb, &fault, files),
     }
-    let ran = run_with(verb, &Run::new(alloc, input, files), watcher, out);
-    ending_after(alloc, is_in_words(verb), ran, files)
+}
+
+/// Runs a verb over what was made of texts, as they were read for it.
+fn over_made<O: Opener, V: Watcher, W: Write>(
+    alloc: Global,
+    verb: Verb,
+    made: &Made,
+    seen: &CutFiles<'_, O>,
+    watcher: &mut V,
+    out: &mut W,
+) -> Result<Ending, AllocError>
+    ensures { IfOk result (EndsMade (Fails O.R.failures) (seen_by (map kept_of seen.now.cuts.items) (O.file seen.now.files.now)) verb made.now W.written W.failures out.old out.new) }
+{
+    let input = &made.input;
+    if let Err(fault) = has_rank(verb.asked_rank(), &input.layout) {
+        return showing(alloc, is_in_words(verb), &fault, seen);
+    }
+    let ran = run_with(verb, &Run::new(alloc, input, seen), watcher, out);
+    ending_after(alloc, is_in_words(verb), ran, seen)
 }
 
 /// Runs a cluster of a layout and a manifest, by the names of their files.
@@ -169,9 +206,23 @@ fn over_cluster<
 {
     let (layout, manifest) = names;
     match input_at(alloc, None, layout, manifest, files) {
-        Ok(input) => {
-            let ran = cluster(rt, &Run::new(alloc, &input, files), out);
-            ending_after(alloc, false, ran, files)
+        Ok(input) => over_nodes(rt, alloc, &input, files, out),
+        Err(fault) => showing(alloc, false, &fault, files),
+    }
+}
+
+/// Runs a cluster of an input: of texts that may have been cut off over what is kept of them.
+fn over_nodes<
+    R: Net<Listener = TcpListener, Stream = TcpStream> + Threads + Wait + Sync,
+    O: Opener,
+    W: Write,
+>(rt: &R, alloc: Global, input: &RunInput, files: &O, out: &mut W) -> Result<Ending, AllocError>
+    ensures { IfOk result (EndsNodes (Fails O.R.failures) (O.file files.now) input.now.layout input.now.manifest W.written W.failures out.old out.new) }
+{
+    match files_of(alloc, input.manifest.pieces(), files) {
+        Ok(seen) => {
+            let ran = cluster(rt, &Run::new(alloc, input, &seen), out);
+            ending_after(alloc, false, ran, &seen)
         }
         Err(fault) => showing(alloc, false, &fault, files),
     }

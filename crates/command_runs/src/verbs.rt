@@ -3,6 +3,7 @@
 pub(crate) mod answerer;
 pub(crate) mod check;
 pub(crate) mod cluster;
+pub(crate) mod cut_ranks;
 pub(crate) mod explain;
 pub(crate) mod facts;
 pub(crate) mod init;

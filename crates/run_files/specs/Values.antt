@@ -1,6 +1,6 @@
 -- The JSON values of a layout and of a manifest.
-use Rattle.std.specs.Prelude.{◌≡◌, ℕ, ◌+◌, ◌==◌, ◌&&◌, Bool, List, [], ◌∷◌, ◌++◌, Option, Some, None, Result, OnOk, codes, decimal, is_some, not, if◌then◌else◌}
-use Rattle.json.specs.Json.{Json, null, number, string, array, object, Items, no_items, item, Members, no_members, member}
+use Rattle.std.specs.Prelude.{◌≡◌, ℕ, ◌+◌, ◌==◌, ◌&&◌, Bool, true, false, List, [], ◌∷◌, ◌++◌, Option, Some, None, Result, OnOk, codes, decimal, is_some, not, if◌then◌else◌}
+use Rattle.json.specs.Json.{Json, null, boolean, number, string, array, object, Items, no_items, item, Members, no_members, member}
 use Rattle.json.specs.Print.{print}
 use Rattle.json.specs.Token.{Token}
 use Rattle.json.specs.Token as tokens
@@ -76,18 +76,28 @@ abbrev pub layout_value : Parts → Json
 layout_value l = object (member (codes "ranks") (number_of l.ranks) (member (codes "world") (number_of l.world)
     (member (codes "sends") (string (sends_word l.sends)) (member (codes "comms") (array (items_of communicator_value l.comms)) no_members))))
 
--- the whole text of a rank: `{"rank":R,"first":0,"file":".."}`
-abbrev pub piece_value : ℕ → List ℕ → Json
-piece_value rank file = object (member (codes "rank") (number_of rank) (member (codes "first") (number_of 0) (member (codes "file") (string file) no_members)))
+-- the field of a text that was cut off
+abbrev pub cut_field : Bool → Members
+cut_field true = member (codes "cut") (boolean true) no_members
+cut_field false = no_members
 
--- the files of this rank and of those behind it
-abbrev pub pieces_from : ℕ → List (List ℕ) → Items
+-- its tokens
+abbrev pub cut_tokens : Bool → List Token
+cut_tokens true = tokens.key (codes "cut") ∷ tokens.boolean true ∷ []
+cut_tokens false = []
+
+-- the text of a rank: `{"rank":R,"first":0,"file":".."}`, with `"cut":true` where it was cut off
+abbrev pub piece_value : ℕ → List ℕ × Bool → Json
+piece_value rank text = object (member (codes "rank") (number_of rank) (member (codes "first") (number_of 0) (member (codes "file") (string text.0) (cut_field text.1))))
+
+-- the texts of this rank and of those behind it, each with whether it was cut off
+abbrev pub pieces_from : ℕ → List (List ℕ × Bool) → Items
 pieces_from rank [] = no_items
-pieces_from rank (file ∷ files) = item (piece_value rank file) (pieces_from (rank + 1) files)
+pieces_from rank (text ∷ texts) = item (piece_value rank text) (pieces_from (rank + 1) texts)
 
 -- `{"pieces":[..]}`
-abbrev pub manifest_value : List (List ℕ) → Json
-manifest_value files = object (member (codes "pieces") (array (pieces_from 0 files)) no_members)
+abbrev pub manifest_value : List (List ℕ × Bool) → Json
+manifest_value texts = object (member (codes "pieces") (array (pieces_from 0 texts)) no_members)
 
 -- a value without spaces, and a line feed
 abbrev pub line_of : Json → List ℕ

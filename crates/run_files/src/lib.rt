@@ -41,4 +41,4 @@ pub use read::layout::layout_of;
 pub use read::manifest::manifest_of;
 pub use store::{NewFile, PutFault, Store, StoreFault, Which, add_both, replace_both};
 pub use write::layout::layout_bytes;
-pub use write::manifest::manifest_bytes;
+pub use write::manifest::{ListedText, manifest_bytes};

@@ -14,6 +14,7 @@ pub struct Piece {
     file: String,
     node: u8,
     worker: u8,
+    cut: bool,
 }
 
 impl Model for Piece {
@@ -22,28 +23,32 @@ impl Model for Piece {
 
     ghost Value = { PieceParts };
 
-    ghost view = { λ p. record { rank = p.rank; first = p.first; file = string_bytes p.file; node = p.node; worker = p.worker } };
+    ghost view = { λ p. record { rank = p.rank; first = p.first; file = string_bytes p.file; node = p.node; worker = p.worker; cut = p.cut } };
 }
 
 impl Piece {
     ghost use Rattle.run_files.specs.Manifests.{whole_text};
 
-    /// The whole text of a rank, which names no node and no worker.
+    /// The whole text of a rank, which names no node and no worker, and wasn't cut off.
     pub fn whole(rank: u32, file: String) -> Piece
         ensures { result ≡ whole_text rank (string_bytes file) }
     {
-        Piece::new(rank, 0, file, 0, 0)
+        Piece::new(rank, 0, file, (0, 0), false)
     }
 
-    pub(crate) fn new(rank: u32, first: u64, file: String, node: u8, worker: u8) -> Piece
-        ensures { result ≡ record { rank = rank; first = first; file = string_bytes file; node = node; worker = worker } }
+    /// A text: the rank, its first call, its file, the node and the worker whose piece it is, and whether it may have been
+    /// cut off.
+    pub(crate) fn new(rank: u32, first: u64, file: String, at: (u8, u8), cut: bool) -> Piece
+        ensures { result ≡ record { rank = rank; first = first; file = string_bytes file; node = at.0; worker = at.1; cut = cut } }
     {
+        let (node, worker) = at;
         Piece {
             rank,
             first,
             file,
             node,
             worker,
+            cut,
         }
     }
 
@@ -80,6 +85,13 @@ impl Piece {
         ensures { result ≡ self.now.worker }
     {
         self.worker
+    }
+
+    /// Whether the text may have been cut off anywhere, as that of a killed run.
+    pub fn is_cut(&self) -> bool
+        ensures { result ≡ self.now.cut }
+    {
+        self.cut
     }
 }
 

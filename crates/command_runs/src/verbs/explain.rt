@@ -16,6 +16,7 @@ use crate::pieces::noted::noted_of;
 use crate::pieces::packed::{joined, packed_of};
 use crate::run::{Outcome, Run};
 use crate::verbs::answerer::Answerer;
+use crate::verbs::cut_ranks::cut_ranks;
 use crate::verbs::facts::facts_of;
 use crate::verbs::node::node_with;
 use crate::verbs::writing::write_text;
@@ -117,7 +118,8 @@ fn diagnosed<N: Answerer, O: Opener>(
         unreachable!()
     };
     let know = node.knowledge();
-    let diagnosis = diagnose(alloc, layout, answer, know, &[])?;
+    let cut = cut_ranks(alloc, know, answer.ranks(), &notes, files)?;
+    let diagnosis = diagnose(alloc, layout, answer, know, &cut)?;
     let texts = facts_of(alloc, &diagnosis, asked_of(printing), notes, files)?;
     match printing {
         Printing::Words(extent) => {

@@ -2,6 +2,7 @@
 
 use crate::load::opener::Opener;
 use crate::load::second_look::reopened;
+use crate::verbs::cut_ranks::cut_texts;
 use diagnosis_words::{TextFacts, named_calls};
 use std::alloc::{AllocError, Global};
 use std::collections::BTreeSet;
@@ -75,6 +76,7 @@ pub(crate) fn facts_of<O: Opener>(
             facts.add(alloc, at, look)?;
         }
     }
+    facts.cut = cut_texts(alloc, &facts.notes, files)?;
     facts.finish()?;
     Ok(facts)
 }

@@ -4,16 +4,19 @@ ghost use Rattle.std.specs.Prelude.{◌≡◌, ◌≢◌, IfErr, IfOk, OnOk, map
 ghost use Rattle.mpi_model.specs.Failures.{HasFailed};
 ghost use Rattle.run_files.specs.Stores.{Goes, LeavesNothing, Same};
 ghost use Rattle.command_line.specs.Program.{texts_of, wish_of};
-ghost use Rattle.command_runs.specs.Inits.{AreFilesOf, PutsBoth, RanInit, RefusesFiles, RefusesPutting, file_with};
+ghost use Rattle.command_runs.specs.Inits.{AreFilesOf, PutsBoth, RanInit, RefusesFiles, RefusesPutting, file_with, marked};
+ghost use Rattle.command_runs.specs.Seen.{is_cut, kept_of};
 ghost use Rattle.command_runs.specs.declared.faults.init_fault.InitFault.TheVariants.{Memory};
 
 use crate::faults::init_fault::{InitFault, put_fault};
+use crate::load::cut_files::CutFiles;
 use crate::load::opener::Opener;
-use crate::load::prepared::{Prepared, prepare};
+use crate::load::prepared::Prepared;
+use crate::load::seen::prepared_of;
 use command_line::Wanted;
 use mpi_model::{Write, write_all};
-use run_files::{NewFile, PutFault, Store, add_both, replace_both};
-use std::alloc::Global;
+use run_files::{ListedText, NewFile, PutFault, Store, add_both, replace_both};
+use std::alloc::{AllocError, Global};
 use text_layouts::{layout_file_of, manifest_file_of};
 
 /// The bytes of both files of what was made.
@@ -23,17 +26,39 @@ struct BothFiles {
     manifest: Vec<u8>,
 }
 
-/// The bytes of both files of what was made of texts, where neither is too long.
-#[tactic(auto, using(crate::proofs::Ended::layout_too_long, crate::proofs::Ended::manifest_too_long))]
-fn files_of(alloc: Global, prepared: &Prepared) -> Result<BothFiles, InitFault>
-    ensures ok { IfOk result (λ both. AreFilesOf prepared.now.made (map string_bytes prepared.now.texts.items) both.layout.items both.manifest.items) }
-    ensures err { IfErr result (RefusesFiles prepared.now.made (map string_bytes prepared.now.texts.items)) }
+/// The texts of the manifest, each with whether it was cut off.
+fn listed_of<'t, O: Opener>(
+    alloc: Global,
+    texts: &'t [String],
+    seen: &CutFiles<'_, O>,
+) -> Result<Vec<ListedText<'t>>, AllocError>
+    ensures { IfOk result (λ listed. map (λ t. (t.file.now, t.cut)) listed.items ≡ marked (is_cut (map kept_of seen.now.cuts.items)) (map string_bytes texts.now)) }
 {
+    let mut listed = Vec::new(alloc);
+    for text in texts {
+        let file = text.as_str();
+        let cut = seen.is_cut(file);
+        listed.push(ListedText { file, cut })?;
+    }
+    Ok(listed)
+}
+
+/// The bytes of both files of what was made of texts, where neither is too long.
+#[tactic(auto, using(crate::proofs::Ended::layout_too_long, crate::proofs::Ended::manifest_too_long, crate::proofs::Ended::manifest_marked))]
+fn both_of<O: Opener>(
+    alloc: Global,
+    prepared: &Prepared,
+    seen: &CutFiles<'_, O>,
+) -> Result<BothFiles, InitFault>
+    ensures ok { IfOk result (λ both. AreFilesOf prepared.now.made (is_cut (map kept_of seen.now.cuts.items)) (map string_bytes prepared.now.texts.items) both.layout.items both.manifest.items) }
+    ensures err { IfErr result (RefusesFiles prepared.now.made (is_cut (map kept_of seen.now.cuts.items)) (map string_bytes prepared.now.texts.items)) }
+{
+    let listed = listed_of(alloc, &prepared.texts, seen)?;
     let layout = match layout_file_of(alloc, &prepared.made) {
         Ok(layout) => layout,
         Err(fault) => return Err(InitFault::Made(fault)),
     };
-    let manifest = match manifest_file_of(alloc, &prepared.texts) {
+    let manifest = match manifest_file_of(alloc, &listed) {
         Ok(manifest) => manifest,
         Err(fault) => return Err(InitFault::Made(fault)),
     };
@@ -91,8 +116,8 @@ pub(crate) fn init<O: Opener, S: Store, W: Write>(
     ensures { RanInit (O.file files.now) (texts_of texts.now) (wish_of wanted.entry) (S.files store.old) (S.files store.new)
         (HasFailed (S.failures store.old) (S.failures store.new)) result W.written W.failures out.old out.new }
 {
-    let prepared = prepare(alloc, wanted.sends, texts, files)?;
-    let both = files_of(alloc, &prepared)?;
+    let (prepared, seen) = prepared_of(alloc, wanted.sends, texts, files)?;
+    let both = both_of(alloc, &prepared, &seen)?;
     // (what a fault names, before anything is kept)
     let (layout, manifest) = names_of(alloc, wanted)?;
     if let Err(fault) = keep(alloc, &both, wanted, store) {
