@@ -6,7 +6,7 @@ ghost use Rattle.dumpi_text.specs.Failing.{Fails};
 ghost use Rattle.command_line.specs.Program.{asked_rank, texts_of, wish_of};
 ghost use Rattle.run_files.specs.Stores.{Files};
 ghost use Rattle.command_runs.specs.Advice.{IsShownIn};
-ghost use Rattle.command_runs.specs.Endings.{BeginsWithText, EndsCluster, EndsClusterRun, EndsFiles, EndsFor, EndsInitNamed, EndsNamed, EndsPair, EndsRun, EndsStrange, EndsTexts, IsEndedBy, IsEnding, first_name, strange_line};
+ghost use Rattle.command_runs.specs.Endings.{BeginsWithText, EndsCluster, EndsClusterKept, EndsClusterRun, EndsFiles, EndsFor, EndsInitNamed, EndsKept, EndsNamed, EndsPair, EndsRun, EndsStrange, EndsTexts, IsEndedBy, IsEnding, first_name, strange_line};
 ghost use Rattle.command_runs.specs.FaultLines.{fault_line_of};
 ghost use Rattle.command_runs.specs.Files.{IsLength};
 ghost use Rattle.command_runs.specs.InitAdvice.{IsInitShown};
@@ -25,7 +25,8 @@ use crate::load::folders::{borrowed, with_folders};
 use crate::load::input::{has_rank, input_at};
 use crate::load::no_text::no_text_of;
 use crate::load::opener::Opener;
-use crate::load::prepared::{Saying, prepare};
+use crate::load::prepared::Saying;
+use crate::load::seen::{kept_files, prepared_of};
 use crate::load::telling::tell;
 use crate::load::watch::Watcher;
 use crate::run::{Outcome, Run, run_with};
@@ -126,8 +127,26 @@ fn over_pair<O: Opener, V: Watcher, W: Write>(
     match input_at(alloc, verb.asked_rank(), layout, manifest, files) {
         Ok(input) => {
             let beside = Beside::new(alloc, files, manifest);
-            over_input(alloc, verb, &input, &beside, watcher, out)
+            over_kept(alloc, verb, &input, &beside, watcher, out)
         }
+        Err(fault) => showing(alloc, is_in_words(verb), &fault, files),
+    }
+}
+
+/// Runs a verb over this input, whose files these are: of texts that may have been cut off over what is kept.
+fn over_kept<O: Opener, V: Watcher, W: Write>(
+    alloc: Global,
+    verb: Verb,
+    input: &RunInput,
+    files: &O,
+    watcher: &mut V,
+    out: &mut W,
+) -> Result<Ending, AllocError>
+    requires rank { HasRank (asked_rank verb) input.now.layout }
+    ensures { IfOk result (EndsKept (Fails O.R.failures) (O.file files.now) verb input.now.layout input.now.manifest W.written W.failures out.old out.new) }
+{
+    match kept_files(alloc, input.manifest.pieces(), files) {
+        Ok(seen) => over_input(alloc, verb, input, &seen, watcher, out),
         Err(fault) => showing(alloc, is_in_words(verb), &fault, files),
     }
 }
@@ -207,8 +226,8 @@ fn over_texts<R: Eprint, O: Opener, V: Watcher, W: Write>(
         let path = path.to_string(alloc)?;
         return showing_init(alloc, verb, &InitFault::Piped { path }, files);
     }
-    let prepared = match prepare(alloc, Saying::Words, Sends::Wait, texts, files) {
-        Ok(prepared) => prepared,
+    let (prepared, seen) = match prepared_of(alloc, Saying::Words, Sends::Wait, texts, files) {
+        Ok(read) => read,
         Err(fault) => return showing_init(alloc, verb, &fault, files),
     };
     tell(rt, alloc, verbosity, &prepared)?;
@@ -217,7 +236,7 @@ fn over_texts<R: Eprint, O: Opener, V: Watcher, W: Write>(
         let ranks = input.layout.ranks();
         return showing_init(alloc, verb, &InitFault::Outside { ranks }, files);
     }
-    over_input(alloc, verb, input, files, watcher, out)
+    over_input(alloc, verb, input, &seen, watcher, out)
 }
 
 /// Runs a cluster of a layout and a manifest, by the names of their files.
@@ -232,8 +251,22 @@ fn over_cluster<
     match input_at(alloc, None, layout, manifest, files) {
         Ok(input) => {
             let beside = Beside::new(alloc, files, manifest);
-            cluster_over(rt, alloc, &input, &beside, out)
+            cluster_kept(rt, alloc, &input, &beside, out)
         }
+        Err(fault) => showing(alloc, false, &fault, files),
+    }
+}
+
+/// Runs a cluster over this input, whose files these are: of texts that may have been cut off over what is kept.
+fn cluster_kept<
+    R: Net<Listener = TcpListener, Stream = TcpStream> + Threads + Wait + Sync,
+    O: Opener,
+    W: Write,
+>(rt: &R, alloc: Global, input: &RunInput, files: &O, out: &mut W) -> Result<Ending, AllocError>
+    ensures { IfOk result (EndsClusterKept (Fails O.R.failures) (O.file files.now) input.now.layout input.now.manifest W.written W.failures out.old out.new) }
+{
+    match kept_files(alloc, input.manifest.pieces(), files) {
+        Ok(seen) => cluster_over(rt, alloc, input, &seen, out),
         Err(fault) => showing(alloc, false, &fault, files),
     }
 }

@@ -5,6 +5,7 @@ pub(crate) mod arguments;
 pub(crate) mod check;
 pub(crate) mod check_json;
 pub(crate) mod cluster;
+pub(crate) mod cut_ranks;
 pub(crate) mod explain;
 pub(crate) mod facts;
 pub(crate) mod init;

@@ -17,6 +17,7 @@ use crate::pieces::packed::{joined, packed_of};
 use crate::run::{Outcome, Run};
 use crate::verbs::answerer::Answerer;
 use crate::verbs::arguments::compare_arguments;
+use crate::verbs::cut_ranks::cut_ranks;
 use crate::verbs::facts::{add_places, facts_of};
 use crate::verbs::node::node_with;
 use crate::verbs::writing::write_text;
@@ -118,7 +119,8 @@ fn diagnosed<N: Answerer, O: Opener>(
         unreachable!()
     };
     let know = node.knowledge();
-    let diagnosis = diagnose(alloc, layout, answer, know, &[])?;
+    let cut = cut_ranks(alloc, know, answer.ranks(), &notes, files)?;
+    let diagnosis = diagnose(alloc, layout, answer, know, &cut)?;
     let (mut texts, calls) = facts_of(alloc, &diagnosis, asked_of(printing), notes, files)?;
     compare_arguments(alloc, layout, answer, know, &calls, &mut texts)?;
     add_places(alloc, &mut texts, files)?;

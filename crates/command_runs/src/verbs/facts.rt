@@ -3,6 +3,7 @@
 use crate::load::opener::Opener;
 use crate::load::second_look::reopened;
 use crate::verbs::arguments::add_arguments;
+use crate::verbs::cut_ranks::cut_texts;
 use diagnosis_words::{TextFacts, argument_calls, named_calls};
 use std::alloc::{AllocError, Global};
 use std::collections::BTreeSet;
@@ -80,6 +81,7 @@ pub(crate) fn facts_of<O: Opener>(
             facts.add(alloc, at, look)?;
         }
     }
+    facts.cut = cut_texts(alloc, &facts.notes, files)?;
     facts.finish()?;
     Ok((facts, calls))
 }
