@@ -18,12 +18,12 @@ use Rattle.command_runs.specs.Files.{IsLength, NamesFailed}
 use Rattle.command_runs.specs.Folders.{NamesNoFolder, StandForAll}
 use Rattle.command_runs.specs.InitAdvice.{IsInitShown}
 use Rattle.command_runs.specs.InitFaults.{init_fault_line_of}
-use Rattle.command_runs.specs.Inits.{EndsInit, NamesPiped}
+use Rattle.command_runs.specs.Inits.{EndsInit}
 use Rattle.command_runs.specs.Inputs.{LacksRank, RefusesLoading, TellInput}
 use Rattle.command_runs.specs.Looks.{BeginsAsText}
 use Rattle.command_runs.specs.NoTexts.{AreNoTexts}
 use Rattle.command_runs.specs.Prepared.{IsMadeOf}
-use Rattle.command_runs.specs.Seen.{Reads, RefusesLooks, RefusesTexts, Sees, cut_names}
+use Rattle.command_runs.specs.Seen.{NamesPiped, Reads, RefusesLooks, RefusesTexts, Sees, cut_names}
 use Rattle.command_runs.specs.Verbs.{Ran, RanCluster}
 use Rattle.command_runs.specs.declared.ending.Ending.{Ending}
 use Rattle.command_runs.specs.declared.faults.fault.RunFault.{RunFault}

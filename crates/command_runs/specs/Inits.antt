@@ -1,5 +1,5 @@
--- `init`: how it ran, and how the program ends; and texts that are no files.
-use Rattle.std.specs.Prelude.{◌≡◌, ◌⊎◌, ℕ, Bool, true, false, List, [], Option, Result, Ok, Err, map, string_bytes, Contains, None, if◌then◌else◌}
+-- `init`: how it ran, and how the program ends.
+use Rattle.std.specs.Prelude.{◌≡◌, ◌⊎◌, ℕ, Bool, true, false, List, [], Option, Result, Ok, Err, map, string_bytes, if◌then◌else◌}
 use Rattle.std.specs.Io.KnownBytes.{Appends, Keeps}
 use Rattle.json.specs.Json.{Json}
 use Rattle.mpi_model.specs.declared.layout.Sends.{Sends}
@@ -18,11 +18,6 @@ use Rattle.command_runs.specs.Writing.{BreaksOff}
 use Rattle.command_runs.specs.declared.ending.Ending.{Ending}
 use Rattle.command_runs.specs.declared.faults.init_fault.InitFault.{InitFault}
 use Rattle.command_runs.specs.declared.faults.init_fault.InitFault.TheVariants as faults
-
--- One of these words names a text whose bytes aren't known, because its file can't be read twice.
-abbrev pub NamesPiped : (List ℕ → Option (List ℕ)) → List (List ℕ) → InitFault → Type 0
-NamesPiped file words (faults.Piped path) = Contains words (string_bytes path) × (file (string_bytes path) ≡ None)
-NamesPiped file words _ = ⊥
 
 -- ---- both files
 

@@ -19,7 +19,7 @@ use Rattle.command_runs.specs.Prepared.{RefusesWords}
 use Rattle.command_runs.specs.declared.faults.fault.RunFault.{RunFault}
 use Rattle.command_runs.specs.declared.faults.fault.RunFault.TheVariants as runs
 use Rattle.command_runs.specs.declared.faults.init_fault.InitFault.{InitFault}
-use Rattle.command_runs.specs.declared.faults.init_fault.InitFault.TheVariants.{Memory, Text}
+use Rattle.command_runs.specs.declared.faults.init_fault.InitFault.TheVariants.{Memory, Piped, Text}
 use Rattle.command_runs.specs.declared.load.cut_files.CutText.{CutText}
 
 -- ---- the bytes of a file
@@ -145,12 +145,18 @@ abbrev pub says_cut : InitFault → Bool
 says_cut (Text (runs.Text (Line fault) path line)) = ends_a_cut fault
 says_cut _ = false
 
+-- One of these words names a text whose bytes aren't known, because its file can't be read twice.
+abbrev pub NamesPiped : (List ℕ → Option (List ℕ)) → List (List ℕ) → InitFault → Type 0
+NamesPiped file words (Piped path) = Contains words (string_bytes path) × (file (string_bytes path) ≡ None)
+NamesPiped file words _ = ⊥
+
 -- Why nothing is made of texts that may have been cut off: of one that is read whole, for no line with which it may
--- have been cut off; or of what is kept of them; or one can't be looked at.
+-- have been cut off; or one can't be read again; or of what is kept of them; or one can't be looked at.
 abbrev pub RefusesTexts : (List ℕ → Option (List ℕ)) → List (List ℕ) → InitFault → Type 0
 RefusesTexts file words fault = (RefusesWords file words fault × (says_cut fault ≡ false))
+    ⊎ (NamesPiped file words fault
     ⊎ (((seen : List ℕ → Option (List ℕ)) × Sees file words seen × RefusesWords seen words fault)
-    ⊎ ((fault ≡ Memory) ⊎ ((why : RunFault) × (fault ≡ Text why) × RefusesLooks words why)))
+    ⊎ ((fault ≡ Memory) ⊎ ((why : RunFault) × (fault ≡ Text why) × RefusesLooks words why))))
 
 -- ---- a reader of the first bytes
 

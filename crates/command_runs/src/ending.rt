@@ -1,6 +1,6 @@
 //! How the program ends: from words to a status and what standard error shows.
 
-ghost use Rattle.std.specs.Prelude.{◌≡◌, ◌≢◌, ◌∷◌, [], Contains, IfOk, IfSome, IsTrue, None, Option, length, string_bytes};
+ghost use Rattle.std.specs.Prelude.{◌≡◌, ◌≢◌, ◌∷◌, [], IfOk, IfSome, IsTrue, None, Option, length, string_bytes};
 ghost use Rattle.mpi_model.specs.Failures.{HasFailed};
 ghost use Rattle.dumpi_text.specs.Failing.{Fails};
 ghost use Rattle.command_line.specs.Program.{asked_rank, texts_of, wish_of};
@@ -26,6 +26,7 @@ use crate::load::input::{has_rank, input_at};
 use crate::load::no_text::no_text_of;
 use crate::load::opener::Opener;
 use crate::load::prepared::Saying;
+use crate::load::second_look::piped_of;
 use crate::load::seen::{kept_files, prepared_of};
 use crate::load::telling::tell;
 use crate::load::watch::Watcher;
@@ -330,19 +331,6 @@ fn over_init<O: Opener, S: Store, W: Write>(
         Ok(()) => Ok(silent(alloc, 0)),
         Err(fault) => refused_init(alloc, &fault),
     }
-}
-
-/// The first of the texts that is a pipe or a device: it could be read for the layout, and not once more for the verb.
-fn piped_of<'a, O: Opener>(texts: &[&'a str], files: &O) -> Option<&'a str>
-    ensures among { IfSome result (λ path. Contains (texts_of texts.now) path.now) }
-    ensures untold { IfSome result (λ path. O.file files.now path.now ≡ None) }
-{
-    for path in texts {
-        if files.length(path).is_none() && files.reason(path).is_none() {
-            return Some(*path);
-        }
-    }
-    None
 }
 
 /// The names, where they are two.

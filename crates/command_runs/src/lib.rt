@@ -30,6 +30,8 @@
 //!   `specs/Inputs.antt`, `Prepared.antt`, `TextCalls.antt`
 //! - when files are texts ([`load::first_look`]), and what is looked at twice ([`load::second_look`]):
 //!   `specs/Looks.antt`, `Notes.antt`
+//! - where a text was cut off ([`load::cut`]), and who reads it only that far ([`load::seen`], [`load::cut_files`],
+//!   [`load::front`]): `specs/Seen.antt`; of which ranks a diagnosis says so: [`verbs::cut_ranks`]
 //! - which texts a folder stands for ([`load::folders`]), what is no text ([`load::no_text`]), and what is said of
 //!   texts ([`load::telling`]): `specs/Folders.antt`, `NoTexts.antt`, `Telling.antt`
 //! - where files come from ([`load::opener`], [`load::beside`]), and what observes how far the reading is ([`load::watch`],

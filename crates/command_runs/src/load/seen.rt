@@ -11,6 +11,7 @@ use crate::load::cut::cuts_of;
 use crate::load::cut_files::CutFiles;
 use crate::load::opener::Opener;
 use crate::load::prepared::{Prepared, Saying, prepare};
+use crate::load::second_look::piped_of;
 use dumpi_text::{LineFault, TextCause};
 use mpi_model::Sends;
 use run_files::Piece;
@@ -112,6 +113,10 @@ fn prepared_again<'a, O: Opener>(
     ensures made { IfOk result (λ p. IsPrepared (seen_by (map kept_of p.1.cuts.items) (O.file files.now)) (form_of saying.entry) sends (texts_of words.now) p.0.made p.0.notes.items) }
     ensures err { IfErr result (RefusesTexts (O.file files.now) (texts_of words.now)) }
 {
+    if let Some(path) = piped_of(words, files) {
+        let path = path.to_string(alloc)?;
+        return Err(InitFault::Piped { path });
+    }
     let cuts = match cuts_of(alloc, words, files) {
         Ok(cuts) => cuts,
         Err(RunFault::Memory) => return Err(InitFault::Memory),

@@ -31,7 +31,7 @@ returns-in_err-both g c =
 
 pub returns-in_err-layout : goal.returns-in_err-layout
 returns-in_err-layout g c =
-    init_refused _ _ _ _ _ c.from_residual-in_err-layout.result Memory g.W.Write.written g.W.Write.failures c.args.out.now (subst (λ (f : InitFault). IsErrAnd c.from_residual-in_err-layout.result (λ e. e ≡ f)) c.in_err-layout.ensures.err c.from_residual-in_err-layout.ensures.1) (inr (inr (inl refl)))
+    init_refused _ _ _ _ _ c.from_residual-in_err-layout.result Memory g.W.Write.written g.W.Write.failures c.args.out.now (subst (λ (f : InitFault). IsErrAnd c.from_residual-in_err-layout.result (λ e. e ≡ f)) c.in_err-layout.ensures.err c.from_residual-in_err-layout.ensures.1) (inr (inr (inr (inl refl))))
 
 pub returns-in-Err : goal.returns-in-Err
 returns-in-Err g c =
