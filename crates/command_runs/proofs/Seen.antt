@@ -1,5 +1,5 @@
 -- What is kept of texts that may have been cut off.
-use Rattle.std.proofs.Common.{◌≡◌, ◌≢◌, ◌∙◌, ◌<◌, ◌-◌, ◌++◌, ◌⊎◌, ℕ, Bool, true, false, List, [], ◌∷◌, Option, Some, None, Contains, IfSome, inl, inr, ap, arith, cond, length, map, nat_lt, option_map, refl, string_bytes, subst, sym, take}
+use Rattle.std.proofs.Common.{◌≡◌, ◌≢◌, ◌∙◌, ◌<◌, ◌-◌, ◌++◌, ◌⊎◌, ℕ, Bool, true, false, List, [], ◌∷◌, Option, Some, None, Contains, IfSome, inl, inr, ap, arith, cond, map, nat_lt, option_map, refl, string_bytes, subst, sym, take}
 use Rattle.std.proofs.lemmas.List.Elements.{Contains-append_left, Contains-push, Contains-push_cases}
 use Rattle.std.proofs.lemmas.Slice.Eq.{bytes_eq-Decides}
 use Rattle.std.specs.List.{AllByRecursion}
@@ -9,9 +9,9 @@ use Rattle.dumpi_text.specs.Call.{TextCall}
 use Rattle.dumpi_text.specs.Grammar.{Complete, Ending, Meaning, Stopped, text_meaning}
 use Rattle.dumpi_text.specs.declared.fault.LineFault.{LineFault}
 use Rattle.dumpi_text.specs.declared.fault.LineFault.TheVariants as lines
-use Rattle.text_cuts.specs.Cuts.{CutAt, cut_by, cut_of, kept_by, kept_text, lacking_before, lacking_in, last_lacking, lines_before}
+use Rattle.text_cuts.specs.Cuts.{CutAt, cut_by, cut_of, kept_by, lacking_before, lacking_in, lines_before}
 use Rattle.text_cuts.specs.Ends.{EndsSo}
-use Rattle.text_cuts.specs.Lines.{TellsLines, bytes_of_lines, first_lines, missing_lines}
+use Rattle.text_cuts.specs.Lines.{TellsLines, first_lines, missing_lines}
 use Rattle.text_cuts.specs.declared.end.TextEnd.{TextEnd}
 use Rattle.text_cuts.specs.declared.end.TextEnd.TheVariants.{Whole, Refused}
 use Rattle.text_cuts.specs.declared.lines.FirstLines.{FirstLines}

@@ -1,7 +1,7 @@
 -- Where a text was cut off, and what is kept of it.
-use Rattle.std.specs.Prelude.{◌≡◌, ◌-◌, ℕ, Bool, true, false, List, [], ◌∷◌, Option, Some, None, if◌then◌else◌, nat_lt, option_map}
+use Rattle.std.specs.Prelude.{◌-◌, ℕ, Bool, true, false, List, [], ◌∷◌, Option, Some, None, if◌then◌else◌, nat_lt, option_map}
 use Rattle.dumpi_text.specs.Call.{TextCall}
-use Rattle.dumpi_text.specs.Grammar.{Complete, Ending, Meaning, Stopped, text_meaning}
+use Rattle.dumpi_text.specs.Grammar.{Complete, Ending, Stopped, text_meaning}
 use Rattle.dumpi_text.specs.declared.fault.LineFault.TheVariants.{BadStamp, Truncated}
 use Rattle.dumpi_calls.specs.Lacking.{lacking_line}
 use Rattle.text_cuts.specs.Lines.{first_lines, missing_lines}

@@ -1,5 +1,5 @@
 -- The first lines of a text.
-use Rattle.std.specs.Prelude.{◌≡◌, ◌≤◌, ◌-◌, ◌^◌, ◌==◌, ℕ, zero, suc, List, [], ◌∷◌, Option, Some, None, if◌then◌else◌, length, min, take}
+use Rattle.std.specs.Prelude.{◌≡◌, ◌≤◌, ◌==◌, ℕ, zero, suc, List, [], ◌∷◌, Option, Some, None, if◌then◌else◌, length, take}
 use Rattle.dumpi_text.specs.Bytes.{line_feed}
 use Rattle.text_cuts.specs.declared.lines.FirstLines.{FirstLines}
 

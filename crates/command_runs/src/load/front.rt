@@ -1,7 +1,6 @@
 //! A reader of the first bytes of a file.
 
 ghost use Rattle.std.specs.Prelude.{◌≡◌, ◌≤◌, IfOk, length};
-ghost use Rattle.std.specs.Io.KnownBytes.{ReadConsumes};
 ghost use Rattle.mpi_model.specs.Failures.{CountsFailure};
 ghost use Rattle.mpi_model.specs.Side.{LeavesSide};
 ghost use Rattle.command_runs.specs.Seen.{ReadsFront, front_of};

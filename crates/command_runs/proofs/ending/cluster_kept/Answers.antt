@@ -16,7 +16,7 @@ returns-in-Ok g c =
     IfOk-weaker c.cluster_over.result _ _ (λ e h. inl (
       file,
       c.in-Ok.ensures.seen,
-      cluster_inner g.O.Opener.R.Read.failures file layout manifest g.W.Write.written g.W.Write.failures c.args.out.now c.cluster_over.new.out e
+      cluster_inner g.O.R.Read.failures file layout manifest g.W.Write.written g.W.Write.failures c.args.out.now c.cluster_over.new.out e
           (subst (λ f. EndsClusterRun _ f layout manifest g.W.Write.written g.W.Write.failures c.args.out.now c.cluster_over.new.out e) same h),
     )) c.cluster_over.ensures
 

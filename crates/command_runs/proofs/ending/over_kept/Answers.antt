@@ -16,7 +16,7 @@ returns-in-Ok g c =
     IfOk-weaker c.over_input.result _ _ (λ e h. inl (
       file,
       c.in-Ok.ensures.seen,
-      run_inner g.O.Opener.R.Read.failures file c.args.verb layout manifest g.W.Write.written g.W.Write.failures c.args.out.now c.over_input.new.out e
+      run_inner g.O.R.Read.failures file c.args.verb layout manifest g.W.Write.written g.W.Write.failures c.args.out.now c.over_input.new.out e
           (subst (λ f. EndsRun _ f c.args.verb layout manifest g.W.Write.written g.W.Write.failures c.args.out.now c.over_input.new.out e) same h),
     )) c.over_input.ensures
 

@@ -41,6 +41,6 @@ returns g c =
       c.in-Ok.ensures.seen,
       made,
       c.in-Ok.ensures.made.0,
-      inl (run_inner g.O.Opener.R.Read.failures file c.args.how.0 made.input.layout made.input.manifest g.W.Write.written g.W.Write.failures c.args.out.now c.over_input.new.out e
+      inl (run_inner g.O.R.Read.failures file c.args.how.0 made.input.layout made.input.manifest g.W.Write.written g.W.Write.failures c.args.out.now c.over_input.new.out e
           (subst (λ f. EndsRun _ f c.args.how.0 made.input.layout made.input.manifest g.W.Write.written g.W.Write.failures c.args.out.now c.over_input.new.out e) same h)),
     )) c.over_input.ensures

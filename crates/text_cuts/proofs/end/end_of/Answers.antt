@@ -1,4 +1,4 @@
-use Rattle.std.proofs.Common.{◌≡◌, ◌∙◌, ◌++◌, ◌∷◌, [], sym}
+use Rattle.std.proofs.Common.{◌∙◌, ◌++◌, ◌∷◌, [], sym}
 use Rattle.dumpi_text.specs.Shown.{put_in}
 use Rattle.dumpi_calls.specs.Walks.{Follows, IsRead}
 use Rattle.text_cuts.proofs.Ends.{lacking_more}

@@ -1,4 +1,4 @@
-use Rattle.std.proofs.Common.{◌≡◌, ◌≢◌, ◌∙◌, ◌<◌, ◌≤◌, ◌+◌, ◌-◌, ◌^◌, arith, drop, get_or, length, min}
+use Rattle.std.proofs.Common.{◌≡◌, ◌≢◌, ◌∙◌, ◌<◌, ◌≤◌, ◌-◌, ◌^◌, arith, drop, get_or, length}
 use Rattle.dumpi_text.specs.Bytes.{line_feed}
 use Rattle.text_cuts.proofs.Counting.{counted_end, counted_feed, counted_none, counted_other, missed_end}
 use Rattle.text_cuts.proofs.lines.counted.Goals as goal

@@ -1,4 +1,4 @@
-use Rattle.std.proofs.Common.{◌≡◌, ◌-◌}
+use Rattle.std.proofs.Common.{◌-◌}
 use Rattle.text_cuts.proofs.Counting.{Counted}
 use Rattle.text_cuts.proofs.lines.lines_of.Given as goal
 
