@@ -1,5 +1,5 @@
 -- The first bytes of a reader and of a file.
-use Rattle.std.proofs.Common.{◌≡◌, ◌∙◌, ◌<◌, ◌≤◌, ◌-◌, ◌++◌, ℕ, zero, suc, List, [], ◌∷◌, Option, Some, None, Result, Ok, Err, IfErr, ap, arith, inl, inr, length, length-take, min, refl, take}
+use Rattle.std.proofs.Common.{◌≡◌, ◌∙◌, ◌<◌, ◌≤◌, ◌-◌, ◌++◌, ℕ, zero, suc, List, [], ◌∷◌, Option, Some, None, Result, Ok, Err, IfErr, ap, arith, inl, inr, length, length-take, min, refl, sym, take}
 use Rattle.std.specs.Io.KnownBytes.{Consumes, IsAtEnd, Keeps, ReadConsumes}
 use Rattle.mpi_model.specs.Layouts.{Parts}
 use Rattle.dumpi_text.specs.Failing.{Fails}
@@ -10,7 +10,7 @@ use Rattle.command_runs.specs.Endings.{EndsClusterRun, EndsRun}
 use Rattle.command_runs.specs.Files.{IsLength, IsUnreadable, NamesFailed, StandsAtFirst}
 use Rattle.command_runs.specs.Inputs.{RefusesFile}
 use Rattle.command_runs.specs.NodeTexts.{RefusesBytes}
-use Rattle.command_runs.specs.Seen.{ReadsFront, front_of}
+use Rattle.command_runs.specs.Seen.{front_of}
 use Rattle.command_runs.specs.Verbs.{RanCluster}
 use Rattle.command_runs.specs.declared.ending.Ending.{Ending}
 use Rattle.command_runs.specs.declared.faults.fault.RunFault.{RunFault}
@@ -18,35 +18,46 @@ use Rattle.command_runs.specs.declared.load.whole.TheConstants.{LONGEST_PIECE}
 use Rattle.command_runs.specs.declared.run.Outcome.{Outcome}
 use Rattle.command_runs.specs.declared.load.front.Front.{Front}
 
-take_over : (front rest : List ℕ) (limit : ℕ) → length front ≤ limit → take limit (front ++ rest) ≡ front ++ take (limit - length front) rest
-take_over [] rest limit within = refl
-take_over (byte ∷ front) rest zero within = absurd (omega (arith, within))
-take_over (byte ∷ front) rest (suc limit) within = ap (λ (l : List ℕ). byte ∷ l) (take_over front rest limit (omega (arith, within)))
+-- so many bytes of those that were taken and of those that are left
+take_given : (buffer rest : List ℕ) (taken limit given : ℕ) → taken ≤ length buffer → given ≡ min limit taken → take limit (take taken buffer ++ rest) ≡ take given buffer ++ take (limit - given) rest
+take_given buffer rest zero limit given within is =
+    let none : given ≡ 0 = grind (arith, is) in
+    let all : limit - 0 ≡ limit = omega arith in
+    ap (λ (k : ℕ). take k rest) (sym all) ∙ ap (λ (n : ℕ). take n buffer ++ take (limit - n) rest) (sym none)
+take_given [] rest (suc taken) limit given within is = absurd (omega (arith, within))
+take_given (byte ∷ buffer) rest (suc taken) zero given within is =
+    let none : given ≡ 0 = grind (arith, is) in
+    ap (λ (n : ℕ). take n (byte ∷ buffer) ++ take (0 - n) rest) (sym none)
+take_given (byte ∷ buffer) rest (suc taken) (suc limit) given within is =
+    let more : given ≡ suc (min limit taken) = grind (arith, is) in
+    let less : suc limit - suc (min limit taken) ≡ limit - min limit taken = omega arith in
+    ap (λ (l : List ℕ). byte ∷ l) (take_given buffer rest taken limit (min limit taken) (omega (arith, within)) refl)
+    ∙ ap (λ (k : ℕ). byte ∷ take (min limit taken) buffer ++ take k rest) (sym less)
+    ∙ ap (λ (n : ℕ). take n (byte ∷ buffer) ++ take (suc limit - n) rest) (sym more)
 
-front_consumes : (limit taken : ℕ) (old new : Option (List ℕ)) (buffer : List ℕ) → taken ≤ length buffer → taken ≤ limit → Consumes old new (take taken buffer)
-    → Consumes (front_of (Some limit) old) (front_of (Some (limit - taken)) new) (take taken buffer)
-front_consumes limit taken None new buffer within below consumes = tt
-front_consumes limit taken (Some bytes) None buffer within below consumes = absurd consumes
-front_consumes limit taken (Some bytes) (Some rest) buffer within below consumes =
-    let long : length (take taken buffer) ≡ taken = omega (arith, within, length-take taken buffer) in
-    ap (take limit) consumes ∙ take_over (take taken buffer) rest limit (omega (arith, long, below)) ∙ ap (λ (n : ℕ). take taken buffer ++ take (limit - n) rest) long
+front_consumes : (limit taken given : ℕ) (old new : Option (List ℕ)) (buffer : List ℕ) → taken ≤ length buffer → given ≡ min limit taken → Consumes old new (take taken buffer)
+    → Consumes (front_of (Some limit) old) (front_of (Some (limit - given)) new) (take given buffer)
+front_consumes limit taken given None new buffer within is consumes = tt
+front_consumes limit taken given (Some bytes) None buffer within is consumes = absurd consumes
+front_consumes limit taken given (Some bytes) (Some rest) buffer within is consumes = ap (take limit) consumes ∙ take_given buffer rest taken limit given within is
 
 nothing : (n : ℕ) → take n [] ≡ []
 nothing zero = refl
 nothing (suc n) = refl
 
-front_end : (limit taken : ℕ) (new : Option (List ℕ)) (room : ℕ) → (taken ≡ 0 → 0 < room → 0 < limit → IsAtEnd new) → taken ≡ 0 → 0 < room → IsAtEnd (front_of (Some (limit - taken)) new)
-front_end limit taken None room end none some = tt
-front_end zero taken (Some rest) room end none some = ap (λ (n : ℕ). take (0 - n) rest) none
-front_end (suc limit) taken (Some rest) room end none some =
-    let over : rest ≡ [] = end none some (omega arith) in
-    ap (λ (l : List ℕ). take (suc limit - taken) l) over ∙ nothing (suc limit - taken)
+front_end : (limit taken given : ℕ) (new : Option (List ℕ)) (room : ℕ) → given ≡ min limit taken → (taken ≡ 0 → 0 < room → IsAtEnd new) → given ≡ 0 → 0 < room → IsAtEnd (front_of (Some (limit - given)) new)
+front_end limit taken given None room is end none some = tt
+front_end zero taken given (Some rest) room is end none some =
+    let over : 0 - given ≡ 0 = omega arith in ap (λ (n : ℕ). take n rest) over
+front_end (suc limit) taken given (Some rest) room is end none some =
+    let over : rest ≡ [] = end (grind (arith, is, none)) some in
+    ap (λ (l : List ℕ). take (suc limit - given) l) over ∙ nothing (suc limit - given)
 
 -- a read of a front
-pub front_left : {E : Type 0} (limit : ℕ) (old new : Option (List ℕ)) (taken : ℕ) (buffer : List ℕ) → taken ≤ length buffer → taken ≤ limit → ReadsFront {E = E} limit old new (Ok taken) buffer
-    → ReadConsumes {E = E} (front_of (Some limit) old) (front_of (Some (limit - taken)) new) (Ok taken) buffer
-front_left limit old new taken buffer within below reads =
-    (front_consumes limit taken old new buffer within below reads.0, λ none some. front_end limit taken new (length buffer) reads.1 none some)
+pub front_given : {E : Type 0} (limit taken given : ℕ) (old new : Option (List ℕ)) (buffer : List ℕ) → taken ≤ length buffer → given ≡ min limit taken → ReadConsumes {E = E} old new (Ok taken) buffer
+    → ReadConsumes {E = E} (front_of (Some limit) old) (front_of (Some (limit - given)) new) (Ok given) buffer
+front_given limit taken given old new buffer within is reads =
+    (front_consumes limit taken given old new buffer within is reads.0, λ none some. front_end limit taken given new (length buffer) is reads.1 none some)
 
 pub front_kept : (limit : ℕ) (old new : Option (List ℕ)) → Keeps old new → Keeps (front_of (Some limit) old) (front_of (Some limit) new)
 front_kept limit None new keeps = tt

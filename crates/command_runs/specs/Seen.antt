@@ -1,6 +1,5 @@
 -- The files of a run as it reads them: a text that may have been cut off as far as it is kept.
-use Rattle.std.specs.Prelude.{◌≡◌, ◌<◌, ◌-◌, ◌⊎◌, ℕ, Bool, true, false, List, [], ◌∷◌, Option, Some, None, Contains, Result, Ok, Err, String, if◌then◌else◌, is_some, length, map, nat_lt, option_map, string_bytes, take}
-use Rattle.std.specs.Io.KnownBytes.{Consumes, IsAtEnd, Keeps}
+use Rattle.std.specs.Prelude.{◌≡◌, ◌-◌, ◌⊎◌, ℕ, Bool, true, false, List, [], ◌∷◌, Option, Some, None, Contains, String, if◌then◌else◌, is_some, map, nat_lt, option_map, string_bytes, take}
 use Rattle.std.specs.List.{AllByRecursion}
 use Rattle.std.specs.Str.{bytes_eq}
 use Rattle.std.specs.declared.alloc.Global.{Global}
@@ -157,10 +156,3 @@ RefusesTexts file words fault = (RefusesWords file words fault × (says_cut faul
     ⊎ (NamesPiped file words fault
     ⊎ (((seen : List ℕ → Option (List ℕ)) × Sees file words seen × RefusesWords seen words fault)
     ⊎ ((fault ≡ Memory) ⊎ ((why : RunFault) × (fault ≡ Text why) × RefusesLooks words why))))
-
--- ---- a reader of the first bytes
-
--- A read of at most so many bytes consumed those that it gave; none only at the end, or where none may be given.
-abbrev pub ReadsFront : {E : Type 0} → ℕ → Option (List ℕ) → Option (List ℕ) → Result ℕ E → List ℕ → Type 0
-ReadsFront most old new (Ok n) buffer = Consumes old new (take n buffer) × (n ≡ 0 → 0 < length buffer → 0 < most → IsAtEnd new)
-ReadsFront most old new (Err e) buffer = Keeps old new

@@ -1,9 +1,7 @@
 //! A reader of the first bytes of a file.
 
-ghost use Rattle.std.specs.Prelude.{◌≡◌, ◌≤◌, IfOk, length};
-ghost use Rattle.mpi_model.specs.Failures.{CountsFailure};
-ghost use Rattle.mpi_model.specs.Side.{LeavesSide};
-ghost use Rattle.command_runs.specs.Seen.{ReadsFront, front_of};
+ghost use Rattle.std.specs.Prelude.{◌≡◌};
+ghost use Rattle.command_runs.specs.Seen.{front_of};
 
 use mpi_model::{Failed, Read};
 
@@ -23,19 +21,6 @@ impl<R: Read> Front<R> {
     }
 }
 
-/// Reads at most so many bytes.
-#[tactic(auto, using(crate::proofs::Fronts::front_read, crate::proofs::Fronts::front_counted))]
-fn read_most<R: Read>(inner: &mut R, buffer: &mut [u8], most: u64) -> Result<usize, Failed>
-    ensures within { IfOk result (λ n. n ≤ length buffer.new) }
-    ensures most { IfOk result (λ n. n ≤ most) }
-    ensures bytes { ReadsFront most (R.left inner.old) (R.left inner.new) result buffer.new }
-    ensures failures { CountsFailure (R.failures inner.old) (R.failures inner.new) result }
-    ensures beside { LeavesSide (R.write_side inner.old) (R.write_side inner.new) }
-{
-    let room = most.min(buffer.len() as u64) as usize;
-    inner.read(&mut buffer[..room])
-}
-
 impl<R: Read> Read for Front<R> {
     ghost left = { λ f. front_of f.limit (R.left f.inner) };
 
@@ -43,14 +28,16 @@ impl<R: Read> Read for Front<R> {
 
     ghost write_side = { λ f. R.write_side f.inner };
 
-    #[tactic(auto, using(crate::proofs::Fronts::front_left))]
+    // (what the inner reader gives beyond the limit is not given)
+    #[tactic(auto, using(crate::proofs::Fronts::front_given, crate::proofs::Fronts::front_kept))]
     fn read(&mut self, buffer: &mut [u8]) -> Result<usize, Failed> {
+        let taken = self.inner.read(buffer)?;
         match self.limit {
-            None => self.inner.read(buffer),
+            None => Ok(taken),
             Some(limit) => {
-                let taken = read_most(&mut self.inner, buffer, limit)?;
-                self.limit = Some(limit - taken as u64);
-                Ok(taken)
+                let given = limit.min(taken as u64);
+                self.limit = Some(limit - given);
+                Ok(given as usize)
             }
         }
     }
