@@ -1,13 +1,16 @@
 # completions of mpimatch for bash, made by tools/words of its help
 _mpimatch() {
     local word=${COMP_WORDS[COMP_CWORD]} before=${COMP_WORDS[COMP_CWORD - 1]} verb= words= files= at
-    local verbs="explain graph page report replay cluster check pack init help"
+    local verbs="explain graph page report calls timeline replay cluster check pack init help"
     for ((at = 1; at < COMP_CWORD; at++)); do
         [[ " $verbs " == *" ${COMP_WORDS[at]} "* ]] && verb=${COMP_WORDS[at]} && break
     done
     COMPREPLY=()
     case $verb:$before in
         explain:--rank) return ;;
+        timeline:--from) return ;;
+        timeline:--to) return ;;
+        timeline:--ranks) return ;;
         init:--sends) words="wait buffer" ;;
         init:--layout) files=yes ;;
         init:--manifest) files=yes ;;
@@ -15,15 +18,17 @@ _mpimatch() {
             case $verb in
                 "") words="$verbs -h --help -V --version" ;;
                 help) words="$verbs" ;;
-                explain) words="--json --all --rank -h --help" files=yes ;;
-                graph) words="--all -h --help" files=yes ;;
-                page) words="-h --help" files=yes ;;
-                report) words="--json -h --help" files=yes ;;
-                replay) words="-h --help" files=yes ;;
-                cluster) words="-h --help" files=yes ;;
-                check) words="-h --help" files=yes ;;
-                pack) words="-h --help" files=yes ;;
-                init) words="--sends --layout --manifest --force -h --help" files=yes ;;
+                explain) words="-q --quiet --verbose --json --all --rank -h --help" files=yes ;;
+                graph) words="-q --quiet --verbose --all -h --help" files=yes ;;
+                page) words="-q --quiet --verbose -h --help" files=yes ;;
+                report) words="-q --quiet --verbose --json -h --help" files=yes ;;
+                calls) words="-q --quiet --verbose --csv --json -h --help" files=yes ;;
+                timeline) words="-q --quiet --verbose --from --to --ranks -h --help" files=yes ;;
+                replay) words="-q --quiet -h --help" files=yes ;;
+                cluster) words="-q --quiet -h --help" files=yes ;;
+                check) words="-q --quiet --verbose --json -h --help" files=yes ;;
+                pack) words="-q --quiet -h --help" files=yes ;;
+                init) words="--sends --layout --manifest --force -q --quiet --json -h --help" files=yes ;;
             esac
             [[ $word == -* ]] && files= || { [[ $files ]] && words=; }
             ;;

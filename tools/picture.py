@@ -19,7 +19,7 @@ GROUPS = {
     "the input of a run": ("command_line", "comm_groups", "comm_calls", "comm_makings", "text_layouts", "run_files"),
     "knowledge and its answer": ("trace_know", "trace_ops", "trace_pair", "trace_stuck", "trace_wait", "trace_node", "trace_check"),
     "nodes that exchange what they know": ("trace_wire", "trace_world", "trace_crew", "trace_cluster"),
-    "for people": ("call_words", "text_notes", "trace_diagnosis", "trace_report", "diagnosis_words", "page_words"),
+    "for people": ("call_words", "text_notes", "trace_diagnosis", "trace_report", "diagnosis_words", "page_words", "call_table"),
 }
 
 

@@ -9,7 +9,7 @@ use std::alloc::{AllocError, Global};
 use std::marker::Model;
 
 /// A name and counts: counts with the name of their datatype, or the name of an operation, without counts.
-#[derive(Debug, Drop)]
+#[derive(Drop)]
 pub struct Known {
     name: Vec<u8>,
     counts: Vec<u64>,
@@ -62,7 +62,7 @@ impl Known {
 }
 
 /// What a call tells, as far as it is known.
-#[derive(Debug, Drop)]
+#[derive(Drop)]
 pub struct Told {
     operation: Option<Known>,
     counts: Option<Known>,

@@ -11,7 +11,7 @@ use std::sync::Arc;
 const MOST_KEPT: usize = 32;
 
 /// What a call tells, by one owner or more. In a contract it is what is told.
-#[derive(Debug, Drop)]
+#[derive(Drop)]
 pub struct SharedTold {
     told: Arc<Told>,
 }
@@ -50,7 +50,7 @@ impl SharedTold {
 }
 
 /// The last different ones, so that calls that tell the same share it. Nothing is claimed of them.
-#[derive(Debug, Drop)]
+#[derive(Drop)]
 pub struct LastTold {
     kept: Vec<SharedTold>,
     /// The place of the one that is given up next.

@@ -6,7 +6,7 @@ ghost use Rattle.call_arguments.specs.Table.{compared_of, count_name, counted, i
 use mpi_model::Kind;
 
 /// The parameters that have a count, or counts, and their datatype.
-#[derive(Clone, Copy, Debug, PartialEq, Eq)]
+#[derive(Clone, Copy, PartialEq, Eq)]
 pub enum Parameters {
     /// `count`, with `datatype`.
     Count,
@@ -25,7 +25,7 @@ pub enum Parameters {
 }
 
 /// How the counts of a round are compared.
-#[derive(Clone, Copy, Debug, PartialEq, Eq)]
+#[derive(Clone, Copy, PartialEq, Eq)]
 pub enum Rule {
     /// Not at all.
     Nothing,
@@ -38,7 +38,7 @@ pub enum Rule {
 }
 
 /// What is compared of the calls of a round.
-#[derive(Clone, Copy, Debug, PartialEq, Eq)]
+#[derive(Clone, Copy)]
 pub struct Compared {
     /// Whether they have an operation, which is the same for all members (MPI 4.0, 6.9).
     pub operation: bool,
@@ -46,7 +46,7 @@ pub struct Compared {
 }
 
 /// A line of the table: one thing that is compared.
-#[derive(Clone, Copy, Debug, PartialEq, Eq)]
+#[derive(Clone, Copy, PartialEq, Eq)]
 pub enum Line {
     Operation,
     Alike,

@@ -7,7 +7,7 @@ ghost use Rattle.call_words.specs.Texts.{Adds};
 use crate::text::Text;
 
 /// Ranks from the first to the last, which are held until it shows whether the next one joins them.
-#[derive(Clone, Copy, Debug)]
+#[derive(Clone, Copy)]
 struct Range {
     first: u32,
     last: u32,

@@ -8,7 +8,7 @@ use std::alloc::{AllocError, Global};
 
 /// A text in memory, to which pieces are added. If memory is refused for a piece, the text stays incomplete and takes
 /// no more, so its builder checks only once, at the end.
-#[derive(Debug, Drop)]
+#[derive(Drop)]
 pub struct Text {
     bytes: Vec<u8>,
     is_whole: bool,

@@ -1,5 +1,5 @@
 -- What a call on communicators or groups, windows or files gives or ends, by what is read of it.
-use Rattle.std.proofs.Common.{◌≡◌, ◌∙◌, ℕ, Bool, Option, Some, None, ap, if◌then◌else◌, is_some, length, refl, subst, sym}
+use Rattle.std.proofs.Common.{◌≡◌, ◌∙◌, ℕ, Bool, Option, Some, None, ap, codes, if◌then◌else◌, is_some, length, refl, subst, sym}
 use Rattle.mpi_model.specs.declared.call.Call.{Call}
 use Rattle.mpi_model.specs.declared.object.Object.{Object}
 use Rattle.mpi_model.specs.declared.object.Object.TheVariants as objects
@@ -9,10 +9,11 @@ use Rattle.comm_makings.specs.Objects.{object_made}
 use Rattle.comm_makings.specs.declared.calls.Action.{Action}
 use Rattle.comm_makings.specs.declared.calls.Action.TheVariants as actions
 use Rattle.comm_makings.specs.declared.calls.CommCall.{CommCall}
-use Rattle.comm_calls.specs.Actions.{IsAction, IsGroup, IsMake, made_of, object_in, other_of}
+use Rattle.comm_calls.specs.Actions.{IsAction, IsGroup, IsMake, made_of, merged_of, object_in, other_of}
 use Rattle.comm_calls.specs.Calls.{AddsCall, AddsSaid, IsCommCall, NamesCall, ReadCalls, ReadsUses, TakesCall, uses_by}
 use Rattle.comm_calls.specs.Functions.{function_of}
 use Rattle.comm_calls.specs.Numbers.{given_in}
+use Rattle.comm_calls.specs.Parameters.{text_of}
 use Rattle.comm_calls.specs.Uses.{changed_in, changed_of, changed_of_action, changed_of_call, named_but, named_of, number_returned, of_changed}
 use Rattle.comm_calls.specs.declared.function.Function.{Function}
 use Rattle.comm_calls.specs.declared.function.Function.TheVariants as functions
@@ -29,7 +30,9 @@ made maker raw returned (actions.Make parent making given) is e =
 made maker raw returned (actions.CommRank comm rank) is e = absurd is
 made maker raw returned (actions.Free comm) is e = absurd is
 made maker raw returned (actions.Group group given) is e = absurd is
-made maker raw returned (actions.GivesComm comm given) is e = absurd is
+made maker raw returned (actions.Join local leaders given) is e = absurd is
+made maker raw returned (actions.Merge comm high given) is e = absurd is
+made maker raw returned (actions.GivesComm giver comm given) is e = absurd is
 made maker raw returned (actions.MakeObject of parent given) is e = absurd is
 made maker raw returned (actions.EndObject object number) is e = absurd is
 
@@ -38,7 +41,9 @@ grouped grouper raw returned (actions.Make parent making given) is = absurd is
 grouped grouper raw returned (actions.CommRank comm rank) is = absurd is
 grouped grouper raw returned (actions.Free comm) is = absurd is
 grouped grouper raw returned (actions.Group group given) is = refl
-grouped grouper raw returned (actions.GivesComm comm given) is = absurd is
+grouped grouper raw returned (actions.Join local leaders given) is = absurd is
+grouped grouper raw returned (actions.Merge comm high given) is = absurd is
+grouped grouper raw returned (actions.GivesComm giver comm given) is = absurd is
 grouped grouper raw returned (actions.MakeObject of parent given) is = absurd is
 grouped grouper raw returned (actions.EndObject object number) is = absurd is
 
@@ -47,6 +52,8 @@ by_action (functions.Make maker) raw returned action is e = made maker raw retur
 by_action functions.Rank raw returned action is e = ap (changed_of_action returned) is
 by_action functions.Free raw returned action is e = ap (changed_of_action returned) is
 by_action (functions.Group grouper) raw returned action is e = grouped grouper raw returned action is
+by_action functions.Join raw returned action is e = ap (changed_of_action returned) is ∙ ap (λ (r : Bool). of_comm (number_given r (given_in (text_of (codes "newintercomm") raw)))) e
+by_action functions.Merge raw returned action is e = ap (changed_of_action returned) is ∙ ap (λ (r : Bool). of_comm (number_given r (given_in (merged_of raw)))) e
 by_action (functions.Give giver) raw returned action is e = ap (changed_of_action returned) is ∙ ap (λ (r : Bool). of_comm (number_given r (given_in (other_of giver raw)))) e
 by_action (functions.MakeObject maker) raw returned action is e =
     ap (changed_of_action returned) is ∙ ap (λ (r : Bool). (object_made maker, number_returned r (object_in (object_made maker) raw))) e

@@ -10,16 +10,17 @@ use Rattle.comm_makings.specs.declared.calls.Action.TheVariants as actions
 use Rattle.comm_makings.specs.declared.calls.GroupCall.{GroupCall}
 use Rattle.comm_makings.specs.declared.calls.GroupCall.TheVariants as group_calls
 use Rattle.comm_makings.specs.declared.calls.GroupName.{GroupName}
+use Rattle.comm_makings.specs.declared.calls.Leaders.{Leaders}
 use Rattle.comm_makings.specs.declared.calls.Making.{Making}
 use Rattle.comm_makings.specs.declared.calls.Making.TheVariants as makings
+use Rattle.comm_makings.specs.declared.calls.OtherMaker.{OtherMaker}
+use Rattle.comm_makings.specs.declared.calls.OtherMaker.TheVariants as givers
 use Rattle.comm_makings.specs.declared.calls.RankRange.{RankRange}
 use Rattle.comm_calls.specs.Lists.{flags_in, ranges_in, ranks_in, sizes_in}
 use Rattle.comm_calls.specs.Numbers.{color_in, comm_in, flag_in, given_in, group_in, int_in, natural_in, object_of}
 use Rattle.comm_calls.specs.Parameters.{or_text, text_of}
 use Rattle.comm_calls.specs.declared.function.Function.{Function}
 use Rattle.comm_calls.specs.declared.function.Function.TheVariants as functions
-use Rattle.comm_calls.specs.declared.function.Giver.{Giver}
-use Rattle.comm_calls.specs.declared.function.Giver.TheVariants as givers
 use Rattle.comm_calls.specs.declared.function.Grouper.{Grouper}
 use Rattle.comm_calls.specs.declared.function.Grouper.TheVariants as groupers
 use Rattle.comm_calls.specs.declared.function.Maker.{Maker}
@@ -113,6 +114,7 @@ group_at name raw = group_in (text_of name raw)
 -- what a call that gives a group says
 abbrev pub IsGroupCall : Grouper → TextCall → GroupCall → Type 0
 IsGroupCall groupers.OfComm raw call = call ≡ group_calls.OfComm (comm_in (text_of (codes "comm") raw))
+IsGroupCall groupers.OfRemote raw call = call ≡ group_calls.OfRemote (comm_in (text_of (codes "comm") raw))
 IsGroupCall groupers.Incl raw call = IsIncl (group_at (codes "group") raw) (ranks_in (text_of (codes "ranks") raw)) call
 IsGroupCall groupers.Excl raw call = IsExcl (group_at (codes "group") raw) (ranks_in (text_of (codes "ranks") raw)) call
 IsGroupCall groupers.RangeIncl raw call = IsRangeIncl (group_at (codes "group") raw) (ranges_in (text_of (codes "ranges") raw)) call
@@ -126,28 +128,50 @@ IsGroupCall groupers.UnreadNew raw call = call ≡ group_calls.Unread
 -- the group that is given: by `newgroup`, where the call has one of others
 abbrev pub grouped_in : Grouper → TextCall → GroupName
 grouped_in groupers.OfComm raw = group_at (codes "group") raw
+grouped_in groupers.OfRemote raw = group_at (codes "group") raw
 grouped_in groupers.Unread raw = group_at (codes "group") raw
 grouped_in _ raw = group_at (codes "newgroup") raw
 
 -- ---- other functions
 
 -- the communicator that another function gives
-abbrev pub other_of : Giver → TextCall → Option (List ℕ)
+abbrev pub other_of : OtherMaker → TextCall → Option (List ℕ)
 other_of givers.SplitType raw = text_of (codes "newcomm") raw
-other_of givers.NewComm raw = text_of (codes "newcomm") raw
-other_of givers.NewIntercomm raw = text_of (codes "newintercomm") raw
-other_of givers.Merge raw = or_text (text_of (codes "newintracomm") raw) (or_text (text_of (codes "newintercomm") raw) (text_of (codes "newcomm") raw))
-other_of givers.Intercomm raw = text_of (codes "intercomm") raw
-other_of givers.Parent raw = text_of (codes "parent") raw
+other_of givers.Accept raw = text_of (codes "newcomm") raw
+other_of givers.Connect raw = text_of (codes "newcomm") raw
+other_of givers.CreateFromGroup raw = text_of (codes "newcomm") raw
+other_of givers.IntercommCreateFromGroups raw = text_of (codes "newintercomm") raw
+other_of givers.Spawn raw = text_of (codes "intercomm") raw
+other_of givers.SpawnMultiple raw = text_of (codes "intercomm") raw
+other_of givers.Join raw = text_of (codes "intercomm") raw
+other_of givers.GetParent raw = text_of (codes "parent") raw
 
--- the communicator that such a function is called on (MPI 4.0, 7.4.2, 7.6 and 11.8 to 11.10)
-abbrev pub called_on : Giver → TextCall → Option (List ℕ)
+-- the communicator that such a function is called on (MPI 4.0, 7.4.2, 7.6.2 and 11.8 to 11.10)
+abbrev pub called_on : OtherMaker → TextCall → Option (List ℕ)
 called_on givers.SplitType raw = parent_text raw
-called_on givers.NewComm raw = text_of (codes "comm") raw
-called_on givers.NewIntercomm raw = text_of (codes "local_comm") raw
-called_on givers.Merge raw = None
-called_on givers.Intercomm raw = text_of (codes "comm") raw
-called_on givers.Parent raw = None
+called_on givers.Accept raw = text_of (codes "comm") raw
+called_on givers.Connect raw = text_of (codes "comm") raw
+called_on givers.CreateFromGroup raw = text_of (codes "comm") raw
+called_on givers.IntercommCreateFromGroups raw = None
+called_on givers.Spawn raw = text_of (codes "comm") raw
+called_on givers.SpawnMultiple raw = text_of (codes "comm") raw
+called_on givers.Join raw = text_of (codes "comm") raw
+called_on givers.GetParent raw = None
+
+-- ---- intercommunicators
+
+-- what a call of MPI_Intercomm_create says of the leaders
+abbrev pub leaders_in : TextCall → Leaders
+leaders_in raw = record {
+  own = natural_in (text_of (codes "local_leader") raw);
+  bridge = comm_in (or_text (text_of (codes "peer_comm") raw) (text_of (codes "bridge_comm") raw));
+  other = natural_in (text_of (codes "remote_leader") raw);
+  tag = int_in (text_of (codes "tag") raw);
+}
+
+-- the communicator that a call of MPI_Intercomm_merge gives
+abbrev pub merged_of : TextCall → Option (List ℕ)
+merged_of raw = or_text (text_of (codes "newintracomm") raw) (or_text (text_of (codes "newintercomm") raw) (text_of (codes "newcomm") raw))
 
 -- ---- windows and files
 
@@ -183,6 +207,8 @@ IsAction (functions.Make maker) raw action = IsMake maker raw action
 IsAction functions.Rank raw action = action ≡ actions.CommRank (comm_in (text_of (codes "comm") raw)) (natural_in (text_of (codes "rank") raw))
 IsAction functions.Free raw action = action ≡ actions.Free (comm_in (text_of (codes "comm") raw))
 IsAction (functions.Group grouper) raw action = IsGroup grouper raw action
-IsAction (functions.Give giver) raw action = action ≡ actions.GivesComm (comm_in (called_on giver raw)) (given_in (other_of giver raw))
+IsAction functions.Join raw action = action ≡ actions.Join (comm_in (text_of (codes "local_comm") raw)) (leaders_in raw) (given_in (text_of (codes "newintercomm") raw))
+IsAction functions.Merge raw action = action ≡ actions.Merge (comm_in (text_of (codes "intercomm") raw)) (flag_in (text_of (codes "high") raw)) (given_in (merged_of raw))
+IsAction (functions.Give maker) raw action = action ≡ actions.GivesComm maker (comm_in (called_on maker raw)) (given_in (other_of maker raw))
 IsAction (functions.MakeObject maker) raw action = action ≡ actions.MakeObject maker (comm_in (text_of (codes "comm") raw)) (object_in (object_made maker) raw)
 IsAction (functions.EndObject object) raw action = action ≡ actions.EndObject object (natural_in (object_text object raw))

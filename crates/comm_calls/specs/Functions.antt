@@ -6,10 +6,10 @@ use Rattle.mpi_model.specs.declared.object.Object.TheVariants as objects
 use Rattle.dumpi_text.specs.Call.{TextCall}
 use Rattle.comm_makings.specs.declared.calls.ObjectMaker.{ObjectMaker}
 use Rattle.comm_makings.specs.declared.calls.ObjectMaker.TheVariants as object_makers
+use Rattle.comm_makings.specs.declared.calls.OtherMaker.{OtherMaker}
+use Rattle.comm_makings.specs.declared.calls.OtherMaker.TheVariants as givers
 use Rattle.comm_calls.specs.declared.function.Function.{Function}
 use Rattle.comm_calls.specs.declared.function.Function.TheVariants as functions
-use Rattle.comm_calls.specs.declared.function.Giver.{Giver}
-use Rattle.comm_calls.specs.declared.function.Giver.TheVariants as givers
 use Rattle.comm_calls.specs.declared.function.Grouper.{Grouper}
 use Rattle.comm_calls.specs.declared.function.Grouper.TheVariants as groupers
 use Rattle.comm_calls.specs.declared.function.Maker.{Maker}
@@ -37,10 +37,10 @@ grid_named name =
     else if bytes_eq name (codes "MPI_Dist_graph_create_adjacent") then Some makers.DistGraphCreateAdjacent
     else None
 
--- other functions that give a group: its ranks are unknown
+-- other functions that give a group: the remote one of an intercommunicator, or one whose ranks are unknown
 abbrev pub other_group_named : List ℕ → Option Grouper
 other_group_named name =
-    if bytes_eq name (codes "MPI_Comm_remote_group") then Some groupers.Unread
+    if bytes_eq name (codes "MPI_Comm_remote_group") then Some groupers.OfRemote
     else if bytes_eq name (codes "MPI_Win_get_group") then Some groupers.Unread
     else if bytes_eq name (codes "MPI_File_get_group") then Some groupers.Unread
     else if bytes_eq name (codes "MPI_Group_from_session_pset") then Some groupers.UnreadNew
@@ -59,28 +59,28 @@ group_named name =
     else if bytes_eq name (codes "MPI_Group_difference") then Some groupers.Difference
     else other_group_named name
 
--- other functions that give a communicator (MPI 4.0, 7.4.2, 7.6 and 11.8 to 11.10)
-abbrev pub giver_named : List ℕ → Option Giver
+-- other functions that give a communicator (MPI 4.0, 7.4.2, 7.6.2 and 11.8 to 11.10)
+abbrev pub giver_named : List ℕ → Option OtherMaker
 giver_named name =
     if bytes_eq name (codes "MPI_Comm_split_type") then Some givers.SplitType
-    else if bytes_eq name (codes "MPI_Comm_accept") then Some givers.NewComm
-    else if bytes_eq name (codes "MPI_Comm_connect") then Some givers.NewComm
-    else if bytes_eq name (codes "MPI_Comm_create_from_group") then Some givers.NewComm
-    else if bytes_eq name (codes "MPI_Intercomm_create") then Some givers.NewIntercomm
-    else if bytes_eq name (codes "MPI_Intercomm_create_from_groups") then Some givers.NewIntercomm
-    else if bytes_eq name (codes "MPI_Intercomm_merge") then Some givers.Merge
-    else if bytes_eq name (codes "MPI_Comm_spawn") then Some givers.Intercomm
-    else if bytes_eq name (codes "MPI_Comm_spawn_multiple") then Some givers.Intercomm
-    else if bytes_eq name (codes "MPI_Comm_join") then Some givers.Intercomm
-    else if bytes_eq name (codes "MPI_Comm_get_parent") then Some givers.Parent
+    else if bytes_eq name (codes "MPI_Comm_accept") then Some givers.Accept
+    else if bytes_eq name (codes "MPI_Comm_connect") then Some givers.Connect
+    else if bytes_eq name (codes "MPI_Comm_create_from_group") then Some givers.CreateFromGroup
+    else if bytes_eq name (codes "MPI_Intercomm_create_from_groups") then Some givers.IntercommCreateFromGroups
+    else if bytes_eq name (codes "MPI_Comm_spawn") then Some givers.Spawn
+    else if bytes_eq name (codes "MPI_Comm_spawn_multiple") then Some givers.SpawnMultiple
+    else if bytes_eq name (codes "MPI_Comm_join") then Some givers.Join
+    else if bytes_eq name (codes "MPI_Comm_get_parent") then Some givers.GetParent
     else None
 
--- what tells a rank its own, and what frees (MPI 4.0, 7.4.1, 7.4.3 and 11.10.4)
+-- what tells a rank its own, what frees, and what joins and merges groups (MPI 4.0, 7.4.1, 7.4.3, 7.6.2 and 11.10.4)
 abbrev pub single_named : List ℕ → Option Function
 single_named name =
     if bytes_eq name (codes "MPI_Comm_rank") then Some functions.Rank
     else if bytes_eq name (codes "MPI_Comm_free") then Some functions.Free
     else if bytes_eq name (codes "MPI_Comm_disconnect") then Some functions.Free
+    else if bytes_eq name (codes "MPI_Intercomm_create") then Some functions.Join
+    else if bytes_eq name (codes "MPI_Intercomm_merge") then Some functions.Merge
     else None
 
 -- the name is one of these two

@@ -22,7 +22,7 @@ use Rattle.comm_makings.specs.declared.calls.Action.{Action}
 use Rattle.comm_makings.specs.declared.calls.Action.TheVariants as actions
 use Rattle.comm_makings.specs.declared.calls.CommCall.{CommCall}
 use Rattle.comm_makings.specs.declared.calls.Uses.{Uses}
-use Rattle.comm_calls.specs.Actions.{made_of, object_in, object_text, other_of}
+use Rattle.comm_calls.specs.Actions.{made_of, merged_of, object_in, object_text, other_of}
 use Rattle.comm_calls.specs.Functions.{function_of}
 use Rattle.comm_calls.specs.Numbers.{comm_in, given_in, natural_in}
 use Rattle.comm_calls.specs.Parameters.{text_of}
@@ -76,7 +76,9 @@ changed_of_action returned (actions.Make parent making given) = (objects.Communi
 changed_of_action returned (actions.CommRank comm rank) = (objects.Communicator, None)
 changed_of_action returned (actions.Free comm) = (objects.Communicator, comm)
 changed_of_action returned (actions.Group group given) = (objects.Communicator, None)
-changed_of_action returned (actions.GivesComm comm given) = (objects.Communicator, number_given returned given)
+changed_of_action returned (actions.Join local leaders given) = (objects.Communicator, number_given returned given)
+changed_of_action returned (actions.Merge comm high given) = (objects.Communicator, number_given returned given)
+changed_of_action returned (actions.GivesComm maker comm given) = (objects.Communicator, number_given returned given)
 changed_of_action returned (actions.MakeObject maker parent given) = (object_made maker, number_returned returned given)
 changed_of_action returned (actions.EndObject object number) = (object, number)
 
@@ -90,7 +92,9 @@ changed_in (functions.Make maker) raw = (objects.Communicator, number_given (is_
 changed_in functions.Rank raw = (objects.Communicator, None)
 changed_in functions.Free raw = (objects.Communicator, comm_in (text_of (codes "comm") raw))
 changed_in (functions.Group grouper) raw = (objects.Communicator, None)
-changed_in (functions.Give giver) raw = (objects.Communicator, number_given (is_some raw.exit) (given_in (other_of giver raw)))
+changed_in functions.Join raw = (objects.Communicator, number_given (is_some raw.exit) (given_in (text_of (codes "newintercomm") raw)))
+changed_in functions.Merge raw = (objects.Communicator, number_given (is_some raw.exit) (given_in (merged_of raw)))
+changed_in (functions.Give maker) raw = (objects.Communicator, number_given (is_some raw.exit) (given_in (other_of maker raw)))
 changed_in (functions.MakeObject maker) raw = (object_made maker, number_returned (is_some raw.exit) (object_in (object_made maker) raw))
 changed_in (functions.EndObject object) raw = (object, natural_in (object_text object raw))
 

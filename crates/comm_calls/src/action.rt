@@ -2,45 +2,88 @@
 
 ghost use Rattle.std.specs.Prelude.{◌≡◌, IfOk};
 ghost use Rattle.std.specs.Option.{option_copied};
-ghost use Rattle.comm_calls.specs.Actions.{IsAction, IsGroup, IsMake, called_on, new_object_text, object_in, object_text, other_of};
+ghost use Rattle.comm_calls.specs.Actions.{IsAction, IsGroup, IsMake, called_on, leaders_in, merged_of, new_object_text, object_in, object_text, other_of};
 
-use crate::function::{Function, Giver, Grouper, Maker};
+use crate::function::{Function, Grouper, Maker};
 use crate::group::{group_call_in, grouped_in};
 use crate::making::{made_of, making_in, parent_of};
-use crate::number::{comm_in, given_in, natural_in, object_of};
+use crate::number::{comm_in, flag_in, given_in, int_in, natural_in, object_of};
 use crate::parameter::{any_of, either_of, text_of};
-use comm_makings::{Action, object_made};
+use comm_makings::{Action, Leaders, OtherMaker, object_made};
 use dumpi_calls::Memory;
 use dumpi_text::RawCall;
 use mpi_model::Object;
 use std::alloc::Global;
 
 /// The communicator that another function gives.
-fn other_of(giver: Giver, raw: &RawCall) -> Option<&[u8]>
-    ensures { option_copied result ≡ other_of giver raw.now }
+fn other_of(maker: OtherMaker, raw: &RawCall) -> Option<&[u8]>
+    ensures { option_copied result ≡ other_of maker raw.now }
 {
-    match giver {
-        Giver::SplitType => text_of(raw, "newcomm"),
-        Giver::NewComm => text_of(raw, "newcomm"),
-        Giver::NewIntercomm => text_of(raw, "newintercomm"),
-        Giver::Merge => any_of(raw, "newintracomm", "newintercomm", "newcomm"),
-        Giver::Intercomm => text_of(raw, "intercomm"),
-        Giver::Parent => text_of(raw, "parent"),
+    match maker {
+        OtherMaker::SplitType => text_of(raw, "newcomm"),
+        OtherMaker::Accept | OtherMaker::Connect => text_of(raw, "newcomm"),
+        OtherMaker::CreateFromGroup => text_of(raw, "newcomm"),
+        OtherMaker::IntercommCreateFromGroups => text_of(raw, "newintercomm"),
+        OtherMaker::Spawn | OtherMaker::SpawnMultiple => text_of(raw, "intercomm"),
+        OtherMaker::Join => text_of(raw, "intercomm"),
+        OtherMaker::GetParent => text_of(raw, "parent"),
     }
 }
 
 /// The communicator that such a function is called on.
-fn called_on(giver: Giver, raw: &RawCall) -> Option<&[u8]>
-    ensures { option_copied result ≡ called_on giver raw.now }
+fn called_on(maker: OtherMaker, raw: &RawCall) -> Option<&[u8]>
+    ensures { option_copied result ≡ called_on maker raw.now }
 {
-    match giver {
-        Giver::SplitType => either_of(raw, "oldcomm", "comm"),
-        Giver::NewComm => text_of(raw, "comm"),
-        Giver::NewIntercomm => text_of(raw, "local_comm"),
-        Giver::Merge => None,
-        Giver::Intercomm => text_of(raw, "comm"),
-        Giver::Parent => None,
+    match maker {
+        OtherMaker::SplitType => either_of(raw, "oldcomm", "comm"),
+        OtherMaker::Accept | OtherMaker::Connect => text_of(raw, "comm"),
+        OtherMaker::CreateFromGroup => text_of(raw, "comm"),
+        OtherMaker::IntercommCreateFromGroups => None,
+        OtherMaker::Spawn | OtherMaker::SpawnMultiple => text_of(raw, "comm"),
+        OtherMaker::Join => text_of(raw, "comm"),
+        OtherMaker::GetParent => None,
     }
+}
+
+/// What a call of MPI_Intercomm_create says of the leaders.
+fn leaders_in(alloc: Global, raw: &RawCall) -> Result<Leaders, Memory>
+    ensures { IfOk result (λ l. l ≡ leaders_in raw.now) }
+{
+    Ok(Leaders {
+        own: natural_in(alloc, text_of(raw, "local_leader"))?,
+        bridge: comm_in(alloc, either_of(raw, "peer_comm", "bridge_comm"))?,
+        other: natural_in(alloc, text_of(raw, "remote_leader"))?,
+        tag: int_in(alloc, text_of(raw, "tag"))?,
+    })
+}
+
+/// What a call of MPI_Intercomm_create says.
+fn join_in(alloc: Global, raw: &RawCall) -> Result<Action, Memory>
+    ensures { IfOk result (IsAction Function.Join raw.now) }
+{
+    Ok(Action::Join {
+        local: comm_in(alloc, text_of(raw, "local_comm"))?,
+        leaders: leaders_in(alloc, raw)?,
+        given: given_in(alloc, text_of(raw, "newintercomm"))?,
+    })
+}
+
+/// The communicator that a call of MPI_Intercomm_merge gives.
+fn merged_of(raw: &RawCall) -> Option<&[u8]>
+    ensures { option_copied result ≡ merged_of raw.now }
+{
+    any_of(raw, "newintracomm", "newintercomm", "newcomm")
+}
+
+/// What a call of MPI_Intercomm_merge says.
+fn merge_in(alloc: Global, raw: &RawCall) -> Result<Action, Memory>
+    ensures { IfOk result (IsAction Function.Merge raw.now) }
+{
+    Ok(Action::Merge {
+        comm: comm_in(alloc, text_of(raw, "intercomm"))?,
+        high: flag_in(alloc, text_of(raw, "high"))?,
+        given: given_in(alloc, merged_of(raw))?,
+    })
 }
 
 /// The window or the file that a call ends.
@@ -117,9 +160,12 @@ pub(crate) fn action_in(alloc: Global, function: Function, raw: &RawCall) -> Res
             comm: comm_in(alloc, text_of(raw, "comm"))?,
         }),
         Function::Group(grouper) => group_in(alloc, grouper, raw),
-        Function::Give(giver) => Ok(Action::GivesComm {
-            comm: comm_in(alloc, called_on(giver, raw))?,
-            given: given_in(alloc, other_of(giver, raw))?,
+        Function::Join => join_in(alloc, raw),
+        Function::Merge => merge_in(alloc, raw),
+        Function::Give(maker) => Ok(Action::GivesComm {
+            maker,
+            comm: comm_in(alloc, called_on(maker, raw))?,
+            given: given_in(alloc, other_of(maker, raw))?,
         }),
         Function::MakeObject(maker) => Ok(Action::MakeObject {
             maker,

@@ -93,6 +93,8 @@ fn changed_of(call: &CommCall) -> (Object, Option<u32>)
 {
     match &call.action {
         Action::Make { given, .. } => (Object::Communicator, given_number(call, *given)),
+        Action::Join { given, .. } => (Object::Communicator, given_number(call, *given)),
+        Action::Merge { given, .. } => (Object::Communicator, given_number(call, *given)),
         Action::GivesComm { given, .. } => (Object::Communicator, given_number(call, *given)),
         Action::Free { comm } => (Object::Communicator, *comm),
         Action::MakeObject { maker, given, .. } => {

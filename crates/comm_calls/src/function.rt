@@ -4,7 +4,7 @@ ghost use Rattle.std.specs.Prelude.{◌≡◌, ◌||◌};
 ghost use Rattle.std.specs.Str.{bytes_eq};
 ghost use Rattle.comm_calls.specs.Functions.{ender_named, function_named, giver_named, grid_named, group_named, maker_named, object_maker_named, other_group_named, single_named};
 
-use comm_makings::ObjectMaker;
+use comm_makings::{ObjectMaker, OtherMaker};
 use mpi_model::Object;
 
 /// A function that makes communicators of the members of another (MPI 4.0, 7.4.2 and 8.5).
@@ -35,28 +35,12 @@ pub(crate) enum Grouper {
     Union,
     Intersection,
     Difference,
-    /// MPI_Comm_remote_group, MPI_Win_get_group and MPI_File_get_group.
+    /// MPI_Comm_remote_group.
+    OfRemote,
+    /// MPI_Win_get_group and MPI_File_get_group.
     Unread,
     /// MPI_Group_from_session_pset.
     UnreadNew,
-}
-
-/// The parameters of a function whose communicators aren't derived: the one that gives the communicator, and the one
-/// that names the communicator it is called on.
-#[derive(Clone, Copy)]
-pub(crate) enum Giver {
-    /// MPI_Comm_split_type: `newcomm`, on `oldcomm` or `comm`.
-    SplitType,
-    /// `newcomm`, on `comm`.
-    NewComm,
-    /// `newintercomm`, on `local_comm`.
-    NewIntercomm,
-    /// MPI_Intercomm_merge: `newintracomm`, `newintercomm` or `newcomm`.
-    Merge,
-    /// `intercomm`, on `comm`.
-    Intercomm,
-    /// `parent`.
-    Parent,
 }
 
 /// A function whose calls are read.
@@ -68,7 +52,12 @@ pub(crate) enum Function {
     /// MPI_Comm_free and MPI_Comm_disconnect.
     Free,
     Group(Grouper),
-    Give(Giver),
+    /// MPI_Intercomm_create.
+    Join,
+    /// MPI_Intercomm_merge.
+    Merge,
+    /// What gives a communicator from which nothing is derived.
+    Give(OtherMaker),
     /// What makes a window or a file.
     MakeObject(ObjectMaker),
     /// MPI_Win_free and MPI_File_close.
@@ -167,12 +156,12 @@ fn group_named(name: &[u8]) -> Option<Grouper>
     }
 }
 
-/// Another function that gives a group: its ranks are unknown.
+/// Another function that gives a group: the remote one of an intercommunicator, or one whose ranks are unknown.
 fn other_group_named(name: &[u8]) -> Option<Grouper>
     ensures { result ≡ other_group_named name.now }
 {
     if is(name, "MPI_Comm_remote_group") {
-        Some(Grouper::Unread)
+        Some(Grouper::OfRemote)
     } else if is(name, "MPI_Win_get_group") {
         Some(Grouper::Unread)
     } else if is(name, "MPI_File_get_group") {
@@ -184,38 +173,35 @@ fn other_group_named(name: &[u8]) -> Option<Grouper>
     }
 }
 
-/// Another function that gives a communicator (MPI 4.0, 7.4.2, 7.6 and 11.8 to 11.10).
-fn giver_named(name: &[u8]) -> Option<Giver>
+/// Another function that gives a communicator (MPI 4.0, 7.4.2, 7.6.2 and 11.8 to 11.10).
+fn giver_named(name: &[u8]) -> Option<OtherMaker>
     ensures { result ≡ giver_named name.now }
 {
     if is(name, "MPI_Comm_split_type") {
-        Some(Giver::SplitType)
+        Some(OtherMaker::SplitType)
     } else if is(name, "MPI_Comm_accept") {
-        Some(Giver::NewComm)
+        Some(OtherMaker::Accept)
     } else if is(name, "MPI_Comm_connect") {
-        Some(Giver::NewComm)
+        Some(OtherMaker::Connect)
     } else if is(name, "MPI_Comm_create_from_group") {
-        Some(Giver::NewComm)
-    } else if is(name, "MPI_Intercomm_create") {
-        Some(Giver::NewIntercomm)
+        Some(OtherMaker::CreateFromGroup)
     } else if is(name, "MPI_Intercomm_create_from_groups") {
-        Some(Giver::NewIntercomm)
-    } else if is(name, "MPI_Intercomm_merge") {
-        Some(Giver::Merge)
+        Some(OtherMaker::IntercommCreateFromGroups)
     } else if is(name, "MPI_Comm_spawn") {
-        Some(Giver::Intercomm)
+        Some(OtherMaker::Spawn)
     } else if is(name, "MPI_Comm_spawn_multiple") {
-        Some(Giver::Intercomm)
+        Some(OtherMaker::SpawnMultiple)
     } else if is(name, "MPI_Comm_join") {
-        Some(Giver::Intercomm)
+        Some(OtherMaker::Join)
     } else if is(name, "MPI_Comm_get_parent") {
-        Some(Giver::Parent)
+        Some(OtherMaker::GetParent)
     } else {
         None
     }
 }
 
-/// What tells a rank its own, or frees a communicator (MPI 4.0, 7.4.1, 7.4.3 and 11.10.4).
+/// What tells a rank its own, frees a communicator, or joins and merges groups (MPI 4.0, 7.4.1, 7.4.3, 7.6.2 and
+/// 11.10.4).
 fn single_named(name: &[u8]) -> Option<Function>
     ensures { result ≡ single_named name.now }
 {
@@ -225,6 +211,10 @@ fn single_named(name: &[u8]) -> Option<Function>
         Some(Function::Free)
     } else if is(name, "MPI_Comm_disconnect") {
         Some(Function::Free)
+    } else if is(name, "MPI_Intercomm_create") {
+        Some(Function::Join)
+    } else if is(name, "MPI_Intercomm_merge") {
+        Some(Function::Merge)
     } else {
         None
     }
@@ -284,8 +274,8 @@ pub(crate) fn function_named(name: &[u8]) -> Option<Function>
     if let Some(grouper) = group_named(name) {
         return Some(Function::Group(grouper));
     }
-    if let Some(giver) = giver_named(name) {
-        return Some(Function::Give(giver));
+    if let Some(maker) = giver_named(name) {
+        return Some(Function::Give(maker));
     }
     if let Some(maker) = object_maker_named(name) {
         return Some(Function::MakeObject(maker));

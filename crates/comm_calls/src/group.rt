@@ -101,6 +101,9 @@ pub(crate) fn group_call_in(
         Grouper::OfComm => Ok(GroupCall::OfComm {
             comm: comm_in(alloc, text_of(raw, "comm"))?,
         }),
+        Grouper::OfRemote => Ok(GroupCall::OfRemote {
+            comm: comm_in(alloc, text_of(raw, "comm"))?,
+        }),
         Grouper::Incl => incl_in(alloc, raw),
         Grouper::Excl => excl_in(alloc, raw),
         Grouper::RangeIncl => range_incl_in(alloc, raw),
@@ -121,7 +124,7 @@ pub(crate) fn grouped_in(
     ensures { IfOk result (λ g. g ≡ grouped_in grouper raw.now) }
 {
     match grouper {
-        Grouper::OfComm | Grouper::Unread => group_at(alloc, "group", raw),
+        Grouper::OfComm | Grouper::OfRemote | Grouper::Unread => group_at(alloc, "group", raw),
         Grouper::Incl
         | Grouper::Excl
         | Grouper::RangeIncl

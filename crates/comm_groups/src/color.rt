@@ -9,7 +9,7 @@ use std::alloc::{AllocError, Global};
 use std::marker::Model;
 
 /// A rank of the parent that names a color, with its key. They compare by the color, then the key, then the rank.
-#[derive(Clone, Copy, Debug, PartialEq, Eq, PartialOrd, Ord)]
+#[derive(Clone, Copy, PartialEq, Eq, PartialOrd, Ord)]
 pub struct Colored {
     pub color: u32,
     /// By which the members of one color are ordered.
@@ -19,7 +19,7 @@ pub struct Colored {
 }
 
 /// The members of one color: their ranks in the parent, in the order of their new ranks.
-#[derive(Debug, Drop)]
+#[derive(Drop)]
 pub struct ColorGroup {
     pub color: u32,
     pub ranks: Vec<u32>,

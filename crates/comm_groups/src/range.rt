@@ -8,7 +8,7 @@ use crate::group::{excl, incl};
 use std::alloc::{AllocError, Global};
 
 /// A range of ranks: `first`, and on in strides as far as `last` and not beyond it, downward where it falls.
-#[derive(Clone, Copy, Debug, PartialEq, Eq)]
+#[derive(Clone, Copy)]
 pub struct RankRange {
     pub first: u32,
     pub last: u32,

@@ -1,5 +1,5 @@
 -- What is made, written and left out, together.
-use Rattle.std.proofs.Common.{◌≡◌, ◌⊎◌, ◌<◌, ◌≤◌, ◌+◌, ◌++◌, ◌∙◌, ℕ, zero, suc, Bool, List, [], ◌∷◌, Option, Some, None, Vec, length, ap, sym, subst, refl, inl, inr, arith, add-one, append-nil, option_map, option_and_then, unwrap_or}
+use Rattle.std.proofs.Common.{◌≡◌, ◌⊎◌, ◌<◌, ◌++◌, ◌∙◌, ℕ, zero, suc, List, [], ◌∷◌, Option, Some, None, Vec, length, ap, sym, subst, refl, inl, inr, arith, add-one, option_map, option_and_then, unwrap_or}
 use Rattle.std.specs.List.{Contains, cons_option, filter_map, flat_map, range_with_len, slice_get}
 use Rattle.std.specs.declared.alloc.Global.{Global}
 use Rattle.std.proofs.lemmas.Bool.{cases_lt}
@@ -8,9 +8,9 @@ use Rattle.std.proofs.lemmas.Option.{slice_get_within}
 use Rattle.mpi_model.specs.Communicators.{Communicator}
 use Rattle.comm_makings.specs.Derived.{AreAccounted, IsDerivedFrom, IsLeftOut, IsOfMade, IsSound}
 use Rattle.comm_makings.specs.Here.{call_at, meant_at}
-use Rattle.comm_makings.specs.Left.{calls_in, giving, is_known_to, left_at, left_by, left_in, left_of, left_out_of, left_with, standing_given, why_left, why_of, why_open, with_handle}
+use Rattle.comm_makings.specs.Left.{calls_in, giving, is_known_to, left_at, left_in, left_out_of, left_with, why_left, why_open, with_handle}
 use Rattle.comm_makings.specs.ObjectMakings.{AreObjects}
-use Rattle.comm_makings.specs.State.{AreMembers, IsMemberOf, IsRight, standing_at}
+use Rattle.comm_makings.specs.State.{AreInterMembers, AreMembers, IsRight, standing_at}
 use Rattle.comm_makings.specs.Uses.{AreAllCounted, count_at}
 use Rattle.comm_makings.specs.Views.{AreViews}
 use Rattle.comm_makings.specs.World.{world_of}
@@ -22,7 +22,6 @@ use Rattle.comm_makings.specs.declared.answer.Why.{Why}
 use Rattle.comm_makings.specs.declared.calls.CommCall.{CommCall}
 use Rattle.comm_makings.specs.declared.calls.RankCalls.{RankCalls}
 use Rattle.comm_makings.specs.declared.group_value.GroupValue.{GroupValue}
-use Rattle.comm_makings.specs.declared.handle.Gives.{Gives}
 use Rattle.comm_makings.specs.declared.handle.Gives.TheVariants as gives
 use Rattle.comm_makings.specs.declared.handle.Meant.{Meant}
 use Rattle.comm_makings.specs.declared.left.Giver.{Giver}
@@ -71,7 +70,7 @@ rank_within ranks rank at call e = of_some (slice_get ranks rank) refl e
         let count : calls_in ranks rank ≡ length calls.calls.items = ap (λ (o : Option RankCalls). unwrap_or (option_map (λ c. length c.calls.items) o) 0) here in
         (slice_get_within ranks rank calls here, omega arith)
 
-module _ (ranks : List RankCalls) (views : List RankView) (uses : List HandleUses) (made : List Made) (stand : List (Vec HandleState Global)) (members : AreMembers made stand) where
+module _ (ranks : List RankCalls) (views : List RankView) (uses : List HandleUses) (made inters : List Made) (stand : List (Vec HandleState Global)) (members : AreMembers made stand) (sides : AreInterMembers inters stand) where
   module _ (rank at handle : ℕ) (call : CommCall) (giver : Giver) (meant : Meant) (called : call_at ranks rank at ≡ Some call) (gave : giving call.action ≡ Some giver)
       (means : meant_at views rank at ≡ Some meant) (given : meant.gives ≡ gives.Handle handle) where
     left_here : (why : Why) → why_left (standing_at stand rank handle) giver.made_by (is_known_to views rank at) ≡ Some why
@@ -92,49 +91,55 @@ module _ (ranks : List RankCalls) (views : List RankView) (uses : List HandleUse
           counted = refl;
         }
 
-    by_standing : (o : Option HandleState) → standing_at stand rank handle ≡ o → IsOfMade made rank handle ⊎ IsLeftOut (left_out_of ranks views uses stand) rank call.call (count_at uses rank (Some handle))
+    by_standing : (o : Option HandleState) → standing_at stand rank handle ≡ o → IsOfMade made inters rank handle ⊎ IsLeftOut (left_out_of ranks views uses stand) rank call.call (count_at uses rank (Some handle))
     by_standing None e = inr (listed (why_open giver.made_by (is_known_to views rank at)) (ap (λ (s : Option HandleState). why_left s giver.made_by (is_known_to views rank at)) e))
     by_standing (Some standings.Open) e = inr (listed (why_open giver.made_by (is_known_to views rank at)) (ap (λ (s : Option HandleState). why_left s giver.made_by (is_known_to views rank at)) e))
-    by_standing (Some (standings.Derived place)) e = inl (place, members.each rank handle place e)
+    by_standing (Some (standings.Derived place)) e = inl (inl (place, members.each rank handle place e))
+    by_standing (Some (standings.Inter place second)) e = inl (inr (place, second, sides.each rank handle place second e))
     by_standing (Some (standings.Left why)) e = inr (listed why (ap (λ (s : Option HandleState). why_left s giver.made_by (is_known_to views rank at)) e))
 
-  pub accounted : AreAccounted ranks views uses made (left_out_of ranks views uses stand)
+  pub accounted : AreAccounted ranks views uses made inters (left_out_of ranks views uses stand)
   accounted = record {
     each = λ rank at handle call giver meant called gave means given.
         by_standing rank at handle call giver meant called gave means given (standing_at stand rank handle) refl;
   }
 
-pub derives : (choice : Choice) (ranks : List RankCalls) (views : List RankView) (uses : AllUses) (made objects all : List Made) (stand : List (Vec HandleState Global)) (values : List (Vec GroupValue Global)) (next : List Progress) (derived : Derived)
-    → derived.world ≡ world_of ranks → AreViews (world_of ranks) ranks views → IsRight ranks views stand values made next → AreObjects ranks views made objects → AreAllCounted ranks views uses
-    → all ≡ made ++ objects → IsWritten choice (world_of ranks) (length ranks) views uses all derived.comms.items → derived.left_out.items ≡ left_out_of ranks views uses.comms.items stand → IsDerivedFrom choice ranks derived
-derives choice ranks views uses made objects all stand values next derived world read right are counted both written left = record {
+pub derives : (choice : Choice) (ranks : List RankCalls) (views : List RankView) (uses : AllUses) (made inters objects all : List Made) (stand : List (Vec HandleState Global)) (values : List (Vec GroupValue Global)) (next : List Progress) (derived : Derived)
+    → derived.world ≡ world_of ranks → AreViews (world_of ranks) ranks views → IsRight ranks views stand values made next inters → AreObjects ranks views made objects → AreAllCounted ranks views uses
+    → all ≡ (made ++ inters) ++ objects → IsWritten choice (world_of ranks) (length ranks) views uses all derived.comms.items → derived.left_out.items ≡ left_out_of ranks views uses.comms.items stand → IsDerivedFrom choice ranks derived
+derives choice ranks views uses made inters objects all stand values next derived world read right are counted both written left = record {
   views = views;
   uses = uses;
   made = made;
+  inters = inters;
   objects = objects;
   standings = stand;
   world = world;
   read = read;
   counted = counted;
   derive = right.comms_derive;
+  derive_inters = right.inters_derive;
   derive_objects = are;
   stand = right.handles_named;
+  stand_inters = right.sides;
   written = subst (λ (l : List Made). IsWritten choice (world_of ranks) (length ranks) views uses l derived.comms.items) both written;
   left_out = left;
-  accounted = subst (AreAccounted ranks views uses.comms.items made) (sym left) (accounted ranks views uses.comms.items made stand right.handles_named);
+  accounted = subst (AreAccounted ranks views uses.comms.items made inters) (sym left) (accounted ranks views uses.comms.items made inters stand right.handles_named right.sides);
 }
 
-pub sounds : (choice : Choice) (ranks : List RankCalls) (views : List RankView) (uses : AllUses) (made objects all : List Made) (stand : List (Vec HandleState Global)) (values : List (Vec GroupValue Global)) (next : List Progress) (comms : List Communicator)
-    → AreViews (world_of ranks) ranks views → IsRight ranks views stand values made next → AreObjects ranks views made objects → AreAllCounted ranks views uses
-    → all ≡ made ++ objects → IsWritten choice (world_of ranks) (length ranks) views uses all comms → IsSound choice (world_of ranks) ranks comms
-sounds choice ranks views uses made objects all stand values next comms read right are counted both written = record {
+pub sounds : (choice : Choice) (ranks : List RankCalls) (views : List RankView) (uses : AllUses) (made inters objects all : List Made) (stand : List (Vec HandleState Global)) (values : List (Vec GroupValue Global)) (next : List Progress) (comms : List Communicator)
+    → AreViews (world_of ranks) ranks views → IsRight ranks views stand values made next inters → AreObjects ranks views made objects → AreAllCounted ranks views uses
+    → all ≡ (made ++ inters) ++ objects → IsWritten choice (world_of ranks) (length ranks) views uses all comms → IsSound choice (world_of ranks) ranks comms
+sounds choice ranks views uses made inters objects all stand values next comms read right are counted both written = record {
   views = views;
   uses = uses;
   made = made;
+  inters = inters;
   objects = objects;
   read = read;
   counted = counted;
   derive = right.comms_derive;
+  derive_inters = right.inters_derive;
   derive_objects = are;
   written = subst (λ (l : List Made). IsWritten choice (world_of ranks) (length ranks) views uses l comms) both written;
 }

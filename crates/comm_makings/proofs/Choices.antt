@@ -1,8 +1,7 @@
 -- Which communicators are written, and in which order.
-use Rattle.std.proofs.Common.{◌≡◌, ◌⊎◌, ◌<◌, ◌≤◌, ◌+◌, ◌++◌, ◌∙◌, ◌&&◌, ℕ, zero, suc, Bool, true, false, List, [], ◌∷◌, Option, Some, None, All, cond, length, get_or, ap, sym, subst, refl, inl, inr, ⊎_elim, arith, length-append, append-nil, nat_lt, option_and_then}
-use Rattle.std.specs.List.{Contains, cons_option, filter_map, range_with_len, slice_get}
-use Rattle.std.specs.List.Sorted.{IsPermutation}
-use Rattle.std.proofs.lemmas.List.Elements.{Contains-append_left, Contains-push, filter_map-append}
+use Rattle.std.proofs.Common.{◌≡◌, ◌<◌, ◌≤◌, ◌+◌, ◌++◌, ◌∙◌, ◌&&◌, ℕ, zero, suc, Bool, true, false, List, [], ◌∷◌, Option, Some, None, cond, length, ap, sym, subst, refl, inl, inr, arith, length-append, append-nil, nat_lt, option_and_then}
+use Rattle.std.specs.List.{cons_option, filter_map, range_with_len, slice_get}
+use Rattle.std.proofs.lemmas.List.Elements.{filter_map-append}
 use Rattle.std.proofs.lemmas.List.Sorted.{All-permutation}
 use Rattle.std.proofs.lemmas.Option.{same_Some, slice_get_within}
 use Rattle.mpi_model.specs.Communicators.{Communicator}

@@ -2,7 +2,6 @@
 use Rattle.std.proofs.Common.{◌≡◌, ◌+◌, ℕ, ℤ, ◌++◌, false, true, is_some, List, [], ◌∷◌, Option, Some, None, All, Vec, length, ap, ◌∙◌, sym, inl, inr, refl, subst}
 use Rattle.std.specs.List.{list_any, slice_get}
 use Rattle.std.specs.declared.alloc.Global.{Global}
-use Rattle.std.proofs.lemmas.Option.{same_Some}
 use Rattle.comm_groups.specs.Groups.{has}
 use Rattle.comm_makings.specs.ByGroups.{AreFound, AreRightOffers, IsAmong, IsFound, IsRightOffer}
 use Rattle.comm_makings.specs.Derives.{ArePlaces, Derives, IsCreation, IsGroupCall, IsGroupMaking, IsMaking, IsOfOffered, by_group, communicator, created, kth_calls, made, member_with, members_at, own, ranks_in, ranks_of, read_creation, read_left, read_making, read_to, world, world_members}
@@ -13,7 +12,6 @@ use Rattle.comm_makings.specs.Offers.{AreKnown, AreOfWanted, IsOfWanted, IsWante
 use Rattle.comm_makings.specs.Selection.{Selection}
 use Rattle.comm_makings.specs.State.{AreAllDerivedGroups, AreDerived, AreMadeOf, AreNext, IsDerivedComm, IsDerivedOutcome, IsFirstComm, IsOfDerived, IsOfPart, dims_of, is_read, parts_in}
 use Rattle.comm_makings.specs.Untold.{AreLeft}
-use Rattle.comm_makings.specs.Views.{AreViews}
 use Rattle.comm_makings.specs.declared.answer.MadeBy.{MadeBy}
 use Rattle.comm_makings.specs.declared.answer.MadeBy.TheVariants as functions
 use Rattle.comm_makings.specs.declared.by_groups.Offer.{Offer}
@@ -22,12 +20,10 @@ use Rattle.comm_makings.specs.declared.group_value.GroupValue.{GroupValue}
 use Rattle.comm_makings.specs.declared.here.Here.{Here}
 use Rattle.comm_makings.specs.declared.parts.Outcome.{Outcome}
 use Rattle.comm_makings.specs.declared.parts.Outcome.TheVariants as outcomes
-use Rattle.comm_makings.specs.declared.run.Gained.{Gained}
 use Rattle.comm_makings.specs.declared.run.Gained.TheVariants as gains
 use Rattle.comm_makings.specs.declared.state.Made.{Made}
 use Rattle.comm_makings.specs.declared.state.Member.{Member}
 use Rattle.comm_makings.specs.declared.state.Order.{Order}
-use Rattle.comm_makings.specs.declared.uses.HandleUses.{HandleUses}
 use Rattle.comm_makings.specs.declared.view.RankView.{RankView}
 use Rattle.comm_makings.proofs.Lists.{each_more, get_join}
 use Rattle.comm_makings.proofs.Values.{group_derives}
@@ -156,13 +152,14 @@ module _ (ranks : List RankCalls) (views : List RankView) where
       read_by k next outcomes.Waits is e making = absurd (let bad : false ≡ true = ap is_read (sym is) ∙ e in cc)
 
   -- a communicator of these members
-  comm_is : (members : List Member) (dims : Option (List ℕ)) (order : Order) (comm : Made) → Derives ranks views (communicator members dims order) → comm.members.items ≡ members → dims_of comm ≡ dims
-      → comm.order ≡ order → comm.ranks.items ≡ ranks_in comm.members.items → IsDerivedComm ranks views comm
-  comm_is members dims order comm derives same dims_same order_same same_ranks = record {
+  pub comm_is : (members : List Member) (dims : Option (List ℕ)) (order : Order) (comm : Made) → Derives ranks views (communicator members dims order) → comm.members.items ≡ members → dims_of comm ≡ dims
+      → comm.order ≡ order → comm.ranks.items ≡ ranks_in comm.members.items → comm.remote_size ≡ 0 → IsDerivedComm ranks views comm
+  comm_is members dims order comm derives same dims_same order_same same_ranks one_group = record {
     derives = subst (λ (o : Order). Derives ranks views (communicator comm.members.items (dims_of comm) o)) (sym order_same)
         (subst (λ (d : Option (List ℕ)). Derives ranks views (communicator comm.members.items d order)) (sym dims_same)
         (subst (λ (l : List Member). Derives ranks views (communicator l dims order)) (sym same) derives));
     same_ranks = same_ranks;
+    one_group = one_group;
   }
 
   -- All that is made of the parts derives.
@@ -171,7 +168,7 @@ module _ (ranks : List RankCalls) (views : List RankView) where
       → AreDerived ranks views comms
   outcome_derives members dims all outcome parts comms k derives next is of = record {
     each = λ at comm e. let m = of.each at comm e in
-        comm_is (members_at members all m.1.places) m.1.dims comm.order comm (derives.each k parts m.0 m.1 comm.order next is m.2 m.3.order) m.3.chosen m.3.dims refl m.3.same_ranks;
+        comm_is (members_at members all m.1.places) m.1.dims comm.order comm (derives.each k parts m.0 m.1 comm.order next is m.2 m.3.order) m.3.chosen m.3.dims refl m.3.same_ranks m.3.one_group;
   }
 
   -- what a making gives
@@ -261,7 +258,7 @@ module _ (ranks : List RankCalls) (views : List RankView) where
         given = found.sound.given;
       } in
       comm_is (members_at members found.all found.places) None comm.order comm (by_group members (dims_of parent) parent.order comm.order found.group found.tag found.places found.all derived.derives each making found.made.order)
-      found.made.chosen found.made.dims refl found.made.same_ranks
+      found.made.chosen found.made.dims refl found.made.same_ranks found.made.one_group
 
   pub all_found : (comms : List Made) (rows : List (Vec GroupValue Global)) (parent : Made) (offers : List Offer) (found : List Made) → IsDerivedComm ranks views parent
       → AreAllDerivedGroups ranks views comms rows → AreRightOffers ranks views rows comms parent.members.items offers
@@ -272,7 +269,7 @@ module _ (ranks : List RankCalls) (views : List RankView) where
 
   -- what is there from the first call on
   first_is : (members : List Member) (order : Order) (comm : Made) → Derives ranks views (communicator members None order) → IsFirstComm members order comm → IsDerivedComm ranks views comm
-  first_is members order comm derives first = comm_is members None order comm derives first.same first.dims first.order (first.same_ranks ∙ ap ranks_in (sym first.same))
+  first_is members order comm derives first = comm_is members None order comm derives first.same first.dims first.order (first.same_ranks ∙ ap ranks_in (sym first.same)) first.one_group
 
   pub world_derives : (comm : Made) → IsFirstComm (world_members (length ranks)) world_order comm → IsDerivedComm ranks views comm
   world_derives comm first = first_is (world_members (length ranks)) world_order comm world first
@@ -296,7 +293,7 @@ made_none members all parts = record { each = λ at comm e. absurd (cc) }
 
 pub made_more : (members : List Member) (all : List (Option Here)) (parts : List Selection) (done : List Made) (i : ℕ) (part : Selection) (comm : Made)
     → slice_get parts i ≡ Some part → comm.members.items ≡ members_at members all part.places → comm.ranks.items ≡ ranks_in comm.members.items → dims_of comm ≡ part.dims
-    → IsMakingOrder part.places all comm.order → AreMadeOf members all parts done → AreMadeOf members all parts (done ++ comm ∷ [])
-made_more members all parts done i part comm here chosen same_ranks dims order are = record {
-  each = each_more (IsOfPart members all parts) done comm are.each (i, part, here, record { chosen = chosen; same_ranks = same_ranks; dims = dims; order = order });
+    → IsMakingOrder part.places all comm.order → comm.remote_size ≡ 0 → AreMadeOf members all parts done → AreMadeOf members all parts (done ++ comm ∷ [])
+made_more members all parts done i part comm here chosen same_ranks dims order one_group are = record {
+  each = each_more (IsOfPart members all parts) done comm are.each (i, part, here, record { chosen = chosen; same_ranks = same_ranks; dims = dims; order = order; one_group = one_group });
 }

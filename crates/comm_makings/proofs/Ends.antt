@@ -1,6 +1,5 @@
 -- The first call of a rank that makes communicators of an unknown parent.
-use Rattle.std.proofs.Common.{◌≡◌, ◌⊎◌, ◌<◌, ◌≤◌, ◌+◌, ℕ, Bool, true, false, List, Some, length, get_or, ap, sym, ◌∙◌, inl, inr, refl, arith, subst, ⊎_elim}
-use Rattle.std.specs.List.{slice_get}
+use Rattle.std.proofs.Common.{◌≡◌, ◌<◌, ◌≤◌, ◌+◌, ℕ, true, false, List, length, get_or, ◌∙◌, inl, inr, refl, arith, subst, ⊎_elim}
 use Rattle.std.proofs.lemmas.Bool.{cases_lt}
 use Rattle.std.proofs.lemmas.Option.{slice_get-get_or}
 use Rattle.comm_makings.specs.Views.{IsEnd, comm_at, is_orphan, is_orphan_at}

@@ -1,6 +1,6 @@
 -- Which handle each call gives, one call after the other.
-use Rattle.std.proofs.Common.{◌≡◌, ◌<◌, ◌+◌, ◌++◌, ◌∙◌, ℕ, Bool, true, false, List, [], ◌∷◌, Option, Some, None, cond, is_some, length, get_or, take, ap, sym, refl, inl, inr, length-append, arith, option_map, option_and_then}
-use Rattle.std.specs.List.{count_by, slice_get}
+use Rattle.std.proofs.Common.{◌≡◌, ◌<◌, ◌+◌, ◌++◌, ◌∙◌, ℕ, Bool, true, false, List, [], ◌∷◌, Option, Some, None, cond, is_some, length, get_or, ap, sym, refl, inl, inr, option_map, option_and_then}
+use Rattle.std.specs.List.{slice_get}
 use Rattle.std.proofs.lemmas.List.Sums.{sum_by_more}
 use Rattle.std.proofs.lemmas.Option.{slice_get-get_or}
 use Rattle.mpi_model.specs.declared.object.Object.{Object}

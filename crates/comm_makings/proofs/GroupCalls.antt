@@ -1,13 +1,12 @@
 -- The calls of MPI_Comm_create_group on one parent: what is noted of each, and what is made of those of one group.
-use Rattle.std.proofs.Common.{◌≡◌, ◌⊎◌, ℕ, zero, suc, ℤ, ◌+◌, ◌-◌, ◌<◌, ◌≤◌, ◌++◌, List, [], ◌∷◌, Option, Some, None, Vec, length, get_or, replicate, set, take, drop, ap, ◌∙◌, sym, subst, inl, inr, refl, arith, add-one, drop-cons, length-drop}
+use Rattle.std.proofs.Common.{◌≡◌, ℕ, zero, suc, ℤ, ◌+◌, ◌-◌, ◌<◌, ◌≤◌, ◌++◌, List, [], ◌∷◌, Option, Some, None, Vec, length, get_or, replicate, set, take, drop, ap, ◌∙◌, sym, subst, inl, inr, refl, arith, add-one, drop-cons, length-drop}
 use Rattle.std.specs.List.{slice_get}
 use Rattle.std.specs.declared.alloc.Global.{Global}
 use Rattle.std.specs.List.Sorted.{IsPermutation}
 use Rattle.std.proofs.lemmas.Bool.{cases_lt}
 use Rattle.std.proofs.lemmas.List.Sorted.{All-permutation}
-use Rattle.std.proofs.lemmas.Option.{slice_get_within}
 use Rattle.comm_makings.specs.ByGroups.{AreFound, AreFoundSame, AreOfCalls, AreRightOffers, AreSame, AreSameTo, AreSomeOf, IsAmong, IsFound, IsListOn, IsNoted, IsOneOf, IsRightOffer, IsSoundAt, part_at}
-use Rattle.comm_makings.specs.Derives.{ArePlaces, IsGroupCall}
+use Rattle.comm_makings.specs.Derives.{IsGroupCall}
 use Rattle.comm_makings.specs.State.{IsMadeOf}
 use Rattle.comm_makings.specs.declared.by_groups.Offer.{Offer}
 use Rattle.comm_makings.specs.declared.calls.RankCalls.{RankCalls}

@@ -1,6 +1,6 @@
 -- Which handle calls of the profile mean, and which numbers name one alone.
-use Rattle.std.proofs.Common.{◌≡◌, ◌≢◌, ◌⊎◌, ◌↔◌, ◌<◌, ◌≤◌, ◌+◌, ◌-◌, ◌^◌, ◌==◌, ◌&&◌, ◌||◌, ◌++◌, ◌∙◌, ℕ, zero, suc, Bool, true, false, not, List, [], ◌∷◌, Option, Some, None, All, IsTrue, length, get_or, get_or-set_same, map, min, set, take, drop, ap, sym, subst, refl, inl, inr, ⊎_elim, arith, nat_lt, nat_le, cond, is_some, append-nil, length-append, option_map, zero-add}
-use Rattle.std.specs.List.{count_by, list_any, slice_get, sum_by}
+use Rattle.std.proofs.Common.{◌≡◌, ◌≢◌, ◌↔◌, ◌<◌, ◌≤◌, ◌+◌, ◌-◌, ◌^◌, ◌==◌, ◌&&◌, ◌||◌, ◌++◌, ◌∙◌, ℕ, zero, suc, Bool, true, false, not, List, [], ◌∷◌, Option, Some, None, length, get_or, get_or-set_same, map, min, set, take, ap, sym, subst, refl, inl, inr, ⊎_elim, arith, nat_le, cond, is_some, append-nil, length-append, option_map, zero-add}
+use Rattle.std.specs.List.{slice_get, sum_by}
 use Rattle.std.specs.List.Sorted.{IsPartitionPoint, IsPartitionedBy, IsPermutation}
 use Rattle.std.specs.Ordering.{is_lt, nat_cmp, ordering_then}
 use Rattle.std.proofs.lemmas.Bool.{cases_eq, cases_lt}
@@ -14,7 +14,7 @@ use Rattle.mpi_model.specs.declared.layout.comm.Stretch.{Stretch}
 use Rattle.mpi_model.specs.declared.object.Object.{Object}
 use Rattle.mpi_model.specs.Names.{holds, is_before}
 use Rattle.comm_makings.specs.Each.{EachBecomes, EachIs}
-use Rattle.comm_makings.specs.Uses.{AreCounted, AreHeld, AreOrdered, Comes, IsCounted, IsCountedOf, IsHolder, IsHolderOf, IsLatest, IsLatestOf, IsNotBefore, IsOnly, IsTally, NoneBegun, but_ends, count_in, count_of, has_number, holds_all, is_at, is_stray, is_stray_of, numbered, place_of, places_from, precedes, stands_alone}
+use Rattle.comm_makings.specs.Uses.{AreCounted, AreHeld, AreOrdered, Comes, IsCounted, IsCountedOf, IsHolder, IsHolderOf, IsLatest, IsNotBefore, IsOnly, IsTally, NoneBegun, but_ends, count_in, count_of, has_number, holds_all, is_at, is_stray, is_stray_of, numbered, place_of, places_from, precedes, stands_alone}
 use Rattle.comm_makings.specs.declared.calls.RankCalls.{RankCalls}
 use Rattle.comm_makings.specs.declared.calls.Uses.{Uses}
 use Rattle.comm_makings.specs.declared.uses.HandleUses.{HandleUses}

@@ -4,7 +4,7 @@ use Rattle.std.specs.List.{slice_get}
 use Rattle.std.proofs.lemmas.Bool.Decides.{nat_tests}
 use Rattle.std.proofs.lemmas.Grind.{common_steps}
 use Rattle.std.proofs.lemmas.Option.{same_Some}
-use Rattle.comm_makings.specs.ObjectMakings.{HasMaker, IsFirstHere, IsOneMaking, IsOneMakingOf, IsSmallest, returned_here, smaller_here}
+use Rattle.comm_makings.specs.ObjectMakings.{HasMaker, IsFirstHere, IsOneMakingOf, IsSmallest, returned_here, smaller_here}
 use Rattle.comm_makings.specs.declared.calls.ObjectMaker.{ObjectMaker}
 use Rattle.comm_makings.specs.declared.objects.ObjectHere.{ObjectHere}
 use Rattle.comm_makings.proofs.Lists.{All-slice_get, get_keep, get_last, get_more}

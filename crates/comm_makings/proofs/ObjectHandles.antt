@@ -1,5 +1,5 @@
 -- The handles of windows and files, from the last call back.
-use Rattle.std.proofs.Common.{◌≡◌, ◌∙◌, ◌+◌, ◌<◌, ◌||◌, ◌++◌, ℕ, suc, Bool, true, false, List, [], ◌∷◌, Option, Some, None, cond, length, get_or, drop, drop-cons, add-one, ap, sym, refl, option_map, reverse}
+use Rattle.std.proofs.Common.{◌≡◌, ◌∙◌, ◌+◌, ◌<◌, ◌++◌, ℕ, suc, List, [], ◌∷◌, Option, Some, None, cond, length, get_or, drop, drop-cons, add-one, ap, sym, reverse}
 use Rattle.mpi_model.specs.declared.layout.comm.Stretch.{Stretch}
 use Rattle.mpi_model.specs.declared.object.Object.{Object}
 use Rattle.comm_makings.specs.Names.{next_call}

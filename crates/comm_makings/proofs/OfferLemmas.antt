@@ -1,5 +1,5 @@
 -- The groups that the calls of MPI_Comm_create offer, one call after the other.
-use Rattle.std.proofs.Common.{◌≡◌, ◌⊎◌, ℕ, ◌+◌, ◌<◌, ◌≤◌, ◌==◌, ◌++◌, Bool, false, true, cond, List, [], ◌∷◌, Option, Some, None, Vec, length, map, set, ap, ◌∙◌, sym, subst, inl, inr, refl, arith}
+use Rattle.std.proofs.Common.{◌≡◌, ℕ, ◌+◌, ◌≤◌, ◌==◌, ◌++◌, Bool, false, true, cond, List, [], ◌∷◌, Option, Some, None, Vec, length, map, set, ap, ◌∙◌, sym, subst, inl, inr, refl, arith}
 use Rattle.std.specs.List.{slice_get}
 use Rattle.std.specs.declared.alloc.Global.{Global}
 use Rattle.std.proofs.lemmas.Bool.{cases_lt}
@@ -7,7 +7,7 @@ use Rattle.std.proofs.lemmas.Bool.Decides.{nat_tests}
 use Rattle.std.proofs.lemmas.Option.{slice_get_within}
 use Rattle.comm_groups.specs.Groups.{has}
 use Rattle.comm_makings.specs.Derives.{ArePlaces}
-use Rattle.comm_makings.specs.Offers.{AddsOffer, AreKnown, AreKnownTo, AreOfWanted, AreOfferedParts, AreRanked, AreWanted, IsKnown, IsOfWanted, IsOfferedPart, IsWanted, group_of}
+use Rattle.comm_makings.specs.Offers.{AddsOffer, AreKnown, AreKnownTo, AreOfWanted, AreOfferedParts, AreRanked, AreWanted, IsKnown, IsOfferedPart, IsWanted, group_of}
 use Rattle.comm_makings.specs.Selection.{Selection}
 use Rattle.comm_makings.specs.declared.creates.Offer.{Offer}
 use Rattle.comm_makings.specs.declared.group_value.GroupValue.{GroupValue}

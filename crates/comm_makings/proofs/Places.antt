@@ -23,6 +23,12 @@ numbers_more n =
     sym (map-id (range_with_len 0 (n + 1))) ∙ map-range_with_len_more (λ (x : ℕ). x) 0 n n (omega arith)
     ∙ ap (λ (l : List ℕ). l ++ n ∷ []) (map-id (range_with_len 0 n))
 
+-- the same of those from another number on
+pub numbers_from_more : (first n p : ℕ) → p ≡ first + n → range_with_len first (n + 1) ≡ range_with_len first n ++ p ∷ []
+numbers_from_more first n p e =
+    sym (map-id (range_with_len first (n + 1))) ∙ map-range_with_len_more (λ (x : ℕ). x) first n p (omega (arith, e))
+    ∙ ap (λ (l : List ℕ). l ++ p ∷ []) (map-id (range_with_len first n))
+
 pub numbers_next : (n : ℕ) → range_with_len 0 (suc n) ≡ range_with_len 0 n ++ n ∷ []
 numbers_next n = ap (range_with_len 0) (sym (add-one n)) ∙ numbers_more n
 

@@ -1,10 +1,10 @@
 -- That what is derived so far is right, step by step.
-use Rattle.std.proofs.Common.{◌≡◌, ◌⊎◌, ◌<◌, ◌+◌, ℕ, true, false, zero, suc, ◌++◌, List, [], ◌∷◌, Option, Some, None, Vec, length, option_and_then, replicate, set, ap, ◌∙◌, sym, subst, inl, inr, refl, arith, length-append, length-set}
+use Rattle.std.proofs.Common.{◌≡◌, ◌+◌, ℕ, Bool, true, false, zero, suc, ◌++◌, List, [], ◌∷◌, Option, Some, None, Vec, length, option_and_then, replicate, set, ap, ◌∙◌, sym, subst, inl, inr, refl, arith, length-append, length-set}
 use Rattle.std.specs.List.{slice_get}
 use Rattle.std.specs.declared.alloc.Global.{Global}
-use Rattle.std.proofs.lemmas.Option.{same_Some, slice_get_within}
+use Rattle.std.proofs.lemmas.Option.{same_Some}
 use Rattle.comm_makings.specs.Derives.{Derives, kth_calls, read_to, unread}
-use Rattle.comm_makings.specs.State.{AreAllDerivedGroups, AreDerived, AreDerivedGroups, AreMembers, AreNext, AreRead, IfComms, IsDerivedComm, IsDerivedGroup, IsEnded, IsMemberOf, IsNotListed, IsOfDerived, IsReadTo, IsRight, KeepsComms, KeepsDerived, NamesMembers, NoneListed, NoneListedAt, NoneStands, NoneStandsAt, StandsFor, dims_of, is_gained}
+use Rattle.comm_makings.specs.State.{AreAllDerivedGroups, AreDerived, AreNext, AreRead, IfComms, IsDerivedComm, IsDerivedGroup, IsEnded, IsMemberOf, IsNotListed, IsOfDerived, IsReadTo, IsRight, KeepsComms, KeepsDerived, NamesMembers, NoneListed, NoneListedAt, NoneStands, NoneStandsAt, dims_of, is_gained}
 use Rattle.comm_makings.specs.declared.answer.Why.{Why}
 use Rattle.comm_makings.specs.declared.calls.RankCalls.{RankCalls}
 use Rattle.comm_makings.specs.declared.group_value.GroupValue.{GroupValue}
@@ -28,6 +28,10 @@ stands_set row handle why none = record {
     | inl before ↦ none.each h place before
     | inr is ↦ absurd (cc)
   ];
+  inters = λ h place second e. elim (get_set row handle (standings.Left why) h (standings.Inter place second) e) [
+    | inl before ↦ none.inters h place second before
+    | inr is ↦ absurd (cc)
+  ];
 }
 
 open_at : (count h : ℕ) (s : HandleState) → slice_get (replicate count standings.Open) h ≡ Some s → s ≡ standings.Open
@@ -36,7 +40,10 @@ open_at (suc count) zero s e = cc
 open_at (suc count) (suc h) s e = open_at count h s e
 
 pub stands_open : (count : ℕ) → NoneStands (replicate count standings.Open)
-stands_open count = record { each = λ h place e. let is = open_at count h (standings.Derived place) e in absurd (cc) }
+stands_open count = record {
+  each = λ h place e. let is = open_at count h (standings.Derived place) e in absurd (cc);
+  inters = λ h place second e. let is = open_at count h (standings.Inter place second) e in absurd (cc);
+}
 
 pub stands_none : NoneStandsAt []
 stands_none = record { each = λ rank row e. absurd (cc) }
@@ -61,6 +68,11 @@ none_at : (rows : List (Vec HandleState Global)) → NoneStandsAt rows → (rank
 none_at rows none rank handle place None here e = absurd (cc)
 none_at rows none rank handle place (Some row) here e = (none.each rank row here).each handle place e
 
+none_side : (rows : List (Vec HandleState Global)) → NoneStandsAt rows → (rank handle place : ℕ) (second : Bool) (o : Option (Vec HandleState Global)) → slice_get rows rank ≡ o
+    → option_and_then (λ row. slice_get row.items handle) o ≡ Some (standings.Inter place second) → ⊥
+none_side rows none rank handle place second None here e = absurd (cc)
+none_side rows none rank handle place second (Some row) here e = (none.each rank row here).inters handle place second e
+
 pub keeps_same : (comms : List Made) → KeepsComms comms comms
 keeps_same comms = record { each = λ at comm e. e }
 
@@ -78,7 +90,7 @@ module _ (ranks : List RankCalls) (views : List RankView) where
   not_listed comms rank at (values.Listed list) h = absurd h
 
   -- before anything is derived
-  pub right_first : (stand : List (Vec HandleState Global)) (rows : List (Vec GroupValue Global)) → NoneStandsAt stand → NoneListedAt rows → IsRight ranks views stand rows [] []
+  pub right_first : (stand : List (Vec HandleState Global)) (rows : List (Vec GroupValue Global)) → NoneStandsAt stand → NoneListedAt rows → IsRight ranks views stand rows [] [] []
   right_first stand rows bare unlisted = record {
     comms_derive = derived_none ranks views;
     handles_named = record { each = λ rank handle place e. absurd (none_at stand bare rank handle place (slice_get stand rank) refl e) };
@@ -87,6 +99,8 @@ module _ (ranks : List RankCalls) (views : List RankView) where
     };
     read = record { each = λ at k e. absurd (cc) };
     read_each = refl;
+    inters_derive = record { each = λ at inter e. absurd (cc) };
+    sides = record { each = λ rank handle place second e. absurd (none_side stand bare rank handle place second (slice_get stand rank) refl e) };
   }
 
   -- one more communicator, of which nothing is read yet
@@ -115,9 +129,9 @@ module _ (ranks : List RankCalls) (views : List RankView) where
   }
 
   -- the makings of a communicator are noted
-  right_noted : (stand : List (Vec HandleState Global)) (rows : List (Vec GroupValue Global)) (comms : List Made) (next : List Progress) (at : ℕ) (now : Progress)
-      → IsRight ranks views stand rows comms next → ((k : ℕ) → now ≡ progress.At k → IsReadTo ranks views comms at k) → IsRight ranks views stand rows comms (set next at now)
-  right_noted stand rows comms next at now right reads = record {
+  right_noted : (stand : List (Vec HandleState Global)) (rows : List (Vec GroupValue Global)) (comms : List Made) (next : List Progress) (inters : List Made) (at : ℕ) (now : Progress)
+      → IsRight ranks views stand rows comms next inters → ((k : ℕ) → now ≡ progress.At k → IsReadTo ranks views comms at k) → IsRight ranks views stand rows comms (set next at now) inters
+  right_noted stand rows comms next inters at now right reads = record {
     comms_derive = right.comms_derive;
     handles_named = right.handles_named;
     groups_derive = right.groups_derive;
@@ -128,18 +142,20 @@ module _ (ranks : List RankCalls) (views : List RankView) where
       ];
     };
     read_each = length-set next at now ∙ right.read_each;
+    inters_derive = right.inters_derive;
+    sides = right.sides;
   }
 
   read_as : (comms : List Made) (at k j : ℕ) → IsReadTo ranks views comms at k → progress.At k ≡ progress.At j → IsReadTo ranks views comms at j
   read_as comms at k j read e = let same : k ≡ j = cc in subst (IsReadTo ranks views comms at) same read
 
-  pub right_read : (stand : List (Vec HandleState Global)) (rows : List (Vec GroupValue Global)) (comms : List Made) (next : List Progress) (at k : ℕ)
-      → IsRight ranks views stand rows comms next → IsReadTo ranks views comms at k → IsRight ranks views stand rows comms (set next at (progress.At k))
-  right_read stand rows comms next at k right read = right_noted stand rows comms next at (progress.At k) right (λ j e. read_as comms at k j read e)
+  pub right_read : (stand : List (Vec HandleState Global)) (rows : List (Vec GroupValue Global)) (comms : List Made) (next : List Progress) (inters : List Made) (at k : ℕ)
+      → IsRight ranks views stand rows comms next inters → IsReadTo ranks views comms at k → IsRight ranks views stand rows comms (set next at (progress.At k)) inters
+  right_read stand rows comms next inters at k right read = right_noted stand rows comms next inters at (progress.At k) right (λ j e. read_as comms at k j read e)
 
-  pub right_over : (stand : List (Vec HandleState Global)) (rows : List (Vec GroupValue Global)) (comms : List Made) (next : List Progress) (at : ℕ)
-      → IsRight ranks views stand rows comms next → IsRight ranks views stand rows comms (set next at progress.Over)
-  right_over stand rows comms next at right = right_noted stand rows comms next at progress.Over right (λ j e. absurd (cc))
+  pub right_over : (stand : List (Vec HandleState Global)) (rows : List (Vec GroupValue Global)) (comms : List Made) (next : List Progress) (inters : List Made) (at : ℕ)
+      → IsRight ranks views stand rows comms next inters → IsRight ranks views stand rows comms (set next at progress.Over) inters
+  right_over stand rows comms next inters at right = right_noted stand rows comms next inters at progress.Over right (λ j e. absurd (cc))
 
   pub reads_at : (comms : List Made) (next : List Progress) (at k : ℕ) → AreRead ranks views comms next → slice_get next at ≡ Some (progress.At k) → IsReadTo ranks views comms at k
   reads_at comms next at k read e = read.each at k e
@@ -191,10 +207,10 @@ module _ (ranks : List RankCalls) (views : List RankView) where
   group_kept comms more rank at (values.Listed list) d = d
 
   -- one more communicator, which its members' handles may name
-  pub right_added : (stand stands : List (Vec HandleState Global)) (rows : List (Vec GroupValue Global)) (comms : List Made) (next : List Progress) (comm : Made)
-      → IsRight ranks views stand rows comms next → NamesMembers comm.members.items (length comms) stand stands → IsDerivedComm ranks views comm
-      → IsRight ranks views stands rows (comms ++ comm ∷ []) (next ++ progress.At 0 ∷ [])
-  right_added stand stands rows comms next comm right names derived = record {
+  pub right_added : (stand stands : List (Vec HandleState Global)) (rows : List (Vec GroupValue Global)) (comms : List Made) (next : List Progress) (inters : List Made) (comm : Made)
+      → IsRight ranks views stand rows comms next inters → NamesMembers comm.members.items (length comms) stand stands → IsDerivedComm ranks views comm
+      → IsRight ranks views stands rows (comms ++ comm ∷ []) (next ++ progress.At 0 ∷ []) inters
+  right_added stand stands rows comms next inters comm right names derived = record {
     comms_derive = derived_more ranks views comms comm right.comms_derive derived;
     handles_named = record {
       each = λ rank handle place e. elim (names.each rank handle place e) [
@@ -213,30 +229,36 @@ module _ (ranks : List RankCalls) (views : List RankView) where
     };
     read = read_more comms next comm right.read right.read_each derived;
     read_each = (let same : length next ≡ length comms = right.read_each in omega (arith, length-append next (progress.At 0 ∷ []), length-append comms (comm ∷ [])));
+    inters_derive = right.inters_derive;
+    sides = record { each = λ rank handle place second e. right.sides.each rank handle place second (names.inters rank handle place second e) };
   }
 
   -- one of the communicators
-  pub right_comm : (stand : List (Vec HandleState Global)) (rows : List (Vec GroupValue Global)) (comms : List Made) (next : List Progress) (at : ℕ) (comm : Made)
-      → IsRight ranks views stand rows comms next → slice_get comms at ≡ Some comm → IsDerivedComm ranks views comm
-  right_comm stand rows comms next at comm right here = right.comms_derive.each at comm here
+  pub right_comm : (stand : List (Vec HandleState Global)) (rows : List (Vec GroupValue Global)) (comms : List Made) (next : List Progress) (inters : List Made) (at : ℕ) (comm : Made)
+      → IsRight ranks views stand rows comms next inters → slice_get comms at ≡ Some comm → IsDerivedComm ranks views comm
+  right_comm stand rows comms next inters at comm right here = right.comms_derive.each at comm here
 
   -- Handles that are left out name nothing.
-  pub right_left : (stand stands : List (Vec HandleState Global)) (rows : List (Vec GroupValue Global)) (comms : List Made) (next : List Progress)
-      → IsRight ranks views stand rows comms next → KeepsDerived stand stands → IsRight ranks views stands rows comms next
-  right_left stand stands rows comms next right keeps = record {
+  pub right_left : (stand stands : List (Vec HandleState Global)) (rows : List (Vec GroupValue Global)) (comms : List Made) (next : List Progress) (inters : List Made)
+      → IsRight ranks views stand rows comms next inters → KeepsDerived stand stands → IsRight ranks views stands rows comms next inters
+  right_left stand stands rows comms next inters right keeps = record {
     comms_derive = right.comms_derive;
     handles_named = record { each = λ rank handle place e. right.handles_named.each rank handle place (keeps.each rank handle place e) };
     groups_derive = right.groups_derive;
     read = right.read;
     read_each = right.read_each;
+    inters_derive = right.inters_derive;
+    sides = record { each = λ rank handle place second e. right.sides.each rank handle place second (keeps.inters rank handle place second e) };
   }
 
-  pub right_refreshed : (stand : List (Vec HandleState Global)) (rows new : List (Vec GroupValue Global)) (comms : List Made) (next : List Progress)
-      → IsRight ranks views stand rows comms next → AreAllDerivedGroups ranks views comms new → IsRight ranks views stand new comms next
-  right_refreshed stand rows new comms next right groups = record {
+  pub right_refreshed : (stand : List (Vec HandleState Global)) (rows new : List (Vec GroupValue Global)) (comms : List Made) (next : List Progress) (inters : List Made)
+      → IsRight ranks views stand rows comms next inters → AreAllDerivedGroups ranks views comms new → IsRight ranks views stand new comms next inters
+  right_refreshed stand rows new comms next inters right groups = record {
     comms_derive = right.comms_derive;
     handles_named = right.handles_named;
     groups_derive = groups;
     read = right.read;
     read_each = right.read_each;
+    inters_derive = right.inters_derive;
+    sides = right.sides;
   }

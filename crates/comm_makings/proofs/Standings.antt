@@ -3,7 +3,7 @@ use Rattle.std.proofs.Common.{◌≡◌, ◌⊎◌, ℕ, List, Option, Some, Non
 use Rattle.std.specs.List.{slice_get}
 use Rattle.std.specs.declared.alloc.Global.{Global}
 use Rattle.comm_makings.specs.Derives.{member_with}
-use Rattle.comm_makings.specs.State.{BindsMember, IsMember, KeepsDerived, NamesMembers, SetsStanding, StandsFor, standing_at}
+use Rattle.comm_makings.specs.State.{BindsMember, KeepsDerived, NamesMembers, SetsStanding, standing_at}
 use Rattle.comm_makings.specs.declared.answer.Why.{Why}
 use Rattle.comm_makings.specs.declared.state.Member.{Member}
 use Rattle.comm_makings.specs.declared.state.HandleState.{HandleState}
@@ -46,19 +46,26 @@ keeps_set old new rank handle why sets = record {
     | inl before ↦ before
     | inr is ↦ absurd (cc)
   ];
+  inters = λ r h place second e. elim (sets.each r h (standings.Inter place second) e) [
+    | inl before ↦ before
+    | inr is ↦ absurd (cc)
+  ];
 }
 
 pub keeps_all : (rows : List (Vec HandleState Global)) → KeepsDerived rows rows
-keeps_all rows = record { each = λ rank handle place e. e }
+keeps_all rows = record { each = λ rank handle place e. e; inters = λ rank handle place second e. e }
 
 pub keeps_more : (old mid new : List (Vec HandleState Global)) → KeepsDerived old mid → KeepsDerived mid new → KeepsDerived old new
-keeps_more old mid new first then = record { each = λ rank handle place e. first.each rank handle place (then.each rank handle place e) }
+keeps_more old mid new first then = record {
+  each = λ rank handle place e. first.each rank handle place (then.each rank handle place e);
+  inters = λ rank handle place second e. first.inters rank handle place second (then.inters rank handle place second e);
+}
 
 abbrev member_of : ℕ → Option ℕ → Member
 member_of rank handle = record { rank = rank; handle = handle }
 
 -- the member that has this handle
-member_is : (member : Member) (rank handle : ℕ) → rank ≡ member.rank → member.handle ≡ Some handle → member ≡ member_with handle rank
+pub member_is : (member : Member) (rank handle : ℕ) → rank ≡ member.rank → member.handle ≡ Some handle → member ≡ member_with handle rank
 member_is member rank handle same named = ap (member_of member.rank) named ∙ ap (member_with handle) (sym same)
 
 -- a member's handle is bound
@@ -71,13 +78,17 @@ binds_set member place handle old new sets named = record {
         let same : at ≡ place = cc in
         inr (same, member_is member r h is.0 (named ∙ ap Some (sym is.1)))
   ];
+  inters = λ r h at second e. elim (sets.each r h (standings.Inter at second) e) [
+    | inl before ↦ before
+    | inr is ↦ absurd (cc)
+  ];
 }
 
 pub binds_none : (member : Member) (place : ℕ) (rows : List (Vec HandleState Global)) → BindsMember member place rows rows
-binds_none member place rows = record { each = λ r h at e. inl e }
+binds_none member place rows = record { each = λ r h at e. inl e; inters = λ r h at second e. e }
 
 pub names_none : (members : List Member) (place : ℕ) (rows : List (Vec HandleState Global)) → NamesMembers members place rows rows
-names_none members place rows = record { each = λ r h at e. inl e }
+names_none members place rows = record { each = λ r h at e. inl e; inters = λ r h at second e. e }
 
 -- one more member's handle is bound
 pub names_bound : (members : List Member) (place : ℕ) (old mid new : List (Vec HandleState Global)) (i : ℕ) (member : Member)
@@ -87,4 +98,5 @@ names_bound members place old mid new i member names binds here = record {
     | inl before ↦ names.each r h at before
     | inr is ↦ inr (is.0, (i, here ∙ ap Some is.1))
   ];
+  inters = λ r h at second e. names.inters r h at second (binds.inters r h at second e);
 }

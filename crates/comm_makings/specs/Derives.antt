@@ -1,10 +1,11 @@
 -- The communicators and groups that the calls of all ranks make, from the world on (MPI 4.0, chapters 7 and 8).
-use Rattle.std.specs.Prelude.{◌≡◌, ◌+◌, ℕ, ℤ, List, [], ◌∷◌, Option, Some, None, length, map, true, false}
+use Rattle.std.specs.Prelude.{◌≡◌, ◌+◌, ◌++◌, ℕ, ℤ, List, [], ◌∷◌, Option, Some, None, length, map, nat_le, not, true, false}
 use Rattle.std.specs.List.{filter_map, list_any, range_with_len, slice_get}
 use Rattle.std.specs.Option.{option_and_then, option_map}
 use Rattle.comm_groups.specs.Groups.{has}
 use Rattle.comm_makings.specs.Groups.{made_of_one, made_of_two}
 use Rattle.comm_makings.specs.Here.{call_at, gives_later, gives_unknown, here_at, kth_at, making_at, meant_at}
+use Rattle.comm_makings.specs.Intercomms.{IsJoining, IsMerge, first_size, is_copy, side, whole}
 use Rattle.comm_makings.specs.Made.{IsMakingOrder, member_at, own_order, world_order}
 use Rattle.comm_makings.specs.Makes.{AreGiven, IsMadeBy, IsOneMaking, said_by}
 use Rattle.comm_makings.specs.Selection.{Selection}
@@ -13,7 +14,6 @@ use Rattle.comm_makings.specs.declared.answer.MadeBy.{MadeBy}
 use Rattle.comm_makings.specs.declared.answer.MadeBy.TheVariants as functions
 use Rattle.comm_makings.specs.declared.calls.Action.{Action}
 use Rattle.comm_makings.specs.declared.calls.Action.TheVariants as actions
-use Rattle.comm_makings.specs.declared.calls.CommCall.{CommCall}
 use Rattle.comm_makings.specs.declared.calls.GroupCall.{GroupCall}
 use Rattle.comm_makings.specs.declared.calls.GroupCall.TheVariants as calls
 use Rattle.comm_makings.specs.declared.calls.Making.{Making}
@@ -21,19 +21,20 @@ use Rattle.comm_makings.specs.declared.calls.Making.TheVariants as makings
 use Rattle.comm_makings.specs.declared.calls.RankCalls.{RankCalls}
 use Rattle.comm_makings.specs.declared.handle.GroupAt.{GroupAt}
 use Rattle.comm_makings.specs.declared.handle.GroupAt.TheVariants as groups
-use Rattle.comm_makings.specs.declared.handle.Meant.{Meant}
 use Rattle.comm_makings.specs.declared.here.Here.{Here}
 use Rattle.comm_makings.specs.declared.state.Member.{Member}
 use Rattle.comm_makings.specs.declared.state.Order.{Order}
 use Rattle.comm_makings.specs.declared.view.RankView.{RankView}
 
 -- What may derive: a communicator, by its members in order, its dimensions and its order in a layout; that so many
--- makings of a parent are read, each of which agrees or is merely left out; and a group that a call of a rank names, by
--- its ranks.
+-- makings of a parent are read, each of which agrees or is merely left out; a group that a call of a rank names, by its
+-- ranks; and an intercommunicator, by the members of its two groups, one behind the other, the size of the second, and
+-- its order.
 pub data Thing : Type 0 where
   communicator : List Member → Option (List ℕ) → Order → Thing
   read_to : List Member → Option (List ℕ) → ℕ → Thing
   ranks_of : ℕ → GroupAt → List ℕ → Thing
+  intercomm : List Member → ℕ → Order → Thing
 
 -- a member of this rank, which names the communicator by this handle
 abbrev pub member_with : ℕ → ℕ → Member
@@ -84,6 +85,12 @@ second_meant views rank at = option_map (λ m. m.second) (meant_at views rank at
 abbrev pub is_of_comm : GroupCall → Type 0
 is_of_comm (calls.OfComm comm) = Unit {0}
 is_of_comm _ = ⊥
+
+-- The call is MPI_Comm_remote_group: it gives the group of an intercommunicator in which the caller isn't (MPI 4.0,
+-- 7.6.1).
+abbrev pub is_of_remote : GroupCall → Type 0
+is_of_remote (calls.OfRemote comm) = Unit {0}
+is_of_remote _ = ⊥
 
 -- the place of a rank's k-th call of MPI_Comm_create_group on a handle (MPI 4.0, 7.4.2)
 abbrev pub by_group_at : List RankView → ℕ → ℕ → ℕ → Option ℕ
@@ -183,6 +190,33 @@ pub data Derives (ranks : List RankCalls) (views : List RankView) : Thing → Ty
       → group_call_at ranks rank at ≡ Some call → first_meant views rank at ≡ Some group
       → Derives ranks views (ranks_of rank group others) → made_of_one call others ≡ Some made
       → Derives ranks views (ranks_of rank (groups.Given at) made)
+  -- The groups of two communicators are joined.
+  joined : (first second bridge : List Member) (first_dims second_dims bridge_dims : Option (List ℕ)) (first_order second_order bridge_order order : Order) (all : List (Option Here))
+      → Derives ranks views (communicator first first_dims first_order) → Derives ranks views (communicator second second_dims second_order)
+      → Derives ranks views (communicator bridge bridge_dims bridge_order)
+      → IsJoining ranks views first second bridge all → IsMakingOrder (whole (length (first ++ second))).places all order
+      → Derives ranks views (intercomm (members_at (first ++ second) all (whole (length (first ++ second))).places) (length second) order)
+  -- a duplicate of an intercommunicator, by the k-th calls of all its members
+  copied : (members : List Member) (remote_size : ℕ) (was order : Order) (k : ℕ) (function : MadeBy)
+      → Derives ranks views (intercomm members remote_size was)
+      → IsOneMaking function (kth_calls ranks views k members) → is_copy function ≡ true
+      → AreGiven (gives_later function) (kth_calls ranks views k members) (whole (length members) ∷ [])
+      → IsMakingOrder (whole (length members)).places (kth_calls ranks views k members) order
+      → Derives ranks views (intercomm (members_at members (kth_calls ranks views k members) (whole (length members)).places) remote_size order)
+  -- the two groups of an intercommunicator are merged
+  merged : (members : List Member) (remote_size : ℕ) (was order : Order) (all : List (Option Here)) (part : Selection)
+      → Derives ranks views (intercomm members remote_size was)
+      → IsMerge ranks views members (first_size members remote_size) all part → IsMakingOrder part.places all order
+      → Derives ranks views (communicator (members_at members all part.places) part.dims order)
+  -- the group of an intercommunicator in which a member is, and the other one
+  of_side : (members : List Member) (remote_size : ℕ) (order : Order) (rank at handle : ℕ) (call : GroupCall)
+      → Derives ranks views (intercomm members remote_size order) → (place : ℕ) → slice_get members place ≡ Some (member_with handle rank)
+      → group_call_at ranks rank at ≡ Some call → is_of_comm call → comm_meant views rank at ≡ Some handle
+      → Derives ranks views (ranks_of rank (groups.Given at) (side (nat_le (first_size members remote_size) place) (first_size members remote_size) (ranks_in members)))
+  of_remote : (members : List Member) (remote_size : ℕ) (order : Order) (rank at handle : ℕ) (call : GroupCall)
+      → Derives ranks views (intercomm members remote_size order) → (place : ℕ) → slice_get members place ≡ Some (member_with handle rank)
+      → group_call_at ranks rank at ≡ Some call → is_of_remote call → comm_meant views rank at ≡ Some handle
+      → Derives ranks views (ranks_of rank (groups.Given at) (side (not (nat_le (first_size members remote_size) place)) (first_size members remote_size) (ranks_in members)))
   of_two : (rank at : ℕ) (call : GroupCall) (first second : GroupAt) (ones others made : List ℕ)
       → group_call_at ranks rank at ≡ Some call → first_meant views rank at ≡ Some first → second_meant views rank at ≡ Some second
       → Derives ranks views (ranks_of rank first ones) → Derives ranks views (ranks_of rank second others) → made_of_two call ones others ≡ Some made

@@ -1,5 +1,5 @@
 -- The groups that a rank's calls give (MPI 4.0, 7.3.2), as far as the communicators are derived.
-use Rattle.std.specs.Prelude.{◌≡◌, ◌+◌, ◌-◌, ◌%◌, ◌==◌, ℕ, ℤ, suc, pos, negsuc, nat_abs, nat_le, Bool, true, false, List, [], ◌∷◌, Option, Some, None, cond}
+use Rattle.std.specs.Prelude.{◌≡◌, ◌+◌, ◌-◌, ◌%◌, ◌==◌, ℕ, ℤ, suc, pos, negsuc, nat_abs, nat_le, Bool, true, false, not, List, [], ◌∷◌, Option, Some, None, cond, drop, length, take}
 use Rattle.std.specs.List.{slice_get}
 use Rattle.std.specs.Option.{option_and_then, option_map}
 use Rattle.comm_groups.specs.Groups.{difference_of, excl_of, incl_of, intersection_of, union_of}
@@ -46,13 +46,6 @@ waits_at values groups.Empty = false
 waits_at values groups.Unknown = false
 waits_at values (groups.Given call) = waits_some (slice_get values call)
 
--- the group of a communicator, by how its handle stands
-abbrev pub group_of_comm : Option HandleState → GroupValue
-group_of_comm None = values.Unknown
-group_of_comm (Some standings.Open) = values.Waits
-group_of_comm (Some (standings.Derived place)) = values.Whole place
-group_of_comm (Some (standings.Left why)) = values.Unknown
-
 -- a group whose ranks are not known: they may become so, or not
 abbrev pub unlisted : Bool → GroupValue
 unlisted waits = cond waits values.Waits values.Unknown
@@ -62,6 +55,27 @@ abbrev pub IsListed : Option (List ℕ) → GroupValue → Type 0
 IsListed None value = value ≡ values.Unknown
 IsListed (Some ranks) (values.Listed list) = list.items ≡ ranks
 IsListed (Some ranks) _ = ⊥
+
+-- the ranks of one group of an intercommunicator, the second or the first
+abbrev pub side_ranks : Bool → Made → List ℕ
+side_ranks second inter = cond second (drop (length inter.ranks.items - inter.remote_size) inter.ranks.items) (take (length inter.ranks.items - inter.remote_size) inter.ranks.items)
+
+-- the same of the intercommunicator at a place
+abbrev pub group_of_side : List Made → ℕ → Bool → Option (List ℕ)
+group_of_side inters place second = option_map (side_ranks second) (slice_get inters place)
+
+-- the group of a rank in the second group or in the first, or the other one
+abbrev pub side_asked : Bool → Bool → Bool
+side_asked remote second = cond remote (not second) second
+
+-- The group of a communicator, by how its handle stands, or the remote group of an intercommunicator, which no other
+-- communicator has (MPI 4.0, 7.6).
+abbrev pub IsGroupOf : List Made → Bool → Option HandleState → GroupValue → Type 0
+IsGroupOf inters remote None value = value ≡ values.Unknown
+IsGroupOf inters remote (Some standings.Open) value = value ≡ values.Waits
+IsGroupOf inters remote (Some (standings.Derived place)) value = value ≡ cond remote values.Unknown (values.Whole place)
+IsGroupOf inters remote (Some (standings.Inter place second)) value = IsListed (group_of_side inters place (side_asked remote second)) value
+IsGroupOf inters remote (Some (standings.Left why)) value = value ≡ values.Unknown
 
 -- A rank that isn't below 0.
 abbrev pub rank_in : ℤ → Option ℕ
@@ -142,18 +156,19 @@ IsOfOneNamed comms values call meant value = (waits : Bool) × IsMadeOfOne call 
 
 -- The group that a call gives: of a communicator, by how its handle stands, or of one or two groups, where they are
 -- known.
-abbrev pub IsValueOf : GroupCall → Option HandleState → Option (List ℕ) → Option (List ℕ) → GroupValue → Type 0
-IsValueOf (calls.OfComm comm) standing first second value = value ≡ group_of_comm standing
-IsValueOf calls.Unread standing first second value = value ≡ values.Unknown
-IsValueOf (calls.Union a b) standing first second value = (waits : Bool) × IsMadeOfTwo (calls.Union a b) first second waits value
-IsValueOf (calls.Intersection a b) standing first second value = (waits : Bool) × IsMadeOfTwo (calls.Intersection a b) first second waits value
-IsValueOf (calls.Difference a b) standing first second value = (waits : Bool) × IsMadeOfTwo (calls.Difference a b) first second waits value
-IsValueOf (calls.Incl group ranks) standing first second value = (waits : Bool) × IsMadeOfOne (calls.Incl group ranks) first waits value
-IsValueOf (calls.Excl group ranks) standing first second value = (waits : Bool) × IsMadeOfOne (calls.Excl group ranks) first waits value
-IsValueOf (calls.RangeIncl group ranges) standing first second value = (waits : Bool) × IsMadeOfOne (calls.RangeIncl group ranges) first waits value
-IsValueOf (calls.RangeExcl group ranges) standing first second value = (waits : Bool) × IsMadeOfOne (calls.RangeExcl group ranges) first waits value
+abbrev pub IsValueOf : List Made → GroupCall → Option HandleState → Option (List ℕ) → Option (List ℕ) → GroupValue → Type 0
+IsValueOf inters (calls.OfComm comm) standing first second value = IsGroupOf inters false standing value
+IsValueOf inters (calls.OfRemote comm) standing first second value = IsGroupOf inters true standing value
+IsValueOf inters calls.Unread standing first second value = value ≡ values.Unknown
+IsValueOf inters (calls.Union a b) standing first second value = (waits : Bool) × IsMadeOfTwo (calls.Union a b) first second waits value
+IsValueOf inters (calls.Intersection a b) standing first second value = (waits : Bool) × IsMadeOfTwo (calls.Intersection a b) first second waits value
+IsValueOf inters (calls.Difference a b) standing first second value = (waits : Bool) × IsMadeOfTwo (calls.Difference a b) first second waits value
+IsValueOf inters (calls.Incl group ranks) standing first second value = (waits : Bool) × IsMadeOfOne (calls.Incl group ranks) first waits value
+IsValueOf inters (calls.Excl group ranks) standing first second value = (waits : Bool) × IsMadeOfOne (calls.Excl group ranks) first waits value
+IsValueOf inters (calls.RangeIncl group ranges) standing first second value = (waits : Bool) × IsMadeOfOne (calls.RangeIncl group ranges) first waits value
+IsValueOf inters (calls.RangeExcl group ranges) standing first second value = (waits : Bool) × IsMadeOfOne (calls.RangeExcl group ranges) first waits value
 
 -- the same, by how the handles of the rank stand and what the groups of its other calls are
-abbrev pub IsValueNamed : List HandleState → List GroupValue → List Made → GroupCall → Meant → GroupValue → Type 0
-IsValueNamed standings values comms call meant value =
-    IsValueOf call (option_and_then (slice_get standings) meant.comm) (ranks_at comms values meant.group) (ranks_at comms values meant.second) value
+abbrev pub IsValueNamed : List HandleState → List GroupValue → List Made → List Made → GroupCall → Meant → GroupValue → Type 0
+IsValueNamed standings values comms inters call meant value =
+    IsValueOf inters call (option_and_then (slice_get standings) meant.comm) (ranks_at comms values meant.group) (ranks_at comms values meant.second) value

@@ -1,12 +1,12 @@
 -- What is left out: each communicator that a call gives and that isn't derived, with the calls of the profile that name
 -- it.
-use Rattle.std.specs.Prelude.{◌≡◌, ◌⊎◌, ℕ, Bool, true, false, List, Option, Some, None, cond, length, nat_lt, unwrap_or}
-use Rattle.std.specs.List.{Contains, filter_map, flat_map, range_with_len, slice_get}
+use Rattle.std.specs.Prelude.{ℕ, Bool, true, false, List, Option, Some, None, cond, length, nat_lt, unwrap_or}
+use Rattle.std.specs.List.{filter_map, flat_map, range_with_len, slice_get}
 use Rattle.std.specs.Option.{option_and_then, option_map}
 use Rattle.std.specs.Prelude.{Vec}
 use Rattle.std.specs.declared.alloc.Global.{Global}
 use Rattle.comm_makings.specs.Here.{call_at, function_of, gives_later, meant_at}
-use Rattle.comm_makings.specs.State.{IsMemberOf, standing_at}
+use Rattle.comm_makings.specs.State.{standing_at}
 use Rattle.comm_makings.specs.Uses.{count_at}
 use Rattle.comm_makings.specs.declared.answer.LeftOut.{LeftOut}
 use Rattle.comm_makings.specs.declared.answer.MadeBy.{MadeBy}
@@ -26,7 +26,6 @@ use Rattle.comm_makings.specs.declared.left.Giver.{Giver}
 use Rattle.comm_makings.specs.declared.left.Reason.{Reason}
 use Rattle.comm_makings.specs.declared.state.HandleState.{HandleState}
 use Rattle.comm_makings.specs.declared.state.HandleState.TheVariants as standings
-use Rattle.comm_makings.specs.declared.state.Made.{Made}
 use Rattle.comm_makings.specs.declared.uses.HandleUses.{HandleUses}
 use Rattle.comm_makings.specs.declared.view.RankView.{RankView}
 
@@ -38,13 +37,16 @@ number_said _ = None
 -- the function of a call that gives a communicator, and the number that it gives
 abbrev pub giving : Action → Option Giver
 giving (actions.Make parent making given) = Some (record { made_by = function_of making; number = number_said given })
-giving (actions.GivesComm comm given) = Some (record { made_by = functions.Other; number = number_said given })
+giving (actions.Join local leaders given) = Some (record { made_by = functions.IntercommCreate; number = number_said given })
+giving (actions.Merge comm high given) = Some (record { made_by = functions.IntercommMerge; number = number_said given })
+giving (actions.GivesComm maker comm given) = Some (record { made_by = functions.Other maker; number = number_said given })
 giving _ = None
 
--- Why a handle is left out of which nothing was derived: by its function, by a parent that is left out, or by one that
--- is unknown.
+-- Why a handle is left out of which nothing was derived: by its function, since no leader answers, by a parent that is
+-- left out, or by one that is unknown.
 abbrev pub why_open : MadeBy → Bool → Why
-why_open functions.Other known = whys.Function
+why_open (functions.Other maker) known = whys.Function
+why_open functions.IntercommCreate known = whys.Untold
 why_open _ true = whys.Parent
 why_open _ false = whys.UnknownParent
 
@@ -53,6 +55,7 @@ abbrev pub why_left : Option HandleState → MadeBy → Bool → Option Why
 why_left None function known = Some (why_open function known)
 why_left (Some standings.Open) function known = Some (why_open function known)
 why_left (Some (standings.Derived place)) function known = None
+why_left (Some (standings.Inter place second)) function known = None
 why_left (Some (standings.Left why)) function known = Some why
 
 -- a reason, with the handle

@@ -16,9 +16,11 @@ pub mod Naming
 pub mod Views
 pub mod Makes
 pub mod Untold
+pub mod Intercomms
 pub mod Derives
 pub mod Offers
 pub mod State
+pub mod Offering
 pub mod ByGroups
 pub mod Left
 pub mod Derived

@@ -1,5 +1,5 @@
 -- What the calls of a communicator's members make together (MPI 4.0, chapters 7 and 8).
-use Rattle.std.specs.Prelude.{◌≡◌, ◌<◌, ◌≤◌, ◌⊎◌, ◌||◌, ℕ, ℤ, pos, Bool, true, false, not, List, [], ◌∷◌, Option, Some, None, All, is_some, length, map}
+use Rattle.std.specs.Prelude.{◌≡◌, ◌<◌, ◌≤◌, ◌⊎◌, ◌||◌, ℕ, ℤ, pos, Bool, true, false, not, List, Option, Some, None, All, is_some, length, map}
 use Rattle.std.specs.List.{filter_map, list_any, range_with_len, slice_get}
 use Rattle.comm_groups.specs.Grids.{AreParts, kept, size_within}
 use Rattle.comm_groups.specs.Groups.{has}
@@ -200,7 +200,9 @@ IsMadeBy ranks views dims all functions.DistGraphCreate parts = IsDistGraphMade 
 IsMadeBy ranks views dims all functions.DistGraphCreateAdjacent parts = IsDistGraphMade ranks views all parts
 IsMadeBy ranks views dims all functions.Create parts = ⊥
 IsMadeBy ranks views dims all functions.CreateGroup parts = ⊥
-IsMadeBy ranks views dims all functions.Other parts = ⊥
+IsMadeBy ranks views dims all functions.IntercommCreate parts = ⊥
+IsMadeBy ranks views dims all functions.IntercommMerge parts = ⊥
+IsMadeBy ranks views dims all (functions.Other maker) parts = ⊥
 
 -- The calls are one making of this function: those that are there call it, and what they give can be read.
 pub record IsOneMaking (function : MadeBy) (all : List (Option Here)) : Type 0 where

@@ -54,6 +54,7 @@ first_naming world own = record { handles = first_handles world own; comms = λ 
 -- the number of the communicator whose group a call gives
 abbrev pub comm_of_group : GroupCall → Option ℕ
 comm_of_group (calls.OfComm comm) = comm
+comm_of_group (calls.OfRemote comm) = comm
 comm_of_group _ = None
 
 -- the number of the communicator that a call names
@@ -62,7 +63,9 @@ comm_named (actions.Make parent making given) = parent
 comm_named (actions.CommRank comm rank) = comm
 comm_named (actions.Free comm) = comm
 comm_named (actions.Group group given) = comm_of_group group
-comm_named (actions.GivesComm comm given) = comm
+comm_named (actions.Join local leaders given) = local
+comm_named (actions.Merge comm high given) = comm
+comm_named (actions.GivesComm maker comm given) = comm
 comm_named (actions.MakeObject maker parent given) = parent
 comm_named (actions.EndObject object number) = None
 
@@ -75,6 +78,7 @@ group_of_making _ = named.Unknown
 -- the group that a call makes another of, or the first of two
 abbrev pub first_of_group : GroupCall → GroupName
 first_of_group (calls.OfComm comm) = named.Unknown
+first_of_group (calls.OfRemote comm) = named.Unknown
 first_of_group (calls.Incl group ranks) = group
 first_of_group (calls.Excl group ranks) = group
 first_of_group (calls.RangeIncl group ranges) = group
@@ -102,10 +106,17 @@ abbrev pub second_named : Action → GroupName
 second_named (actions.Group group given) = second_of_group group
 second_named _ = named.Unknown
 
+-- the number of the communicator of two leaders that a call names
+abbrev pub bridge_of : Action → Option ℕ
+bridge_of (actions.Join local leaders given) = leaders.bridge
+bridge_of _ = None
+
 -- what a call gives
 abbrev pub gives_by : (ℕ → Bool) → ℕ → Bool → Action → Gives
 gives_by taken place returned (actions.Make parent making given) = gives_of taken returned given place
-gives_by taken place returned (actions.GivesComm comm given) = gives_of taken returned given place
+gives_by taken place returned (actions.Join local leaders given) = gives_of taken returned given place
+gives_by taken place returned (actions.Merge comm high given) = gives_of taken returned given place
+gives_by taken place returned (actions.GivesComm maker comm given) = gives_of taken returned given place
 gives_by taken place returned _ = gives.Nothing
 
 -- what a call gives, as these names say
@@ -119,6 +130,7 @@ meant_of_action taken naming returned action = record {
   gives = gives_by taken (length naming.handles) returned action;
   group = group_at naming.groups (group_named action);
   second = group_at naming.groups (second_named action);
+  bridge = option_and_then naming.comms (bridge_of action);
 }
 
 -- the same, as these names say
@@ -184,7 +196,9 @@ after_action taken at naming call (actions.Make parent making given) = after_giv
 after_action taken at naming call (actions.CommRank comm rank) = naming
 after_action taken at naming call (actions.Free comm) = after_free taken naming (next_call call.call) comm
 after_action taken at naming call (actions.Group group given) = after_group at naming call given
-after_action taken at naming call (actions.GivesComm comm given) = after_given taken naming call given
+after_action taken at naming call (actions.Join local leaders given) = after_given taken naming call given
+after_action taken at naming call (actions.Merge comm high given) = after_given taken naming call given
+after_action taken at naming call (actions.GivesComm maker comm given) = after_given taken naming call given
 after_action taken at naming call (actions.MakeObject maker parent given) = naming
 after_action taken at naming call (actions.EndObject object number) = naming
 

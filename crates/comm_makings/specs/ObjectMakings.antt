@@ -133,6 +133,7 @@ pub record IsMadeOf (ranks : List RankCalls) (views : List RankView) (object : O
   pub members : made.members.items ≡ map (made_member ranks views object k) comm.members.items
   pub same_ranks : made.ranks.items ≡ comm.ranks.items
   pub no_dims : list_in made.dims ≡ None
+  pub one_group : made.remote_size ≡ 0
   pub order : made.order ≡ record { class = 2; call = first.call; rank = first.rank }
 
 -- the k-th object, where the members' calls are one making

@@ -1,11 +1,12 @@
 -- What is derived so far is right: each communicator and each group is one that derives, and a handle that stands for a
 -- derived communicator is that of one of its members.
-use Rattle.std.specs.Prelude.{◌≡◌, ◌⊎◌, ◌+◌, ℕ, Bool, true, false, List, Option, Some, None, Vec, length}
+use Rattle.std.specs.Prelude.{◌≡◌, ◌⊎◌, ◌+◌, ℕ, Bool, true, false, List, Option, Some, None, Vec, length, nat_le}
 use Rattle.std.specs.List.{slice_get}
 use Rattle.std.specs.Option.{option_and_then}
 use Rattle.std.specs.declared.alloc.Global.{Global}
-use Rattle.comm_makings.specs.Derives.{Derives, communicator, kth_calls, member_with, members_at, ranks_in, ranks_of, read_to}
+use Rattle.comm_makings.specs.Derives.{Derives, communicator, intercomm, kth_calls, member_with, members_at, ranks_in, ranks_of, read_to}
 use Rattle.comm_makings.specs.Each.{list_in}
+use Rattle.comm_makings.specs.Intercomms.{first_size}
 use Rattle.comm_makings.specs.Made.{IsMakingOrder}
 use Rattle.comm_makings.specs.Selection.{Selection}
 use Rattle.comm_makings.specs.declared.calls.RankCalls.{RankCalls}
@@ -35,6 +36,16 @@ dims_of comm = list_in comm.dims
 pub record IsDerivedComm (ranks : List RankCalls) (views : List RankView) (comm : Made) : Type 0 where
   pub derives : Derives ranks views (communicator comm.members.items (dims_of comm) comm.order)
   pub same_ranks : comm.ranks.items ≡ ranks_in comm.members.items
+  pub one_group : comm.remote_size ≡ 0
+
+-- an intercommunicator that derives, with its ranks beside its members
+pub record IsDerivedInter (ranks : List RankCalls) (views : List RankView) (inter : Made) : Type 0 where
+  pub derives : Derives ranks views (intercomm inter.members.items inter.remote_size inter.order)
+  pub same_ranks : inter.ranks.items ≡ ranks_in inter.members.items
+
+-- Each of these intercommunicators derives.
+pub record AreInters (ranks : List RankCalls) (views : List RankView) (inters : List Made) : Type 0 where
+  pub each : (at : ℕ) (inter : Made) → slice_get inters at ≡ Some inter → IsDerivedInter ranks views inter
 
 -- Each of these communicators derives.
 pub record AreDerived (ranks : List RankCalls) (views : List RankView) (comms : List Made) : Type 0 where
@@ -58,9 +69,29 @@ pub record IsMemberOf (comms : List Made) (place rank handle : ℕ) : Type 0 whe
   pub here : slice_get comms place ≡ Some comm
   pub member : IsMember comm.members.items rank handle
 
--- A handle stands for a communicator only where it is that of a member.
-pub record AreMembersIn (comms : List Made) (rank : ℕ) (row : List HandleState) : Type 0 where
+-- A handle of a rank stands for the derived intercommunicator at this place, of whose groups the rank is in the second
+-- or in the first.
+abbrev pub StandsInter : List (Vec HandleState Global) → ℕ → ℕ → ℕ → Bool → Type 0
+StandsInter rows rank handle place second = standing_at rows rank handle ≡ Some (standings.Inter place second)
+
+-- The rank is a member, by this handle, of the second group or of the first, which has so many members.
+abbrev pub IsOfSide : List Member → ℕ → ℕ → ℕ → Bool → Type 0
+IsOfSide members size rank handle second = (place : ℕ) × (slice_get members place ≡ Some (member_with handle rank)) × (nat_le size place ≡ second)
+
+-- The same of the intercommunicator at this place.
+pub record IsSideOf (inters : List Made) (place rank handle : ℕ) (second : Bool) : Type 0 where
+  pub inter : Made
+  pub here : slice_get inters place ≡ Some inter
+  pub member : IsOfSide inter.members.items (first_size inter.members.items inter.remote_size) rank handle second
+
+-- A handle of any rank stands for an intercommunicator only where the rank is a member of it by that handle.
+pub record AreInterMembers (inters : List Made) (rows : List (Vec HandleState Global)) : Type 0 where
+  pub each : (rank handle place : ℕ) (second : Bool) → StandsInter rows rank handle place second → IsSideOf inters place rank handle second
+
+-- A handle stands for a communicator or an intercommunicator only where it is that of a member.
+pub record AreMembersIn (comms inters : List Made) (rank : ℕ) (row : List HandleState) : Type 0 where
   pub each : (handle place : ℕ) → slice_get row handle ≡ Some (standings.Derived place) → IsMemberOf comms place rank handle
+  pub sides : (handle place : ℕ) (second : Bool) → slice_get row handle ≡ Some (standings.Inter place second) → IsSideOf inters place rank handle second
 
 -- A handle of any rank stands for a communicator only where the rank is a member of it by that handle.
 pub record AreMembers (comms : List Made) (rows : List (Vec HandleState Global)) : Type 0 where
@@ -97,20 +128,23 @@ pub record KeepsComms (old new : List Made) : Type 0 where
 
 -- What is derived so far is right: the communicators and groups derive, and handles stand for communicators only as
 -- those of members.
-pub record IsRight (ranks : List RankCalls) (views : List RankView) (stand : List (Vec HandleState Global)) (groups : List (Vec GroupValue Global)) (comms : List Made) (next : List Progress) : Type 0 where
+pub record IsRight (ranks : List RankCalls) (views : List RankView) (stand : List (Vec HandleState Global)) (groups : List (Vec GroupValue Global)) (comms : List Made) (next : List Progress) (inters : List Made) : Type 0 where
   pub comms_derive : AreDerived ranks views comms
   pub handles_named : AreMembers comms stand
   pub groups_derive : AreAllDerivedGroups ranks views comms groups
   pub read : AreRead ranks views comms next
   pub read_each : length next ≡ length comms
+  pub inters_derive : AreInters ranks views inters
+  pub sides : AreInterMembers inters stand
 
 -- The same of a run.
 abbrev pub IsRun : List RankCalls → List RankView → Run → Type 0
-IsRun ranks views run = IsRight ranks views run.standings.items run.values.items run.comms.items run.next.items
+IsRun ranks views run = IsRight ranks views run.standings.items run.values.items run.comms.items run.next.items run.inters.items
 
--- A handle stands for a derived communicator only where it did before.
+-- A handle stands for a derived communicator or intercommunicator only where it did before.
 pub record KeepsDerived (old new : List (Vec HandleState Global)) : Type 0 where
   pub each : (rank handle place : ℕ) → StandsFor new rank handle place → StandsFor old rank handle place
+  pub inters : (rank handle place : ℕ) (second : Bool) → StandsInter new rank handle place second → StandsInter old rank handle place second
 
 -- Only this handle stands otherwise than before.
 pub record SetsStanding (old new : List (Vec HandleState Global)) (rank handle : ℕ) (standing : HandleState) : Type 0 where
@@ -119,14 +153,30 @@ pub record SetsStanding (old new : List (Vec HandleState Global)) (rank handle :
 -- The member's handle may stand for the communicator at this place, and otherwise none that did not before.
 pub record BindsMember (member : Member) (place : ℕ) (old new : List (Vec HandleState Global)) : Type 0 where
   pub each : (rank handle at : ℕ) → StandsFor new rank handle at → StandsFor old rank handle at ⊎ ((at ≡ place) × (member ≡ member_with handle rank))
+  pub inters : (rank handle at : ℕ) (second : Bool) → StandsInter new rank handle at second → StandsInter old rank handle at second
 
 -- The same of all members.
 pub record NamesMembers (members : List Member) (place : ℕ) (old new : List (Vec HandleState Global)) : Type 0 where
   pub each : (rank handle at : ℕ) → StandsFor new rank handle at → StandsFor old rank handle at ⊎ ((at ≡ place) × IsMember members rank handle)
+  pub inters : (rank handle at : ℕ) (second : Bool) → StandsInter new rank handle at second → StandsInter old rank handle at second
 
--- No handle of a rank stands for a communicator.
+-- The member's handle may stand for the intercommunicator at this place, as one of this group, and otherwise none that
+-- did not before.
+pub record BindsInter (member : Member) (place : ℕ) (second : Bool) (old new : List (Vec HandleState Global)) : Type 0 where
+  pub each : (rank handle at : ℕ) → StandsFor new rank handle at → StandsFor old rank handle at
+  pub inters : (rank handle at : ℕ) (side : Bool) → StandsInter new rank handle at side
+      → StandsInter old rank handle at side ⊎ ((at ≡ place) × (side ≡ second) × (member ≡ member_with handle rank))
+
+-- The same of all members, of which the first so many are the first group.
+pub record NamesInter (members : List Member) (size place : ℕ) (old new : List (Vec HandleState Global)) : Type 0 where
+  pub each : (rank handle at : ℕ) → StandsFor new rank handle at → StandsFor old rank handle at
+  pub inters : (rank handle at : ℕ) (second : Bool) → StandsInter new rank handle at second
+      → StandsInter old rank handle at second ⊎ ((at ≡ place) × IsOfSide members size rank handle second)
+
+-- No handle of a rank stands for a communicator or an intercommunicator.
 pub record NoneStands (row : List HandleState) : Type 0 where
   pub each : (handle place : ℕ) → slice_get row handle ≡ Some (standings.Derived place) → ⊥
+  pub inters : (handle place : ℕ) (second : Bool) → slice_get row handle ≡ Some (standings.Inter place second) → ⊥
 
 -- No handle of any rank stands for a communicator.
 pub record NoneStandsAt (rows : List (Vec HandleState Global)) : Type 0 where
@@ -182,6 +232,7 @@ pub record IsMadeOf (members : List Member) (all : List (Option Here)) (part : S
   pub same_ranks : comm.ranks.items ≡ ranks_in comm.members.items
   pub dims : dims_of comm ≡ part.dims
   pub order : IsMakingOrder part.places all comm.order
+  pub one_group : comm.remote_size ≡ 0
 
 -- the communicator of one of these parts
 abbrev pub IsOfPart : List Member → List (Option Here) → List Selection → Made → Type 0
@@ -221,3 +272,4 @@ pub record IsFirstComm (members : List Member) (placed : Order) (comm : Made) : 
   pub same_ranks : comm.ranks.items ≡ ranks_in members
   pub dims : dims_of comm ≡ None
   pub order : comm.order ≡ placed
+  pub one_group : comm.remote_size ≡ 0

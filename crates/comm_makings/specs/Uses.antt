@@ -15,7 +15,6 @@ use Rattle.comm_makings.specs.declared.answer.Choice.TheVariants as choices
 use Rattle.comm_makings.specs.declared.calls.Action.{Action}
 use Rattle.comm_makings.specs.declared.calls.Action.TheVariants as actions
 use Rattle.comm_makings.specs.declared.calls.CommCall.{CommCall}
-use Rattle.comm_makings.specs.declared.calls.Making.{Making}
 use Rattle.comm_makings.specs.declared.calls.Making.TheVariants as makings
 use Rattle.comm_makings.specs.declared.calls.RankCalls.{RankCalls}
 use Rattle.comm_makings.specs.declared.calls.Uses.{Uses}
@@ -73,7 +72,9 @@ abbrev pub number_on : Action → Option ℕ
 number_on (actions.Make parent (makings.CreateGroup group tag) given) = None
 number_on (actions.Make parent making given) = parent
 number_on (actions.Free comm) = comm
-number_on (actions.GivesComm comm given) = comm
+number_on (actions.Join local leaders given) = local
+number_on (actions.Merge comm high given) = comm
+number_on (actions.GivesComm maker comm given) = comm
 number_on (actions.MakeObject maker parent given) = parent
 number_on _ = None
 

@@ -84,10 +84,12 @@ pub record HasNumber (views : List RankView) (uses : List HandleUses) (made : Ma
 abbrev pub IsNamedIn : List RankView → AllUses → Made → Communicator → Type 0
 IsNamedIn views uses made comm = ((comm.numbers ≡ []) × HasNumber views uses.comms.items made comm.comm) ⊎ (comm.numbers ≡ map (entry_of views (uses_by uses made.object) made.object) made.members.items)
 
--- What a layout has of a derived communicator, window or file has its sort, and its ranks in their order.
+-- What a layout has of a derived communicator, window or file has its sort, and its ranks in their order; of an
+-- intercommunicator also the size of the second group.
 pub record IsWrittenOf (views : List RankView) (uses : AllUses) (made : Made) (comm : Communicator) : Type 0 where
   pub sort : comm.object ≡ made.object
   pub members : comm.members ≡ made.ranks.items
+  pub groups : comm.remote_size ≡ made.remote_size
   pub named : IsNamedIn views uses made comm
 
 -- the world in a layout of so many ranks
@@ -95,6 +97,7 @@ pub record IsWorld (world count : ℕ) (comm : Communicator) : Type 0 where
   pub id : comm.comm ≡ world
   pub sort : comm.object ≡ objects.Communicator
   pub members : comm.members ≡ range_with_len 0 count
+  pub groups : comm.remote_size ≡ 0
   pub numbers : comm.numbers ≡ []
 
 -- a call names it, or one that doesn't end it, as is chosen

@@ -1,5 +1,6 @@
 //! What is derived: the communicators of a layout, and what is left out of it.
 
+use crate::calls::OtherMaker;
 use mpi_model::Comm;
 
 /// Which communicators, windows and files are written.
@@ -53,8 +54,10 @@ pub enum MadeBy {
     GraphCreate,
     DistGraphCreate,
     DistGraphCreateAdjacent,
-    /// Another function, whose communicators aren't derived.
-    Other,
+    IntercommCreate,
+    IntercommMerge,
+    /// A function whose communicators aren't derived.
+    Other(OtherMaker),
 }
 
 /// Why a communicator is left out.
@@ -69,7 +72,7 @@ pub enum Why {
     /// Its parent is left out.
     Parent,
     /// A member of the parent has no such call, or no call tells the ranks of one that is reordered, or the parent has
-    /// no known dimensions.
+    /// no known dimensions; or no leader of another group answers a MPI_Intercomm_create.
     Untold,
     /// The members' calls differ where they have to agree, or a parameter is unknown.
     Unsound,

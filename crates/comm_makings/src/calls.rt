@@ -69,8 +69,22 @@ pub enum Action {
         group: GroupCall,
         given: GroupName,
     },
+    /// MPI_Intercomm_create, which joins the group of a communicator with another (MPI 4.0, 7.6.2).
+    Join {
+        local: Option<u32>,
+        leaders: Leaders,
+        given: Given,
+    },
+    /// MPI_Intercomm_merge, which makes one group of the two of an intercommunicator (MPI 4.0, 7.6.2).
+    Merge {
+        comm: Option<u32>,
+        /// Whether the caller's group comes behind the other.
+        high: Option<bool>,
+        given: Given,
+    },
     /// Another call that gives a communicator: nothing is derived from it. It may be one on a communicator.
     GivesComm {
+        maker: OtherMaker,
         comm: Option<u32>,
         given: Given,
     },
@@ -88,14 +102,40 @@ pub enum Action {
     },
 }
 
+/// How two groups find each other that are joined: what their leaders say of it counts alone.
+#[derive(Clone, Copy)]
+pub struct Leaders {
+    /// The leader of the caller's group, a rank of its communicator.
+    pub own: Option<u32>,
+    /// The number of the communicator that has both leaders.
+    pub bridge: Option<u32>,
+    /// The leader of the other group, a rank of that.
+    pub other: Option<u32>,
+    pub tag: Option<i32>,
+}
+
 /// The calls that make windows (MPI 4.0, 12.2) and files (14.2.1).
-#[derive(Clone, Copy, Debug, PartialEq, Eq)]
+#[derive(Clone, Copy, PartialEq, Eq)]
 pub enum ObjectMaker {
     WinCreate,
     WinAllocate,
     WinAllocateShared,
     WinCreateDynamic,
     FileOpen,
+}
+
+/// The other calls that give communicators (MPI 4.0, 7.4.2, 7.6.2 and 11.8 to 11.10).
+#[derive(Clone, Copy, Debug, PartialEq, Eq)]
+pub enum OtherMaker {
+    SplitType,
+    Accept,
+    Connect,
+    CreateFromGroup,
+    IntercommCreateFromGroups,
+    Spawn,
+    SpawnMultiple,
+    Join,
+    GetParent,
 }
 
 /// Whether the call makes a window or a file.
@@ -197,6 +237,10 @@ pub enum GroupName {
 pub enum GroupCall {
     /// MPI_Comm_group.
     OfComm {
+        comm: Option<u32>,
+    },
+    /// MPI_Comm_remote_group.
+    OfRemote {
         comm: Option<u32>,
     },
     Incl {

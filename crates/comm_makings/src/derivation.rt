@@ -96,6 +96,7 @@ fn answer_of(
     let uses = all_uses(alloc, ranks, views)?;
     let left_out = left_out(alloc, ranks, views, &uses.comms, &run.standings)?;
     let mut objects = objects_of(alloc, ranks, views, &run.comms)?;
+    run.comms.append(&mut run.inters)?;
     run.comms.append(&mut objects)?;
     let comms = written(
         alloc,

@@ -4,7 +4,7 @@ ghost use Rattle.std.specs.Prelude.{◌≡◌, ◌≤◌, ◌<◌, ◌^◌, ◌�
 ghost use Rattle.std.specs.List.{filter_map, list_all, slice_get};
 ghost use Rattle.std.specs.Option.{option_copied};
 ghost use Rattle.comm_makings.specs.Each.{list_in};
-ghost use Rattle.comm_makings.specs.Makes.{AllSay, AreSaidAlike, AreSilent, IsDistGraphMade, IsGraph, IsGrid, IsPartOfGrid, IsSilent, IsTopology, MaySay, Says, dims_fit, dims_in, nodes_in, remain_in, reorder_in, said_by};
+ghost use Rattle.comm_makings.specs.Makes.{AllSay, AreSaidAlike, AreSilent, IsDistGraphMade, IsGraph, IsGrid, IsPartOfGrid, IsSilent, IsReordered, IsTopology, MaySay, Says, dims_fit, dims_in, nodes_in, remain_in, reorder_in, said_by};
 ghost use Rattle.comm_makings.specs.Parts.{IsUnsound, IsUntold};
 ghost use Rattle.comm_makings.specs.Reordered.{AreReturned, IsInToldOrder, IsOfTold, differs, given_places, is_returned, others_given, told_at, told_here, told_ranks};
 ghost use Rattle.comm_makings.specs.State.{IfParts, dims_of};
@@ -399,6 +399,20 @@ fn reordered(
     }
     let told = told_ranks(alloc, views, all)?;
     told_part(alloc, &places, told, dims)
+}
+
+/// All members, in the order of the ranks that they are told on the communicator that each gets.
+pub(crate) fn told_order(
+    alloc: Global,
+    views: &[RankView],
+    all: &[Option<Here>],
+) -> Result<Outcome, AllocError>
+    ensures { IfOk result (IfParts (IsReordered views.now all.now None)) }
+{
+    let Ok(count) = u32::try_from(all.len()) else {
+        return Ok(Outcome::Unsound);
+    };
+    reordered(alloc, views, all, Some(count), None)
 }
 
 /// The members at these places, in the order of the ranks that they are told.

@@ -1,15 +1,16 @@
 //! The groups that a rank's calls give (MPI 4.0, 7.3.2).
 
-ghost use Rattle.std.specs.Prelude.{◌≡◌, IfOk};
+ghost use Rattle.std.specs.Prelude.{◌≡◌, IfOk, cond};
+ghost use Rattle.comm_makings.specs.declared.group_value.GroupValue.TheVariants as values;
 ghost use Rattle.comm_groups.specs.Ranges.{range_excl_of, range_incl_of};
 ghost use Rattle.std.specs.List.{slice_get};
 ghost use Rattle.std.specs.Option.{option_and_then, option_copied};
 ghost use Rattle.comm_makings.specs.Each.{list_in};
-ghost use Rattle.comm_makings.specs.Groups.{IsListed, IsMadeOfTwo, IsOfOneNamed, IsOfTwoNamed, IsValueNamed, group_of_comm, is_known, last_from, last_of, made_of_one, made_of_two, range_of, ranges_of, ranks_at, ranks_of, unlisted, waits, waits_at};
+ghost use Rattle.comm_makings.specs.Groups.{IsGroupOf, IsListed, IsMadeOfTwo, IsOfOneNamed, IsOfTwoNamed, IsValueNamed, group_of_side, is_known, side_asked, last_from, last_of, made_of_one, made_of_two, range_of, ranges_of, ranks_at, ranks_of, unlisted, waits, waits_at};
 
 use crate::calls::{GroupCall, RankRange};
 use crate::handle::{GroupAt, Meant};
-use crate::state::{HandleState, Made};
+use crate::state::{HandleState, Made, copy_of};
 use std::alloc::{AllocError, Global};
 
 /// A group that a call gives.
@@ -75,15 +76,65 @@ pub(crate) fn waits_at(values: &[GroupValue], group: GroupAt) -> bool
     }
 }
 
-/// The group of a communicator, by how its handle stands.
-fn group_of(standing: Option<HandleState>) -> GroupValue
-    ensures { result ≡ group_of_comm standing }
+/// The ranks of one group of an intercommunicator, the second or the first.
+fn group_of_side(inters: &[Made], place: usize, second: bool) -> Option<&[u32]>
+    ensures { option_copied result ≡ group_of_side inters.now place second }
+{
+    let inter = inters.get(place)?;
+    let size = inter.ranks.len().saturating_sub(inter.remote_size);
+    if second {
+        Some(&inter.ranks[size..])
+    } else {
+        Some(&inter.ranks[..size])
+    }
+}
+
+/// The group of a rank in the second group or in the first, or the other one.
+fn side_asked(remote: bool, second: bool) -> bool
+    ensures { result ≡ side_asked remote second }
+{
+    if remote { !second } else { second }
+}
+
+/// A copy of the ranks, where there are some.
+fn copied(alloc: Global, ranks: Option<&[u32]>) -> Result<Option<Vec<u32>>, AllocError>
+    ensures { IfOk result (λ found. list_in found ≡ option_copied ranks.entry) }
+{
+    match ranks {
+        Some(ranks) => Ok(Some(copy_of(alloc, ranks)?)),
+        None => Ok(None),
+    }
+}
+
+/// The group of a communicator of one group, which has no remote one.
+fn whole(place: usize, remote: bool) -> GroupValue
+    ensures { result ≡ cond remote values.Unknown (values.Whole place) }
+{
+    if remote {
+        GroupValue::Unknown
+    } else {
+        GroupValue::Whole(place)
+    }
+}
+
+/// The group of a communicator, by how its handle stands, or the remote group of an intercommunicator (MPI 4.0, 7.6).
+fn group_of(
+    alloc: Global,
+    inters: &[Made],
+    standing: Option<HandleState>,
+    remote: bool,
+) -> Result<GroupValue, AllocError>
+    ensures { IfOk result (IsGroupOf inters.now remote standing) }
 {
     match standing {
-        None => GroupValue::Unknown,
-        Some(HandleState::Open) => GroupValue::Waits,
-        Some(HandleState::Derived(place)) => GroupValue::Whole(place),
-        Some(HandleState::Left(_)) => GroupValue::Unknown,
+        None => Ok(GroupValue::Unknown),
+        Some(HandleState::Open) => Ok(GroupValue::Waits),
+        Some(HandleState::Derived(place)) => Ok(whole(place, remote)),
+        Some(HandleState::Inter { place, second }) => {
+            let ranks = group_of_side(inters, place, side_asked(remote, second));
+            Ok(listed(copied(alloc, ranks)?))
+        },
+        Some(HandleState::Left(_)) => Ok(GroupValue::Unknown),
     }
 }
 
@@ -230,6 +281,7 @@ fn of_one(alloc: Global, group: &GroupCall, members: &[u32]) -> Result<Option<Ve
             None => Ok(None),
         },
         GroupCall::OfComm { .. }
+        | GroupCall::OfRemote { .. }
         | GroupCall::Union { .. }
         | GroupCall::Intersection { .. }
         | GroupCall::Difference { .. }
@@ -253,6 +305,7 @@ fn of_two(
         },
         GroupCall::Difference { .. } => Ok(Some(comm_groups::difference(alloc, first, second)?)),
         GroupCall::OfComm { .. }
+        | GroupCall::OfRemote { .. }
         | GroupCall::Incl { .. }
         | GroupCall::Excl { .. }
         | GroupCall::RangeIncl { .. }
@@ -331,11 +384,17 @@ pub(crate) fn value_of(
     values: &[GroupValue],
     standings: &[HandleState],
     comms: &[Made],
+    inters: &[Made],
 ) -> Result<GroupValue, AllocError>
-    ensures { IfOk result (IsValueNamed standings.now values.now comms.now group.now meant.now) }
+    ensures { IfOk result (IsValueNamed standings.now values.now comms.now inters.now group.now meant.now) }
 {
     match group {
-        GroupCall::OfComm { .. } => Ok(group_of(standing_at(standings, meant.comm))),
+        GroupCall::OfComm { .. } => {
+            group_of(alloc, inters, standing_at(standings, meant.comm), false)
+        },
+        GroupCall::OfRemote { .. } => {
+            group_of(alloc, inters, standing_at(standings, meant.comm), true)
+        },
         GroupCall::Unread => Ok(GroupValue::Unknown),
         GroupCall::Union { .. } | GroupCall::Intersection { .. } | GroupCall::Difference { .. } => {
             value_of_two(alloc, group, meant, values, comms)

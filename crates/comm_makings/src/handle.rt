@@ -6,7 +6,7 @@ use mpi_model::Stretch;
 pub(crate) type Handle = Stretch;
 
 /// What a call gives.
-#[derive(Clone, Copy, PartialEq, Eq)]
+#[derive(Clone, Copy)]
 pub(crate) enum Gives {
     /// The call didn't return.
     Nothing,
@@ -38,4 +38,6 @@ pub(crate) struct Meant {
     /// The group that it names, or the first of two.
     pub group: GroupAt,
     pub second: GroupAt,
+    /// The handle that it names as that of the communicator of two leaders.
+    pub bridge: Option<usize>,
 }

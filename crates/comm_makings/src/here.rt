@@ -68,6 +68,8 @@ pub(crate) fn making_of(action: &Action) -> Option<&Making>
         Action::CommRank { .. }
         | Action::Free { .. }
         | Action::Group { .. }
+        | Action::Join { .. }
+        | Action::Merge { .. }
         | Action::GivesComm { .. }
         | Action::MakeObject { .. }
         | Action::EndObject { .. } => None,
@@ -180,7 +182,9 @@ pub(crate) fn gives_later(function: MadeBy) -> bool
         | MadeBy::GraphCreate
         | MadeBy::DistGraphCreate
         | MadeBy::DistGraphCreateAdjacent
-        | MadeBy::Other => false,
+        | MadeBy::IntercommCreate
+        | MadeBy::IntercommMerge
+        | MadeBy::Other(_) => false,
     }
 }
 

@@ -45,8 +45,16 @@ fn giving(action: &Action) -> Option<Giver>
             made_by: function_of(making),
             number: number_said(*given),
         }),
-        Action::GivesComm { given, .. } => Some(Giver {
-            made_by: MadeBy::Other,
+        Action::Join { given, .. } => Some(Giver {
+            made_by: MadeBy::IntercommCreate,
+            number: number_said(*given),
+        }),
+        Action::Merge { given, .. } => Some(Giver {
+            made_by: MadeBy::IntercommMerge,
+            number: number_said(*given),
+        }),
+        Action::GivesComm { maker, given, .. } => Some(Giver {
+            made_by: MadeBy::Other(*maker),
             number: number_said(*given),
         }),
         Action::CommRank { .. }
@@ -62,7 +70,8 @@ fn why_open(function: MadeBy, is_known: bool) -> Why
     ensures { result ≡ why_open function is_known }
 {
     match function {
-        MadeBy::Other => Why::Function,
+        MadeBy::Other(_) => Why::Function,
+        MadeBy::IntercommCreate => Why::Untold,
         MadeBy::Dup
         | MadeBy::DupWithInfo
         | MadeBy::Idup
@@ -74,7 +83,8 @@ fn why_open(function: MadeBy, is_known: bool) -> Why
         | MadeBy::CartSub
         | MadeBy::GraphCreate
         | MadeBy::DistGraphCreate
-        | MadeBy::DistGraphCreateAdjacent => {
+        | MadeBy::DistGraphCreateAdjacent
+        | MadeBy::IntercommMerge => {
             if is_known {
                 Why::Parent
             } else {
@@ -92,6 +102,7 @@ fn why_left(standing: Option<HandleState>, function: MadeBy, is_known: bool) -> 
         None => Some(why_open(function, is_known)),
         Some(HandleState::Open) => Some(why_open(function, is_known)),
         Some(HandleState::Derived(_)) => None,
+        Some(HandleState::Inter { .. }) => None,
         Some(HandleState::Left(why)) => Some(why),
     }
 }

@@ -9,6 +9,7 @@
 //! - [`here`]: one making, as each member calls it; [`part`], [`parts`], [`splits`], [`creates`], [`grids`],
 //!   [`outcomes`]: the members of what it makes
 //! - [`by_groups`]: MPI_Comm_create_group; [`run`]: from the world to all that is made of it
+//! - [`intercomms`]: intercommunicators, of two groups or of another, and what is merged of one
 //! - [`object_view`], [`objects`]: windows and files
 //! - [`uses`]: which calls of the profile name which communicators; [`left`]: what is left out; [`written`]: the
 //!   layout's communicators
@@ -20,6 +21,7 @@
 //! - which communicators derive: `specs/Derives.antt`, `specs/Makes.antt`, `specs/Derived.antt`
 //! - which calls are one making, and what it makes: `specs/Here.antt`, `specs/Views.antt`, `specs/Splits.antt`,
 //!   `specs/Reordered.antt`; [`here`], [`outcomes`]
+//! - intercommunicators: `specs/Intercomms.antt`, `specs/Offering.antt`; [`intercomms`], [`run`]
 //! - windows and files: `specs/Objects.antt`, `specs/ObjectMakings.antt`; [`object_view`], [`objects`]
 //! - what a layout gets, ids and numbers; what is left out: `specs/Uses.antt`, `specs/Written.antt`; [`uses`],
 //!   [`written`]; `specs/Left.antt`, [`left`]
@@ -41,6 +43,7 @@ mod grids;
 mod group_value;
 mod handle;
 mod here;
+mod intercomms;
 mod left;
 mod names;
 mod object_view;
@@ -57,7 +60,7 @@ mod written;
 
 pub use answer::{Choice, DeriveFault, Derived, LeftOut, MadeBy, Why};
 pub use calls::{
-    Action, Color, CommCall, Given, GroupCall, GroupName, Making, ObjectMaker, RankCalls,
-    RankRange, Uses, object_made,
+    Action, Color, CommCall, Given, GroupCall, GroupName, Leaders, Making, ObjectMaker, OtherMaker,
+    RankCalls, RankRange, Uses, object_made,
 };
 pub use derivation::derive;

@@ -9,7 +9,7 @@ ghost use Rattle.comm_makings.specs.declared.calls.Given.TheVariants as givens;
 ghost use Rattle.comm_makings.specs.declared.handle.GroupAt.TheVariants as groups;
 ghost use Rattle.comm_makings.specs.Names.{always, from_next, group_at, handles_ended};
 
-use crate::calls::{Action, CommCall, Given, GroupCall, GroupName, Making, RankCalls};
+use crate::calls::{Action, CommCall, Given, GroupCall, GroupName, Leaders, Making, RankCalls};
 use crate::handle::{Gives, GroupAt, Handle, Meant};
 use indexmap::IndexMap;
 use std::alloc::{AllocError, Global};
@@ -268,6 +268,32 @@ impl Names {
             gives,
             group,
             second: GroupAt::Unknown,
+            bridge: None,
+        })
+    }
+
+    /// What a call means that joins two groups.
+    fn joined(
+        &mut self,
+        call: &CommCall,
+        local: Option<u32>,
+        leaders: Leaders,
+        given: Given,
+    ) -> Result<Meant, AllocError>
+        ensures meant { IfOk result (λ m. m ≡ meant_by self.old call.now.returned (actions.Join local leaders given)) }
+        ensures naming { OnOk result (naming_of self.new ≡ with_given self.old call.now given) }
+        ensures world { self.new.world ≡ self.old.world }
+        ensures own { self.new.own ≡ self.old.own }
+    {
+        let comm = self.comm(local);
+        let bridge = self.comm(leaders.bridge);
+        let gives = self.give(call, given)?;
+        Ok(Meant {
+            comm,
+            gives,
+            group: GroupAt::Unknown,
+            second: GroupAt::Unknown,
+            bridge,
         })
     }
 
@@ -291,6 +317,7 @@ impl Names {
             gives: Gives::Nothing,
             group: self.group(first_of_group(group)),
             second: self.group(second_of_group(group)),
+            bridge: None,
         };
         self.give_group(call, at, given)?;
         Ok(meant)
@@ -318,7 +345,17 @@ impl Names {
                 Ok(meant)
             },
             Action::Group { group, given } => self.grouped(call, at, group, *given),
-            Action::GivesComm { comm, given } => {
+            Action::Join {
+                local,
+                leaders,
+                given,
+            } => self.joined(call, *local, *leaders, *given),
+            Action::Merge { comm, given, .. } => {
+                let comm = self.comm(*comm);
+                let gives = self.give(call, *given)?;
+                Ok(naming(comm, gives))
+            },
+            Action::GivesComm { comm, given, .. } => {
                 let comm = self.comm(*comm);
                 let gives = self.give(call, *given)?;
                 Ok(naming(comm, gives))
@@ -331,13 +368,14 @@ impl Names {
 
 /// A call that names no group.
 fn naming(comm: Option<usize>, gives: Gives) -> Meant
-    ensures { result ≡ record { comm = comm; gives = gives; group = groups.Unknown; second = groups.Unknown } }
+    ensures { result ≡ record { comm = comm; gives = gives; group = groups.Unknown; second = groups.Unknown; bridge = None } }
 {
     Meant {
         comm,
         gives,
         group: GroupAt::Unknown,
         second: GroupAt::Unknown,
+        bridge: None,
     }
 }
 
@@ -367,6 +405,7 @@ fn comm_of_group(group: &GroupCall) -> Option<u32>
 {
     match group {
         GroupCall::OfComm { comm } => *comm,
+        GroupCall::OfRemote { comm } => *comm,
         GroupCall::Incl { .. }
         | GroupCall::Excl { .. }
         | GroupCall::RangeIncl { .. }
@@ -383,7 +422,9 @@ fn first_of_group(group: &GroupCall) -> GroupName
     ensures { result ≡ first_of_group group.now }
 {
     match group {
-        GroupCall::OfComm { .. } | GroupCall::Unread => GroupName::Unknown,
+        GroupCall::OfComm { .. } | GroupCall::OfRemote { .. } | GroupCall::Unread => {
+            GroupName::Unknown
+        },
         GroupCall::Incl { group, .. } => *group,
         GroupCall::Excl { group, .. } => *group,
         GroupCall::RangeIncl { group, .. } => *group,
@@ -403,6 +444,7 @@ fn second_of_group(group: &GroupCall) -> GroupName
         GroupCall::Intersection { second, .. } => *second,
         GroupCall::Difference { second, .. } => *second,
         GroupCall::OfComm { .. }
+        | GroupCall::OfRemote { .. }
         | GroupCall::Incl { .. }
         | GroupCall::Excl { .. }
         | GroupCall::RangeIncl { .. }

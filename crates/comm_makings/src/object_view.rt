@@ -40,6 +40,8 @@ fn makes_such(object: Object, action: &Action) -> bool
         | Action::CommRank { .. }
         | Action::Free { .. }
         | Action::Group { .. }
+        | Action::Join { .. }
+        | Action::Merge { .. }
         | Action::GivesComm { .. }
         | Action::EndObject { .. } => false,
     }
@@ -60,6 +62,8 @@ fn number_given(object: Object, call: &CommCall) -> Option<u32>
         | Action::CommRank { .. }
         | Action::Free { .. }
         | Action::Group { .. }
+        | Action::Join { .. }
+        | Action::Merge { .. }
         | Action::GivesComm { .. }
         | Action::EndObject { .. } => None,
     }
@@ -84,6 +88,8 @@ fn number_ended(object: Object, call: &CommCall) -> Option<u32>
         | Action::CommRank { .. }
         | Action::Free { .. }
         | Action::Group { .. }
+        | Action::Join { .. }
+        | Action::Merge { .. }
         | Action::GivesComm { .. }
         | Action::MakeObject { .. } => None,
     }

@@ -51,6 +51,8 @@ fn maker_of(action: &Action) -> Option<ObjectMaker>
         | Action::CommRank { .. }
         | Action::Free { .. }
         | Action::Group { .. }
+        | Action::Join { .. }
+        | Action::Merge { .. }
         | Action::GivesComm { .. }
         | Action::EndObject { .. } => None,
     }
@@ -202,6 +204,7 @@ fn object_of(
     Ok(Made {
         object,
         members,
+        remote_size: 0,
         ranks: same_ranks,
         dims: None,
         order: Order {

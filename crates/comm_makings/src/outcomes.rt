@@ -48,7 +48,11 @@ fn outcome_of(
         MadeBy::DistGraphCreate | MadeBy::DistGraphCreateAdjacent => {
             dist_graph_outcome(alloc, ranks, views, all, members)
         },
-        MadeBy::Create | MadeBy::CreateGroup | MadeBy::Other => Ok(Outcome::Unsound),
+        MadeBy::Create
+        | MadeBy::CreateGroup
+        | MadeBy::IntercommCreate
+        | MadeBy::IntercommMerge
+        | MadeBy::Other(_) => Ok(Outcome::Unsound),
     }
 }
 
@@ -206,7 +210,7 @@ fn creation_outcome(
 }
 
 /// Whether it can be read what the calls give, unless that may come later.
-fn are_readable(all: &[Option<Here>], later: bool) -> bool
+pub(crate) fn are_readable(all: &[Option<Here>], later: bool) -> bool
     ensures { IsTrue result → later ≡ false → list_any gives_unknown all.now ≡ false }
 {
     later || !some_unknown(all)

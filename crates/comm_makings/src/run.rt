@@ -6,7 +6,8 @@ ghost use Rattle.std.specs.Option.{option_copied};
 ghost use Rattle.comm_makings.specs.Derives.{group_call_at, member_with, world_members};
 ghost use Rattle.comm_makings.specs.Each.{list_in};
 ghost use Rattle.comm_makings.specs.Made.{IsFirstOf, IsMakingOrder, member_at, order_by, own_order, returned_at, smaller, world_order};
-ghost use Rattle.comm_makings.specs.State.{AreAllDerivedGroups, AreDerived, AreDerivedGroups, AreMadeOf, AreMembers, AreMembersIn, BindsMember, IsDerivedComm, IsDerivedGroup, IfComms, IsEnded, IsFirstComm, IsOfDerived, IsReadTo, IsRun, KeepsComms, KeepsDerived, NamesMembers, NoneListed, NoneListedAt, NoneStands, NoneStandsAt, SetsStanding, dims_of, is_gained};
+ghost use Rattle.comm_makings.specs.State.{AreAllDerivedGroups, AreDerived, AreDerivedGroups, AreMadeOf, AreInterMembers, AreInters, AreMembers, AreMembersIn, BindsInter, BindsMember, IsDerivedInter, NamesInter, IsDerivedComm, IsDerivedGroup, IfComms, IsEnded, IsFirstComm, IsOfDerived, IsReadTo, IsRun, KeepsComms, KeepsDerived, NamesMembers, NoneListed, NoneListedAt, NoneStands, NoneStandsAt, SetsStanding, dims_of, is_gained};
+ghost use Rattle.comm_makings.specs.Offering.{Answer, IsOffer, MakesOfInter};
 ghost use Rattle.comm_makings.specs.declared.run.Step.TheVariants as steps;
 ghost use Rattle.comm_makings.specs.declared.state.Progress.TheVariants as progress;
 
@@ -16,6 +17,10 @@ use crate::calls::{Action, CommCall, GroupCall, RankCalls};
 use crate::group_value::{GroupValue, value_of};
 use crate::handle::{Gives, Meant};
 use crate::here::{Here, all_kth, call_at, gives_some, handle_of, meant_at};
+use crate::intercomms::{
+    Joined, OfInter, Offer, Offered, OpenOffers, answer, answered, copied_of, first_size,
+    join_groups, merged_of, most_merges, offer_at, own_calls,
+};
 use crate::outcomes::outcome_in;
 use crate::part::Part;
 use crate::parts::Outcome;
@@ -32,6 +37,10 @@ pub(crate) struct Run {
     /// For each rank what its calls give, where they give groups.
     pub values: Vec<Vec<GroupValue>>,
     pub comms: Vec<Made>,
+    pub inters: Vec<Made>,
+    /// The ranks that have calls of MPI_Intercomm_create which are not read, each with the number of the next of these.
+    pub joining: Vec<(u32, usize)>,
+    pub open: OpenOffers,
     /// For each communicator how far its makings are read.
     pub next: Vec<Progress>,
     /// For each rank which calls of MPI_Comm_create_group are read.
@@ -89,21 +98,44 @@ pub(crate) fn leave(standings: &mut Vec<Vec<HandleState>>, all: &[Option<Here>],
     }
 }
 
-/// What these members make from the k-th making on is left out.
+/// Which makings come behind an unsound one, or which merges: from this one on up to the end.
+#[derive(Clone, Copy)]
+struct Later {
+    first: usize,
+    end: usize,
+    merges: bool,
+}
+
+/// The k-th calls of the members that make communicators of all of them, or that merge two groups.
+fn calls_kth(
+    alloc: Global,
+    ranks: &[RankCalls],
+    views: &[RankView],
+    members: &[Member],
+    k: usize,
+    merges: bool,
+) -> Result<Vec<Option<Here>>, AllocError> {
+    if merges {
+        own_calls(alloc, ranks, views, members, k, true)
+    } else {
+        all_kth(alloc, ranks, views, members, k)
+    }
+}
+
+/// What these members make or merge later is left out.
 #[tactic(auto, using(crate::proofs::Standings::keeps_all, crate::proofs::Standings::keeps_more))]
 fn leave_behind(
     alloc: Global,
     ranks: &[RankCalls],
     views: &[RankView],
     members: &[Member],
-    k: usize,
-    end: usize,
+    later: Later,
     standings: &mut Vec<Vec<HandleState>>,
 ) -> Result<(), AllocError>
     ensures { KeepsDerived standings.old.items standings.new.items }
 {
-    for later in k..end {
-        let all = all_kth(alloc, ranks, views, members, later)?;
+    for k in later.first..later.end {
+        let all = calls_kth(alloc, ranks, views, members, k, later.merges)?;
         leave(standings, &all, Why::Behind);
     }
     Ok(())
@@ -221,12 +253,14 @@ pub(crate) fn made_of(
     ensures ranks { IfOk result (λ c. c.ranks.items ≡ map (λ m. m.rank) c.members.items) }
     ensures dims { IfOk result (λ c. list_in c.dims ≡ part.now.dims) }
     ensures order { IfOk result (λ c. IsMakingOrder part.now.places all.now c.order) }
+    ensures one_group { IfOk result (λ c. c.remote_size ≡ 0) }
 {
     let chosen = members_at(alloc, members, all, &part.places)?;
     Ok(Made {
         object: Object::Communicator,
         ranks: ranks_of(alloc, &chosen)?,
         members: chosen,
+        remote_size: 0,
         dims: dims_of(alloc, &part.dims)?,
         order: order_of(&part.places, all),
     })
@@ -281,10 +315,19 @@ fn group_call_at(ranks: &[RankCalls], rank: usize, at: usize) -> Option<&GroupCa
         Action::Make { .. }
         | Action::CommRank { .. }
         | Action::Free { .. }
+        | Action::Join { .. }
+        | Action::Merge { .. }
         | Action::GivesComm { .. }
         | Action::MakeObject { .. }
         | Action::EndObject { .. } => None,
     }
+}
+
+/// The communicators that are derived so far, and the intercommunicators.
+#[derive(Clone, Copy)]
+struct AllMade<'a> {
+    comms: &'a [Made],
+    inters: &'a [Made],
 }
 
 /// The group that a call of a rank gives, by what is known of the calls before it.
@@ -293,16 +336,17 @@ fn value_at(
     alloc: Global,
     ranks: &[RankCalls],
     views: &[RankView],
-    comms: &[Made],
+    made: AllMade<'_>,
     standings: &[HandleState],
     values: &[GroupValue],
     rank: usize,
     at: usize,
 ) -> Result<GroupValue, AllocError>
-    requires comms { AreDerived ranks.now views.now comms.now }
-    requires standings { AreMembersIn comms.now rank standings.now }
-    requires groups { AreDerivedGroups ranks.now views.now comms.now rank values.now }
-    ensures { IfOk result (IsDerivedGroup ranks.now views.now comms.now rank at) }
+    requires comms { AreDerived ranks.now views.now made.comms.now }
+    requires inters { AreInters ranks.now views.now made.inters.now }
+    requires standings { AreMembersIn made.comms.now made.inters.now rank standings.now }
+    requires groups { AreDerivedGroups ranks.now views.now made.comms.now rank values.now }
+    ensures { IfOk result (IsDerivedGroup ranks.now views.now made.entry.comms.now rank at) }
 {
     let Some(group) = group_call_at(ranks, rank, at) else {
         return Ok(GroupValue::Unknown);
@@ -310,7 +354,15 @@ fn value_at(
     let Some(meant) = meant_at(views, rank, at) else {
         return Ok(GroupValue::Unknown);
     };
-    let value = value_of(alloc, group, &meant, values, standings, comms)?;
+    let value = value_of(
+        alloc,
+        group,
+        &meant,
+        values,
+        standings,
+        made.comms,
+        made.inters,
+    )?;
     Ok(value)
 }
 
@@ -320,19 +372,20 @@ fn refresh(
     alloc: Global,
     ranks: &[RankCalls],
     views: &[RankView],
-    comms: &[Made],
+    made: AllMade<'_>,
     standings: &[HandleState],
     rank: usize,
     values: &mut Vec<GroupValue>,
 ) -> Result<(), AllocError>
-    requires comms { AreDerived ranks.now views.now comms.now }
-    requires standings { AreMembersIn comms.now rank standings.now }
-    requires groups { AreDerivedGroups ranks.now views.now comms.now rank values.old.items }
-    ensures { OnOk result (AreDerivedGroups ranks.now views.now comms.now rank values.new.items) }
+    requires comms { AreDerived ranks.now views.now made.comms.now }
+    requires inters { AreInters ranks.now views.now made.inters.now }
+    requires standings { AreMembersIn made.comms.now made.inters.now rank standings.now }
+    requires groups { AreDerivedGroups ranks.now views.now made.comms.now rank values.old.items }
+    ensures { OnOk result (AreDerivedGroups ranks.now views.now made.entry.comms.now rank values.new.items) }
 {
     for at in 0..values.len() {
         if let Some(GroupValue::Waits) = values.get(at) {
-            let value = value_at(alloc, ranks, views, comms, standings, values, rank, at)?;
+            let value = value_at(alloc, ranks, views, made, standings, values, rank, at)?;
             if at < values.len() {
                 values[at] = value;
             }
@@ -347,14 +400,16 @@ fn refresh_all(
     alloc: Global,
     ranks: &[RankCalls],
     views: &[RankView],
-    comms: &[Made],
+    made: AllMade<'_>,
     standings: &[Vec<HandleState>],
     values: &mut Vec<Vec<GroupValue>>,
 ) -> Result<(), AllocError>
-    requires comms { AreDerived ranks.now views.now comms.now }
-    requires standings { AreMembers comms.now standings.now }
-    requires groups { AreAllDerivedGroups ranks.now views.now comms.now values.old.items }
-    ensures { OnOk result (AreAllDerivedGroups ranks.now views.now comms.now values.new.items) }
+    requires comms { AreDerived ranks.now views.now made.comms.now }
+    requires inters { AreInters ranks.now views.now made.inters.now }
+    requires standings { AreMembers made.comms.now standings.now }
+    requires sides { AreInterMembers made.inters.now standings.now }
+    requires groups { AreAllDerivedGroups ranks.now views.now made.comms.now values.old.items }
+    ensures { OnOk result (AreAllDerivedGroups ranks.now views.now made.entry.comms.now values.new.items) }
 {
     for rank in 0..values.len() {
         if rank < standings.len() && rank < values.len() {
@@ -362,7 +417,7 @@ fn refresh_all(
                 alloc,
                 ranks,
                 views,
-                comms,
+                made,
                 &standings[rank],
                 rank,
                 &mut values[rank],
@@ -384,14 +439,11 @@ impl Run {
         requires { IsRun ranks.now views.now self.old }
         ensures { OnOk result (IsRun ranks.now views.now self.new) }
     {
-        refresh_all(
-            alloc,
-            ranks,
-            views,
-            &self.comms,
-            &self.standings,
-            &mut self.values,
-        )
+        let made = AllMade {
+            comms: &self.comms,
+            inters: &self.inters,
+        };
+        refresh_all(alloc, ranks, views, made, &self.standings, &mut self.values)
     }
 
     /// Adds a communicator. Its members' handles name it.
@@ -512,13 +564,17 @@ impl Run {
         let Some(parent) = comm_at(&self.comms, at) else {
             return Ok(());
         };
+        let later = Later {
+            first: k,
+            end,
+            merges: false,
+        };
         leave_behind(
             alloc,
             ranks,
             views,
             &parent.members,
-            k,
-            end,
+            later,
             &mut self.standings,
         )
     }
@@ -698,13 +754,14 @@ impl Run {
         self.refresh(alloc, ranks, views)?;
         let known = self.comms.len();
         let mut next = self.advance_all(alloc, ranks, views, todo, last)?;
+        self.advance_joins(alloc, ranks, views)?;
         for at in known..self.comms.len() {
             next.push(at)?;
         }
         Ok(next)
     }
 
-    /// Derives all that can be: each round but the last two reads some call.
+    /// Derives all that can be: each round but the last two reads some call, or passes over one.
     fn derive_all(
         &mut self,
         alloc: Global,
@@ -719,13 +776,435 @@ impl Run {
         for _ in 0..call_count(ranks).saturating_add(2) {
             let read = self.read;
             todo = self.round(alloc, ranks, views, &todo, last)?;
-            if self.read == read {
-                if last {
-                    return Ok(());
-                }
-                last = true;
+            if self.read != read {
+                continue;
+            }
+            if self.pass_over(ranks, views) {
+                continue;
+            }
+            if last {
+                return Ok(());
+            }
+            last = true;
+        }
+        Ok(())
+    }
+}
+
+/// What a call of MPI_Intercomm_create is that is read.
+enum Reading {
+    Read,
+    Waits,
+    /// The later ones of its rank are no offers.
+    Over,
+}
+
+/// The place of the i-th call of a rank that joins two groups.
+fn join_at(views: &[RankView], rank: u32, i: usize) -> Option<usize> {
+    views.get(rank as usize)?.all_joins.get(i).copied()
+}
+
+/// Of each rank the next of these calls, behind the one that waits.
+fn pass_each(joining: &mut Vec<(u32, usize)>) {
+    for i in 0..joining.len() {
+        if let Some(waiting) = joining.get_mut(i) {
+            waiting.1 = waiting.1.saturating_add(1);
+        }
+    }
+}
+
+/// How many calls of a rank join two groups.
+fn joins_in(views: &[RankView], rank: u32) -> usize {
+    match views.get(rank as usize) {
+        Some(view) => view.all_joins.len(),
+        None => 0,
+    }
+}
+
+/// The member's handle names the intercommunicator at this place, of whose groups it is in the second or in the first.
+#[tactic(auto, using(crate::proofs::Sides::binds_inter_set, crate::proofs::Sides::binds_inter_none))]
+fn bind_side(standings: &mut Vec<Vec<HandleState>>, member: Member, place: usize, second: bool)
+    ensures { BindsInter member place second standings.old.items standings.new.items }
+{
+    if let Some(handle) = member.handle {
+        set(
+            standings,
+            member.rank,
+            handle,
+            HandleState::Inter { place, second },
+        );
+    }
+}
+
+/// The members' handles name the intercommunicator at this place, of whose first group the first so many are.
+fn bind_inter(standings: &mut Vec<Vec<HandleState>>, members: &[Member], size: usize, place: usize)
+    ensures { NamesInter members.now size place standings.old.items standings.new.items }
+{
+    for (at, member) in members.iter().enumerate() {
+        bind_side(standings, *member, place, at >= size);
+    }
+}
+
+impl Run {
+    /// Adds an intercommunicator. Its members' handles name it.
+    #[tactic(auto, using(crate::proofs::Sides::right_joined))]
+    fn add_inter(
+        &mut self,
+        ranks: &[RankCalls],
+        views: &[RankView],
+        inter: Made,
+    ) -> Result<(), AllocError>
+        requires right { IsRun ranks.now views.now self.old }
+        requires inter { IsDerivedInter ranks.now views.now inter }
+        ensures { OnOk result (IsRun ranks.now views.now self.new) }
+    {
+        let size = first_size(&inter);
+        bind_inter(&mut self.standings, &inter.members, size, self.inters.len());
+        self.inters.push(inter)?;
+        Ok(())
+    }
+
+    /// Takes what calls of an intercommunicator's members make of it. Says whether more may be made so.
+    #[tactic(auto, using(crate::proofs::Right::right_left, crate::proofs::Sides::inter_made, crate::proofs::Sides::comm_made))]
+    fn take_of_inter(
+        &mut self,
+        alloc: Global,
+        ranks: &[RankCalls],
+        views: &[RankView],
+        all: &[Option<Here>],
+        made: OfInter,
+    ) -> Result<bool, AllocError>
+        requires right { IsRun ranks.now views.now self.old }
+        requires made { MakesOfInter ranks.now views.now made }
+        ensures { OnOk result (IsRun ranks.now views.now self.new) }
+    {
+        match made {
+            OfInter::Inter(inter) => {
+                self.add_inter(ranks, views, inter)?;
+                Ok(true)
+            },
+            OfInter::Comm(comm) => {
+                self.add_one(alloc, ranks, views, comm)?;
+                Ok(true)
+            },
+            OfInter::Untold => {
+                leave(&mut self.standings, all, Why::Untold);
+                Ok(true)
+            },
+            OfInter::Unsound => {
+                leave(&mut self.standings, all, Why::Unsound);
+                Ok(false)
+            },
+        }
+    }
+
+    /// Reads the k-th of the calls that make communicators of an intercommunicator. Says whether more may be made so.
+    fn copy_kth(
+        &mut self,
+        alloc: Global,
+        ranks: &[RankCalls],
+        views: &[RankView],
+        at: usize,
+        k: usize,
+    ) -> Result<bool, AllocError>
+        requires { IsRun ranks.now views.now self.old }
+        ensures { OnOk result (IsRun ranks.now views.now self.new) }
+    {
+        let Some(inter) = comm_at(&self.inters, at) else {
+            return Ok(false);
+        };
+        let all = all_kth(alloc, ranks, views, &inter.members, k)?;
+        let made = copied_of(alloc, ranks, views, inter, k)?;
+        self.take_of_inter(alloc, ranks, views, &all, made)
+    }
+
+    /// Reads the k-th of the calls that merge the groups of an intercommunicator. Says whether more may be made so.
+    fn merge_kth(
+        &mut self,
+        alloc: Global,
+        ranks: &[RankCalls],
+        views: &[RankView],
+        at: usize,
+        k: usize,
+    ) -> Result<bool, AllocError>
+        requires { IsRun ranks.now views.now self.old }
+        ensures { OnOk result (IsRun ranks.now views.now self.new) }
+    {
+        let Some(inter) = comm_at(&self.inters, at) else {
+            return Ok(false);
+        };
+        let all = own_calls(alloc, ranks, views, &inter.members, k, true)?;
+        let made = merged_of(alloc, ranks, views, inter, k)?;
+        self.take_of_inter(alloc, ranks, views, &all, made)
+    }
+
+    /// What the members make or merge later of an intercommunicator is left out.
+    #[tactic(auto, using(crate::proofs::Right::right_left))]
+    fn leave_of_inter(
+        &mut self,
+        alloc: Global,
+        ranks: &[RankCalls],
+        views: &[RankView],
+        at: usize,
+        later: Later,
+    ) -> Result<(), AllocError>
+        requires { IsRun ranks.now views.now self.old }
+        ensures { OnOk result (IsRun ranks.now views.now self.new) }
+    {
+        let Some(inter) = comm_at(&self.inters, at) else {
+            return Ok(());
+        };
+        leave_behind(
+            alloc,
+            ranks,
+            views,
+            &inter.members,
+            later,
+            &mut self.standings,
+        )
+    }
+
+    /// Reads what is made of an intercommunicator, up to the first making that is unsound.
+    fn read_copies(
+        &mut self,
+        alloc: Global,
+        ranks: &[RankCalls],
+        views: &[RankView],
+        at: usize,
+    ) -> Result<(), AllocError>
+        requires { IsRun ranks.now views.now self.old }
+        ensures { OnOk result (IsRun ranks.now views.now self.new) }
+    {
+        let end = match self.inters.get(at) {
+            Some(inter) => longest(views, inter),
+            None => 0,
+        };
+        for k in 0..end {
+            if !self.copy_kth(alloc, ranks, views, at, k)? {
+                let later = Later {
+                    first: k + 1,
+                    end,
+                    merges: false,
+                };
+                return self.leave_of_inter(alloc, ranks, views, at, later);
             }
         }
+        Ok(())
+    }
+
+    /// Reads the merges of an intercommunicator, up to the first that is unsound.
+    fn read_merges(
+        &mut self,
+        alloc: Global,
+        ranks: &[RankCalls],
+        views: &[RankView],
+        at: usize,
+    ) -> Result<(), AllocError>
+        requires { IsRun ranks.now views.now self.old }
+        ensures { OnOk result (IsRun ranks.now views.now self.new) }
+    {
+        let end = match self.inters.get(at) {
+            Some(inter) => most_merges(views, inter),
+            None => 0,
+        };
+        for k in 0..end {
+            if !self.merge_kth(alloc, ranks, views, at, k)? {
+                let later = Later {
+                    first: k + 1,
+                    end,
+                    merges: true,
+                };
+                return self.leave_of_inter(alloc, ranks, views, at, later);
+            }
+        }
+        Ok(())
+    }
+
+    /// Reads what is made of the intercommunicators from this one on, those among them that are made of another.
+    fn read_inters(
+        &mut self,
+        alloc: Global,
+        ranks: &[RankCalls],
+        views: &[RankView],
+        first: usize,
+    ) -> Result<(), AllocError>
+        requires { IsRun ranks.now views.now self.old }
+        ensures { OnOk result (IsRun ranks.now views.now self.new) }
+    {
+        for at in first..usize::MAX {
+            if at >= self.inters.len() {
+                return Ok(());
+            }
+            self.read_copies(alloc, ranks, views, at)?;
+            self.read_merges(alloc, ranks, views, at)?;
+        }
+        Ok(())
+    }
+
+    /// Joins the groups of two offers that answer each other, of which the first is of the smaller rank.
+    #[tactic(auto, using(crate::proofs::Right::right_left))]
+    fn join_two(
+        &mut self,
+        alloc: Global,
+        ranks: &[RankCalls],
+        views: &[RankView],
+        one: Offer,
+        other: Offer,
+    ) -> Result<(), AllocError>
+        requires right { IsRun ranks.now views.now self.old }
+        requires one { IsOffer ranks.now views.now self.old.standings.items self.old.comms.items one }
+        requires other { IsOffer ranks.now views.now self.old.standings.items self.old.comms.items other }
+        requires answer { Answer one other }
+        ensures { OnOk result (IsRun ranks.now views.now self.new) }
+    {
+        let first = self.inters.len();
+        match join_groups(
+            alloc,
+            ranks,
+            views,
+            &self.standings,
+            &self.comms,
+            one,
+            other,
+        )? {
+            Joined::Inter(inter) => {
+                self.add_inter(ranks, views, inter)?;
+                self.read_inters(alloc, ranks, views, first)
+            },
+            Joined::Left(all) => {
+                leave(&mut self.standings, &all, Why::Unsound);
+                Ok(())
+            },
+        }
+    }
+
+    /// Joins the groups of two offers, of which the second was kept, where they still answer each other.
+    #[tactic(auto, using(crate::proofs::Sides::answer_back))]
+    fn join(
+        &mut self,
+        alloc: Global,
+        ranks: &[RankCalls],
+        views: &[RankView],
+        offer: Offer,
+        kept: Offer,
+    ) -> Result<(), AllocError>
+        requires right { IsRun ranks.now views.now self.old }
+        requires offer { IsOffer ranks.now views.now self.old.standings.items self.old.comms.items offer }
+        requires kept { IsOffer ranks.now views.now self.old.standings.items self.old.comms.items kept }
+        ensures { OnOk result (IsRun ranks.now views.now self.new) }
+    {
+        if !answer(offer, kept) {
+            return Ok(());
+        }
+        if offer.rank < kept.rank {
+            self.join_two(alloc, ranks, views, offer, kept)
+        } else {
+            self.join_two(alloc, ranks, views, kept, offer)
+        }
+    }
+
+    /// Takes an offer: it answers one that is kept, or is kept itself.
+    fn take_offer(
+        &mut self,
+        alloc: Global,
+        ranks: &[RankCalls],
+        views: &[RankView],
+        offer: Offer,
+    ) -> Result<(), AllocError>
+        requires right { IsRun ranks.now views.now self.old }
+        requires offer { IsOffer ranks.now views.now self.old.standings.items self.old.comms.items offer }
+        ensures { OnOk result (IsRun ranks.now views.now self.new) }
+    {
+        let Some((rank, at)) = answered(alloc, &mut self.open, offer)? else {
+            return Ok(());
+        };
+        match offer_at(ranks, views, &self.standings, &self.comms, rank, at) {
+            Offered::Offers(kept) => self.join(alloc, ranks, views, offer, kept),
+            Offered::Nothing | Offered::Waits | Offered::Unknown => Ok(()),
+        }
+    }
+
+    /// Reads a call of MPI_Intercomm_create, and says what it is.
+    fn read_join(
+        &mut self,
+        alloc: Global,
+        ranks: &[RankCalls],
+        views: &[RankView],
+        rank: u32,
+        at: usize,
+    ) -> Result<Reading, AllocError>
+        requires { IsRun ranks.now views.now self.old }
+        ensures { OnOk result (IsRun ranks.now views.now self.new) }
+    {
+        match offer_at(ranks, views, &self.standings, &self.comms, rank, at) {
+            Offered::Offers(offer) => {
+                self.take_offer(alloc, ranks, views, offer)?;
+                Ok(Reading::Read)
+            },
+            Offered::Nothing => Ok(Reading::Read),
+            Offered::Waits => Ok(Reading::Waits),
+            Offered::Unknown => Ok(Reading::Over),
+        }
+    }
+
+    /// Reads the calls of a rank that join two groups, from this one on, as far as they don't wait. Gives the number of
+    /// one that waits.
+    fn read_joins(
+        &mut self,
+        alloc: Global,
+        ranks: &[RankCalls],
+        views: &[RankView],
+        rank: u32,
+        first: usize,
+    ) -> Result<Option<usize>, AllocError>
+        requires { IsRun ranks.now views.now self.old }
+        ensures { OnOk result (IsRun ranks.now views.now self.new) }
+    {
+        for i in first..joins_in(views, rank) {
+            let Some(at) = join_at(views, rank, i) else {
+                return Ok(None);
+            };
+            match self.read_join(alloc, ranks, views, rank, at)? {
+                Reading::Waits => return Ok(Some(i)),
+                Reading::Over => return Ok(None),
+                Reading::Read => self.read = self.read.saturating_add(1),
+            }
+        }
+        Ok(None)
+    }
+
+    /// Passes over the calls that join two groups and wait: nothing more derives of which one of their communicators is.
+    /// Says whether there were some.
+    fn pass_over(&mut self, ranks: &[RankCalls], views: &[RankView]) -> bool
+        requires { IsRun ranks.now views.now self.old }
+        ensures { IsRun ranks.now views.now self.new }
+    {
+        let count = self.joining.len();
+        pass_each(&mut self.joining);
+        self.read = self.read.saturating_add(count as u64);
+        count > 0
+    }
+
+    /// Reads the calls that join two groups, as far as they don't wait: each of a rank behind those before it.
+    fn advance_joins(
+        &mut self,
+        alloc: Global,
+        ranks: &[RankCalls],
+        views: &[RankView],
+    ) -> Result<(), AllocError>
+        requires { IsRun ranks.now views.now self.old }
+        ensures { OnOk result (IsRun ranks.now views.now self.new) }
+    {
+        let mut waiting = Vec::new(alloc);
+        for i in 0..self.joining.len() {
+            let Some((rank, first)) = self.joining.get(i).copied() else {
+                return Ok(());
+            };
+            if let Some(next) = self.read_joins(alloc, ranks, views, rank, first)? {
+                waiting.push((rank, next))?;
+            }
+        }
+        self.joining = waiting;
         Ok(())
     }
 }
@@ -821,6 +1300,7 @@ fn world_of(alloc: Global, ranks: u32) -> Result<Made, AllocError>
         object: Object::Communicator,
         ranks: ranks_of(alloc, &members)?,
         members,
+        remote_size: 0,
         dims: None,
         order: Order {
             class: 0,
@@ -843,6 +1323,7 @@ fn own_of(alloc: Global, rank: u32) -> Result<Made, AllocError>
             },
         ]?,
         ranks: vec![in alloc; rank]?,
+        remote_size: 0,
         dims: None,
         order: Order {
             class: 1,
@@ -935,6 +1416,7 @@ fn begin(alloc: Global, calls: &RankCalls, view: &RankView, run: &mut Run) -> Re
     ensures values { OnOk result (NoneListedAt run.new.values.items) }
     ensures comms { run.new.comms ≡ run.old.comms }
     ensures next { run.new.next ≡ run.old.next }
+    ensures inters { run.new.inters ≡ run.old.inters }
 {
     run.standings
         .push(first_standings(alloc, &calls.calls, view)?)?;
@@ -956,6 +1438,7 @@ fn begin_ranks(
     ensures values { OnOk result (NoneListedAt run.new.values.items) }
     ensures comms { OnOk result (run.new.comms ≡ run.old.comms) }
     ensures next { OnOk result (run.new.next ≡ run.old.next) }
+    ensures inters { OnOk result (run.new.inters ≡ run.old.inters) }
 {
     for (at, calls) in ranks.iter().enumerate() {
         if let Some(view) = views.get(at) {
@@ -965,18 +1448,40 @@ fn begin_ranks(
     Ok(())
 }
 
+/// The ranks that have calls of MPI_Intercomm_create, none of which is read.
+fn joining_of(
+    alloc: Global,
+    ranks: &[RankCalls],
+    views: &[RankView],
+) -> Result<Vec<(u32, usize)>, AllocError>
+    requires { length ranks.now < 2 ^ 32 }
+{
+    let mut joining = Vec::new(alloc);
+    for rank in 0..ranks.len() as u32 {
+        if joins_in(views, rank) > 0 {
+            joining.push((rank, 0))?;
+        }
+    }
+    Ok(joining)
+}
+
 /// Nothing is derived yet.
 #[tactic(auto, using(crate::proofs::Right::stands_none, crate::proofs::Right::all_listed_none))]
 fn begin_all(alloc: Global, ranks: &[RankCalls], views: &[RankView]) -> Result<Run, AllocError>
+    requires { length ranks.now < 2 ^ 32 }
     ensures standings { IfOk result (λ run. NoneStandsAt run.standings.items) }
     ensures values { IfOk result (λ run. NoneListedAt run.values.items) }
     ensures comms { IfOk result (λ run. run.comms.items ≡ []) }
     ensures next { IfOk result (λ run. run.next.items ≡ []) }
+    ensures inters { IfOk result (λ run. run.inters.items ≡ []) }
 {
     let mut run = Run {
         standings: Vec::new(alloc),
         values: Vec::new(alloc),
         comms: Vec::new(alloc),
+        inters: Vec::new(alloc),
+        joining: joining_of(alloc, ranks, views)?,
+        open: OpenOffers::new(alloc),
         next: Vec::new(alloc),
         taken: Vec::new(alloc),
         over: Vec::new(alloc),

@@ -16,6 +16,8 @@ pub(crate) enum HandleState {
     Open,
     /// It names the derived communicator at this place.
     Derived(usize),
+    /// It names the derived intercommunicator at this place, of whose groups the rank is in the second or in the first.
+    Inter { place: usize, second: bool },
     Left(Why),
 }
 
@@ -47,12 +49,15 @@ pub(crate) struct Member {
     pub handle: Option<usize>,
 }
 
-/// A derived communicator, or a window or a file of one.
+/// A derived communicator, an intercommunicator, or a window or a file.
 #[derive(Drop)]
 pub(crate) struct Made {
     pub object: Object,
-    /// The members, in the order of their ranks in it.
+    /// The members, in the order of their ranks in it: of an intercommunicator first those of one group, then those of
+    /// the other.
     pub members: Vec<Member>,
+    /// How many members the other group of an intercommunicator has; 0 of all else.
+    pub remote_size: usize,
     /// Their ranks in the run.
     pub ranks: Vec<u32>,
     /// The sizes of its dimensions, where it is a grid and they are known.

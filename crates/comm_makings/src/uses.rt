@@ -172,6 +172,8 @@ fn number_on(action: &Action) -> Option<u32>
             | Making::DistGraphCreateAdjacent { .. } => *parent,
         },
         Action::Free { comm } => *comm,
+        Action::Join { local, .. } => *local,
+        Action::Merge { comm, .. } => *comm,
         Action::GivesComm { comm, .. } => *comm,
         Action::MakeObject { parent, .. } => *parent,
         Action::CommRank { .. } | Action::Group { .. } | Action::EndObject { .. } => None,

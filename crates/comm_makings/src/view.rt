@@ -22,6 +22,12 @@ pub(crate) struct RankView {
     pub makings: Vec<Vec<usize>>,
     /// For each handle the calls of MPI_Comm_create_group on it, in their order.
     pub by_group: Vec<Vec<usize>>,
+    /// For each handle the calls of MPI_Intercomm_create that join its group with another, in their order.
+    pub joins: Vec<Vec<usize>>,
+    /// For each handle the calls of MPI_Intercomm_merge on it, in their order.
+    pub merges: Vec<Vec<usize>>,
+    /// All calls of MPI_Intercomm_create, in their order.
+    pub all_joins: Vec<usize>,
     /// What MPI_Comm_rank first tells on each handle.
     pub told: Vec<Option<u32>>,
     /// From this call on, the rank's calls make no communicators, because a parent is unknown.
@@ -138,6 +144,49 @@ fn makings_by(
     Ok(lists)
 }
 
+/// Whether a call joins two groups.
+fn is_join(call: &CommCall) -> bool {
+    matches!(&call.action, Action::Join { .. })
+}
+
+/// Whether a call merges two groups.
+fn is_merge(call: &CommCall) -> bool {
+    matches!(&call.action, Action::Merge { .. })
+}
+
+/// For each handle the calls on it that join two groups, or else those that merge two, up to the first on a
+/// communicator that is unknown.
+fn calls_on(
+    alloc: Global,
+    calls: &[CommCall],
+    meant: &[Meant],
+    count: usize,
+    joins: bool,
+) -> Result<Vec<Vec<usize>>, AllocError> {
+    let mut lists = lists(alloc, count)?;
+    for (at, call) in calls.iter().enumerate() {
+        let counts = if joins { is_join(call) } else { is_merge(call) };
+        if counts {
+            let Some(handle) = comm_at(meant, at) else {
+                return Ok(lists);
+            };
+            add_to(&mut lists, handle, at)?;
+        }
+    }
+    Ok(lists)
+}
+
+/// The calls that join two groups.
+fn joins_of(alloc: Global, calls: &[CommCall]) -> Result<Vec<usize>, AllocError> {
+    let mut joins = Vec::new(alloc);
+    for (at, call) in calls.iter().enumerate() {
+        if is_join(call) {
+            joins.push(at)?;
+        }
+    }
+    Ok(joins)
+}
+
 /// The rank that a call of MPI_Comm_rank tells.
 fn rank_told(call: &CommCall) -> Option<u32>
     ensures { result ≡ rank_told call.now.returned call.now.action }
@@ -150,6 +199,8 @@ fn rank_told(call: &CommCall) -> Option<u32>
         Action::Make { .. }
         | Action::Free { .. }
         | Action::Group { .. }
+        | Action::Join { .. }
+        | Action::Merge { .. }
         | Action::GivesComm { .. }
         | Action::MakeObject { .. }
         | Action::EndObject { .. } => None,
@@ -195,6 +246,9 @@ pub(crate) fn view_of(alloc: Global, world: u32, rank: &RankCalls) -> Result<Ran
     let count = handles.len();
     let makings = makings_by(alloc, &rank.calls, &meant, count, false)?;
     let by_group = makings_by(alloc, &rank.calls, &meant, count, true)?;
+    let joins = calls_on(alloc, &rank.calls, &meant, count, true)?;
+    let merges = calls_on(alloc, &rank.calls, &meant, count, false)?;
+    let all_joins = joins_of(alloc, &rank.calls)?;
     let told = told_on(alloc, &rank.calls, &meant, count)?;
     let end = end_of(&rank.calls, &meant);
     let windows = object_view(alloc, Object::Window, &rank.calls, &meant, count)?;
@@ -204,6 +258,9 @@ pub(crate) fn view_of(alloc: Global, world: u32, rank: &RankCalls) -> Result<Ran
         meant,
         makings,
         by_group,
+        joins,
+        merges,
+        all_joins,
         told,
         end,
         windows,

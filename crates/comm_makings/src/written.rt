@@ -320,6 +320,7 @@ fn world_comm(alloc: Global, world: u32, ranks: u32) -> Result<Comm, AllocError>
         id: world,
         object: Object::Communicator,
         members: first_places(alloc, ranks)?,
+        remote_size: 0,
         numbers: Vec::new(alloc),
     })
 }
@@ -337,18 +338,21 @@ fn written_comm(
     ensures { IfOk result (IsWrittenOf views.now uses.now made.now) }
 {
     let object = made.object;
+    let remote_size = made.remote_size;
     let members = copy_of(alloc, &made.ranks)?;
     match id {
         Some(id) => Ok(Comm {
             id,
             object,
             members,
+            remote_size,
             numbers: Vec::new(alloc),
         }),
         None => Ok(Comm {
             id: other,
             object,
             members,
+            remote_size,
             numbers: entries_of(alloc, views, uses_by(uses, object), object, &made.members)?,
         }),
     }

@@ -4,7 +4,7 @@ use Rattle.std.specs.Str.Parse.{IsNumeral, digits_value, without_leading_plus}
 use Rattle.clap.specs.ValueTests.{accepts}
 use Rattle.clap.specs.Values.{Accepts}
 use Rattle.clap.proofs.ValueTestLemmas.{Accepts-accepts, accepts-Accepts}
-use Rattle.command_line.specs.Program.{rank_in, rank_parser}
+use Rattle.command_line.specs.Ranks.{rank_in, rank_parser}
 
 abbrev value_of : List ℕ → ℕ
 value_of text = digits_value 10 (without_leading_plus text)

@@ -2,13 +2,9 @@
 use Rattle.std.specs.Prelude.{◌≡◌, ◌∷◌, ℕ, Bool, List, [], Option, Some, None, if◌then◌else◌, false, true, codes, map, option_map, option_and_then}
 use denote.Bor.{Bor}
 use Rattle.std.specs.Str.{bytes_eq}
-use Rattle.std.specs.Str.Parse.{digits_value, without_leading_plus}
 use Rattle.clap.specs.Words.{App, IsAmong, Row, Rule, Text, all_of, fault_of, first_of, kind_of, new_app, new_rule, subcommand_of, with_rule, with_subcommand}
 use Rattle.clap.specs.Simple.{on_top}
-use Rattle.clap.specs.ValueTests.{accepts}
 use Rattle.clap.specs.declared.builder.action.ArgAction.TheVariants.{Append, SetTrue}
-use Rattle.clap.specs.declared.builder.value_parser.ValueParser.{ValueParser}
-use Rattle.clap.specs.declared.builder.value_parser.ValueParser.TheVariants.{Unsigned}
 use Rattle.clap.specs.declared.error.kind.ErrorKind.{ErrorKind}
 use Rattle.clap.specs.declared.error.kind.ErrorKind.TheVariants as kinds
 use Rattle.mpi_model.specs.declared.layout.Sends.{Sends}
@@ -20,8 +16,12 @@ use Rattle.command_line.specs.declared.CommandFault.TheVariants.{Memory, Shown, 
 use Rattle.command_line.specs.declared.Wanted.{Wanted}
 use Rattle.command_line.specs.declared.Extent.{Extent}
 use Rattle.command_line.specs.declared.Extent.TheVariants.{Cut, Whole}
+use Rattle.command_line.specs.Ranks.{rank_in, rank_parser}
+use Rattle.command_line.specs.Windows.{calls_asked, window_in}
 use Rattle.command_line.specs.declared.Verb.{Verb}
-use Rattle.command_line.specs.declared.Verb.TheVariants.{Explain, ExplainJson, ExplainRank, Graph, Page, Report, ReportJson, Replay, Check, Pack}
+use Rattle.command_line.specs.declared.Verbosity.{Verbosity}
+use Rattle.command_line.specs.declared.Verbosity.TheVariants.{Quiet, Brief, Verbose}
+use Rattle.command_line.specs.declared.Verb.TheVariants.{Explain, ExplainJson, ExplainRank, Graph, Page, Report, ReportJson, Timeline, Replay, Check, CheckJson, Pack}
 
 -- the texts behind these references
 abbrev pub texts_of : List (Bor Text) → List Text
@@ -39,13 +39,21 @@ file_rule id = record (new_rule id) { required = true }
 abbrev pub several_rule : Text → Rule
 several_rule id = record (file_rule id) { action = Some Append }
 
+-- `-q`, `--quiet`, which leaves nothing on standard error but faults
+abbrev pub quiet_rule : Rule
+quiet_rule = record (new_rule (codes "quiet")) { short = Some 113; long = Some (codes "quiet"); action = Some SetTrue }
+
+-- `--verbose`, which names what was found in the texts
+abbrev pub verbose_rule : Rule
+verbose_rule = record (new_rule (codes "verbose")) { long = Some (codes "verbose"); action = Some SetTrue }
+
 -- a verb over a layout and a manifest
 abbrev pub pair_app : Text → App
-pair_app name = with_rule (with_rule (new_app name) (file_rule (codes "LAYOUT"))) (file_rule (codes "MANIFEST"))
+pair_app name = with_rule (with_rule (with_rule (new_app name) (file_rule (codes "LAYOUT"))) (file_rule (codes "MANIFEST"))) quiet_rule
 
 -- a verb over its files
 abbrev pub files_app : Text → App
-files_app name = with_rule (new_app name) (several_rule (codes "FILE"))
+files_app name = with_rule (with_rule (with_rule (new_app name) (several_rule (codes "FILE"))) quiet_rule) verbose_rule
 
 -- the flag for a report as JSON
 abbrev pub json_rule : Rule
@@ -54,10 +62,6 @@ json_rule = record (new_rule (codes "json")) { long = Some (codes "json"); actio
 -- `report`, over texts or a layout and a manifest, and whether as JSON
 abbrev pub report_app : App
 report_app = with_rule (files_app (codes "report")) json_rule
-
--- the rank of which `explain` tells: a number of 32 bits
-abbrev pub rank_parser : ValueParser
-rank_parser = Unsigned 0 4294967295
 
 -- `--rank`, a number
 abbrev pub rank_rule : Rule
@@ -95,6 +99,14 @@ with_pair app name = with_subcommand app (pair_app name).top
 abbrev pub with_files : App → Text → App
 with_files app name = with_subcommand app (files_app name).top
 
+-- `check`, over texts or a layout and a manifest, and whether as JSON
+abbrev pub check_app : App
+check_app = with_rule (files_app (codes "check")) json_rule
+
+-- the program with `check`
+abbrev pub with_check : App → App
+with_check app = with_subcommand app check_app.top
+
 -- an option for a value, which it has also without it
 abbrev pub option_rule : Text → Text → Rule
 option_rule id default = record (new_rule id) { long = Some id; value_names = 1; defaults = default ∷ [] }
@@ -117,11 +129,47 @@ force_rule = record (new_rule (codes "force")) { long = Some (codes "force"); ac
 
 -- `init` over texts, with its options
 abbrev pub init_app : App
-init_app = with_rule (with_rule (with_rule (with_rule (with_rule (new_app (codes "init")) (several_rule (codes "TEXT"))) sends_rule) layout_rule) manifest_rule) force_rule
+init_app = with_rule (with_rule (with_rule (with_rule (with_rule (with_rule (with_rule (new_app (codes "init")) (several_rule (codes "TEXT"))) sends_rule) layout_rule) manifest_rule) force_rule) quiet_rule) json_rule
 
 -- the program with `init`
 abbrev pub with_init : App → App
 with_init app = with_subcommand app init_app.top
+
+-- the flag for CSV
+abbrev pub csv_rule : Rule
+csv_rule = record (new_rule (codes "csv")) { long = Some (codes "csv"); action = Some SetTrue }
+
+-- `calls`, over texts or a layout and a manifest, as CSV or as JSON lines
+abbrev pub calls_app : App
+calls_app = with_rule (with_rule (files_app (codes "calls")) csv_rule) json_rule
+
+-- the program with `calls`
+abbrev pub with_calls : App → App
+with_calls app = with_subcommand app calls_app.top
+
+-- an option for a value, which it may lack
+abbrev pub free_rule : Text → Rule
+free_rule id = record (new_rule id) { long = Some id; value_names = 1 }
+
+-- `--from`, a moment
+abbrev pub from_rule : Rule
+from_rule = free_rule (codes "from")
+
+-- `--to`, a moment
+abbrev pub to_rule : Rule
+to_rule = free_rule (codes "to")
+
+-- `--ranks`, the first and the last
+abbrev pub ranks_rule : Rule
+ranks_rule = free_rule (codes "ranks")
+
+-- `timeline`, over texts or a layout and a manifest, perhaps cut by time and by rank
+abbrev pub timeline_app : App
+timeline_app = with_rule (with_rule (with_rule (files_app (codes "timeline")) from_rule) to_rule) ranks_rule
+
+-- the program with `timeline`
+abbrev pub with_timeline : App → App
+with_timeline app = with_subcommand app timeline_app.top
 
 -- the program without its verbs
 abbrev pub bare : App
@@ -131,9 +179,13 @@ bare = on_top (λ s. record s { has_version = true; subcommand_required = true }
 abbrev pub answering : App
 answering = with_report (with_files (with_graph (with_explain bare)) (codes "page"))
 
+-- the same, with the verbs that say what each call did
+abbrev pub telling : App
+telling = with_timeline (with_calls answering)
+
 -- all verbs of the program
 abbrev pub program : App
-program = with_init (with_pair (with_files (with_pair (with_pair answering (codes "replay")) (codes "cluster")) (codes "check")) (codes "pack"))
+program = with_init (with_pair (with_check (with_pair (with_pair telling (codes "replay")) (codes "cluster"))) (codes "pack"))
 
 -- the verb of a name
 abbrev pub verb_named : Text → Option Verb
@@ -145,23 +197,24 @@ verb_named name = if bytes_eq name (codes "explain") then Some (Explain Cut)
     else if bytes_eq name (codes "check") then Some Check
     else if bytes_eq name (codes "pack") then Some Pack else None
 
--- what `init` is to make: how sends complete, the names of the two files, and whether files of these names are written
--- over
+-- what `init` is to make: how sends complete, the names of the two files, whether files of these names are written
+-- over, and whether what was found is printed as JSON
 pub record Wish : Type 0 where
   pub sends : Sends
   pub layout : Text
   pub manifest : Text
   pub force : Bool
+  pub json : Bool
 
 -- what `init` is to make, by its words
 abbrev pub wish_of : Wanted → Wish
-wish_of m = record { sends = m.sends; layout = m.layout.now; manifest = m.manifest.now; force = m.force }
+wish_of m = record { sends = m.sends; layout = m.layout.now; manifest = m.manifest.now; force = m.force; json = m.json }
 
 -- what the words ask for: a verb over a layout and a manifest, a verb over its files, a cluster of a layout and a
 -- manifest, or `init` over its texts
 pub data Request : Type 0 where
-  pair : Verb → Text → Text → Request
-  files : Verb → List Text → Request
+  pair : Verb → Verbosity → Text → Text → Request
+  files : Verb → Verbosity → List Text → Request
   cluster : Text → Text → Request
   init : List Text → Wish → Request
 
@@ -172,18 +225,37 @@ asked_rank verb = None
 
 -- what the words ask for
 abbrev pub request_of : Asked → Request
-request_of (asked.Pair verb layout manifest) = pair verb layout.now manifest.now
-request_of (asked.Files verb names) = files verb (texts_of names.items)
+request_of (asked.Pair verb verbosity layout manifest) = pair verb verbosity layout.now manifest.now
+request_of (asked.Files verb verbosity names) = files verb verbosity (texts_of names.items)
 request_of (asked.Cluster layout manifest) = cluster layout.now manifest.now
 request_of (asked.Init names wanted) = init (texts_of names.items) (wish_of wanted)
+
+-- how much a verb says beside faults
+abbrev pub asked_verbosity : Request → Verbosity
+asked_verbosity (pair verb verbosity layout manifest) = verbosity
+asked_verbosity (files verb verbosity names) = verbosity
+asked_verbosity _ = Quiet
+
+-- whether a flag is set, by its value
+abbrev pub is_set : Option Text → Bool
+is_set None = false
+is_set (Some flag) = bytes_eq flag (codes "true")
+
+-- how much is said by the values of both flags: `--quiet` before `--verbose`
+abbrev pub verbosity_of : Option Text → Option Text → Verbosity
+verbosity_of quiet verbose = if is_set quiet then Quiet else if is_set verbose then Verbose else Brief
+
+-- how much a verb is to say beside faults
+abbrev pub verbosity_in : List Row → Verbosity
+verbosity_in rows = verbosity_of (first_of (codes "quiet") rows) (first_of (codes "verbose") rows)
 
 -- a report, as JSON where the value of the flag says so
 abbrev pub report_in : Text → Verb
 report_in flag = if bytes_eq flag (codes "true") then ReportJson else Report
 
--- the number that a text writes, where it is one of 32 bits
-abbrev pub rank_in : Text → Option ℕ
-rank_in text = if accepts false rank_parser text then Some (digits_value 10 (without_leading_plus text)) else None
+-- a check, as JSON where the value of the flag says so
+abbrev pub check_in : Text → Verb
+check_in flag = if bytes_eq flag (codes "true") then CheckJson else Check
 
 -- an explanation of the rank that the value of the flag says
 abbrev pub explain_in : Text → Option Verb
@@ -203,6 +275,7 @@ in_form (Explain extent) json all (Some text) = explain_in text
 in_form (Explain extent) (Some json) (Some all) None = Some (told_in json all)
 in_form (Graph extent) json (Some all) rank = Some (Graph (extent_in all))
 in_form Report (Some flag) all rank = Some (report_in flag)
+in_form Check (Some flag) all rank = Some (check_in flag)
 in_form verb json all rank = Some verb
 
 -- the verb of this name, with its flags
@@ -210,17 +283,17 @@ abbrev pub form_in : Text → List Row → Option Verb
 form_in name rows = option_and_then (λ verb. in_form verb (first_of (codes "json") rows) (first_of (codes "all") rows) (first_of (codes "rank") rows)) (verb_named name)
 
 -- a verb over a layout and a manifest, where both are named
-abbrev pub pair_of : Verb → Option Text → Option Text → Option Request
-pair_of verb (Some layout) (Some manifest) = Some (pair verb layout manifest)
-pair_of verb layout manifest = None
+abbrev pub pair_of : Verb → Verbosity → Option Text → Option Text → Option Request
+pair_of verb verbosity (Some layout) (Some manifest) = Some (pair verb verbosity layout manifest)
+pair_of verb verbosity layout manifest = None
 
 -- what the words of a verb over a layout and a manifest ask for
 abbrev pub pair_in : Verb → List Row → Option Request
-pair_in verb rows = pair_of verb (first_of (codes "LAYOUT") rows) (first_of (codes "MANIFEST") rows)
+pair_in verb rows = pair_of verb (verbosity_in rows) (first_of (codes "LAYOUT") rows) (first_of (codes "MANIFEST") rows)
 
 -- a verb over its files, where it takes any, and else over its layout and its manifest
 abbrev pub over : Verb → Option (List Text) → List Row → Option Request
-over verb (Some names) rows = Some (files verb names)
+over verb (Some names) rows = Some (files verb (verbosity_in rows) names)
 over verb None rows = pair_in verb rows
 
 -- what the words of a verb over files ask for
@@ -241,15 +314,15 @@ abbrev pub sends_named : Text → Option Sends
 sends_named word = if bytes_eq word (codes "wait") then Some Wait else if bytes_eq word (codes "buffer") then Some Buffer else None
 
 -- what `init` is to make by its options, where each has its value
-abbrev pub wanted_of : Option Sends → Option Text → Option Text → Option Text → Option Wish
-wanted_of (Some sends) (Some layout) (Some manifest) (Some force) =
-    Some (record { sends = sends; layout = layout; manifest = manifest; force = bytes_eq force (codes "true") })
-wanted_of sends layout manifest force = None
+abbrev pub wanted_of : Option Sends → Option Text → Option Text → Option Text → Option Text → Option Wish
+wanted_of (Some sends) (Some layout) (Some manifest) (Some force) (Some json) =
+    Some (record { sends = sends; layout = layout; manifest = manifest; force = bytes_eq force (codes "true"); json = bytes_eq json (codes "true") })
+wanted_of sends layout manifest force json = None
 
 -- what `init` is to make, where its words can be read
 abbrev pub wish_in : List Row → Option Wish
 wish_in rows = wanted_of (option_and_then sends_named (first_of (codes "sends") rows)) (first_of (codes "layout") rows)
-    (first_of (codes "manifest") rows) (first_of (codes "force") rows)
+    (first_of (codes "manifest") rows) (first_of (codes "force") rows) (first_of (codes "json") rows)
 
 -- `init` over its texts
 abbrev pub init_in : List Row → Option Request
@@ -259,9 +332,22 @@ init_in rows = option_and_then (λ wish. option_map (λ texts. init texts wish) 
 abbrev pub verb_in : Text → List Row → Option Request
 verb_in name rows = option_and_then (λ verb. files_in verb rows) (form_in name rows)
 
+-- the verb that the words of `calls` ask for
+abbrev pub calls_named : List Row → Option Verb
+calls_named rows = calls_asked (first_of (codes "csv") rows) (first_of (codes "json") rows)
+
+-- what the words of `calls` ask for
+abbrev pub calls_in : List Row → Option Request
+calls_in rows = option_and_then (λ verb. files_in verb rows) (calls_named rows)
+
+-- what the words of `timeline` ask for
+abbrev pub timeline_in : List Row → Option Request
+timeline_in rows = option_and_then (λ window. files_in (Timeline window) rows) (window_in rows)
+
 -- what a subcommand asks for, with its values
 abbrev pub asks_for : Text → List Row → Option Request
-asks_for name rows = if bytes_eq name (codes "init") then init_in rows else if bytes_eq name (codes "cluster") then cluster_in rows else verb_in name rows
+asks_for name rows = if bytes_eq name (codes "init") then init_in rows else if bytes_eq name (codes "cluster") then cluster_in rows
+    else if bytes_eq name (codes "calls") then calls_in rows else if bytes_eq name (codes "timeline") then timeline_in rows else verb_in name rows
 
 -- what the subcommand that was met asks for
 abbrev pub request_in : Option (Text × List Row) → Option Request

@@ -12,17 +12,20 @@
 ghost use Rattle.std.specs.Prelude.{◌≡◌, [], IfErr, IfOk, OnOk, Some, codes, false, option_and_then, option_map};
 ghost use Rattle.clap.specs.Words.{app_of, fault_of, found_of, new_app, rows_of, rule_of, subcommand_of, subcommand_rows_of};
 ghost use Rattle.clap.specs.declared.builder.command.Command.TheViews.{out-Command};
-ghost use Rattle.command_line.specs.Program.{Refuses, all_rule, answering, bare, cluster_in, cluster_of, explain_app, extent_in, explain_in, file_rule, files_app, files_in, force_rule, form_in, graph_app, in_form, init_app, init_in, json_rule, layout_rule, wanted_of, wish_in, wish_of, manifest_rule, option_rule, pair_app, pair_in, pair_of, program, rank_rule, report_app, report_in, request_in, request_of, sends_named, sends_rule, several_rule, shown_status_of, text_of, told_in, verb_in, texts_of, verb_named, with_explain as and_explain, with_files as and_files, with_graph as and_graph, with_init as and_init, with_pair as and_pair, with_report as and_report};
+ghost use Rattle.command_line.specs.Program.{Refuses, all_rule, answering, bare, check_app, check_in, calls_app, calls_in, calls_named, cluster_in, cluster_of, csv_rule, explain_app, extent_in, explain_in, file_rule, files_app, files_in, force_rule, form_in, free_rule, from_rule, graph_app, in_form, init_app, init_in, json_rule, layout_rule, wanted_of, wish_in, wish_of, manifest_rule, is_set, option_rule, pair_app, pair_in, pair_of, program, quiet_rule, rank_rule, ranks_rule, report_app, report_in, request_in, request_of, sends_named, sends_rule, several_rule, shown_status_of, telling, text_of, timeline_app, timeline_in, to_rule, told_in, verb_in, verbose_rule, verbosity_in, verbosity_of, texts_of, verb_named, with_calls as and_calls, with_check as and_check, with_explain as and_explain, with_files as and_files, with_graph as and_graph, with_init as and_init, with_pair as and_pair, with_report as and_report, with_timeline as and_timeline};
+ghost use Rattle.command_line.specs.Ranks.{rank_in};
+ghost use Rattle.command_line.specs.Windows.{both_of, calls_asked, ends_in, given_moment, given_ranks, moment_in, ranks_in, table_verb, window_by, window_in, window_of};
 
 use clap::builder::ValueParser;
 use clap::error::ErrorKind;
 use clap::{Arg, ArgAction, ArgMatches, Command};
+use dumpi_text::parse_time;
 use mpi_model::Sends;
 use std::alloc::{AllocError, Global};
 use thiserror::Error;
 
 /// How much is printed of a run.
-#[derive(Clone, Copy, Debug, PartialEq, Eq)]
+#[derive(Clone, Copy, PartialEq, Eq)]
 pub enum Extent {
     /// Long lists are cut.
     Cut,
@@ -30,8 +33,39 @@ pub enum Extent {
     Whole,
 }
 
-/// What the program is asked to do.
+/// How a table is written.
+#[derive(Clone, Copy, PartialEq, Eq)]
+pub enum TableForm {
+    /// As CSV, with a header.
+    Csv,
+    /// As a JSON object a line.
+    Json,
+}
+
+/// What is shown of a run: all of it where nothing is said.
+#[derive(Clone, Copy, PartialEq, Eq)]
+pub struct Window {
+    /// From when on, in nanoseconds from the first readable call of the run.
+    pub from: Option<u64>,
+    /// Until when.
+    pub to: Option<u64>,
+    /// The first and the last of its ranks.
+    pub ranks: Option<(u32, u32)>,
+}
+
+/// How much is said on standard error beside faults.
 #[derive(Clone, Copy, Debug, PartialEq, Eq)]
+pub enum Verbosity {
+    /// Nothing.
+    Quiet,
+    /// What was found in texts, on one line.
+    Brief,
+    /// All that was found in texts.
+    Verbose,
+}
+
+/// What the program is asked to do.
+#[derive(Clone, Copy, PartialEq, Eq)]
 pub enum Verb {
     /// Say in words what holds up the run, where all ranks stand, and what may make that wrong.
     Explain(Extent),
@@ -47,11 +81,17 @@ pub enum Verb {
     Report,
     /// Print the report as one JSON object.
     ReportJson,
+    /// Print every call with its partner, a line for each.
+    Calls(TableForm),
+    /// Print the calls as trace events, for viewers of timelines.
+    Timeline(Window),
     /// Run a schedule of posts, takes, shipments, deliveries and restarts, and print the report of
     /// each node.
     Replay,
     /// Make the contents of a report a second time, straight from the rules, and print whether both agree.
     Check,
+    /// Print the same as one JSON object.
+    CheckJson,
     /// Write what the pieces say together as one packed file, which can be a piece of another run.
     Pack,
 }
@@ -72,7 +112,7 @@ impl Verb {
 }
 
 /// What `init` is to make of the texts.
-#[derive(Clone, Copy, Debug, PartialEq, Eq)]
+#[derive(Clone, Copy)]
 pub struct Wanted<'a> {
     /// How sends complete in the layout.
     pub sends: Sends,
@@ -82,20 +122,24 @@ pub struct Wanted<'a> {
     pub manifest: &'a str,
     /// Whether files of these names may be overwritten.
     pub force: bool,
+    /// Whether what was found is printed as JSON.
+    pub json: bool,
 }
 
 /// What the words ask for, with the names of files as they spell them.
-#[derive(Debug, Drop)]
+#[derive(Drop)]
 pub enum Asked<'a> {
     /// A verb over a layout and a manifest.
     Pair {
         verb: Verb,
+        verbosity: Verbosity,
         layout: &'a str,
         manifest: &'a str,
     },
     /// A verb over its files: a layout and a manifest, or the texts of all ranks.
     Files {
         verb: Verb,
+        verbosity: Verbosity,
         files: Vec<&'a str>,
     },
     /// The pieces of a manifest are read by two nodes with two workers each, the nodes exchange what they know, and the
@@ -111,6 +155,22 @@ pub enum Asked<'a> {
     },
 }
 
+impl<'a> Asked<'a> {
+    ghost use Rattle.std.specs.Prelude.{◌≡◌};
+    ghost use Rattle.command_line.specs.Program.{asked_verbosity, request_of};
+
+    /// How much a verb says beside faults. A cluster and `init` say nothing there.
+    pub fn verbosity(&self) -> Verbosity
+        ensures { result ≡ asked_verbosity (request_of self.now) }
+    {
+        match self {
+            Asked::Pair { verbosity, .. } => *verbosity,
+            Asked::Files { verbosity, .. } => *verbosity,
+            Asked::Cluster { .. } | Asked::Init { .. } => Verbosity::Quiet,
+        }
+    }
+}
+
 /// Why the words ask for nothing that can be run.
 #[derive(Debug, Drop, Error)]
 pub enum CommandFault {
@@ -120,9 +180,10 @@ pub enum CommandFault {
     /// A mistake, or a request for the help or the version: `clap` has the text and the status.
     #[error("{0}")]
     Shown(clap::Error),
-    /// The words passed `clap` and ask for nothing: the word for sends is neither `wait` nor `buffer`.
-    /// `clap` leaves no others of that kind.
-    #[error("mpimatch: --sends is wait or buffer\n")]
+    /// The words passed `clap` and ask for nothing: the word for sends is neither `wait` nor `buffer`, a moment is no
+    /// number of seconds, ranks are no two numbers, or a table is asked for in both forms. `clap` leaves no others of
+    /// that kind.
+    #[error("mpimatch: --sends is wait or buffer, --from and --to are seconds such as 1.5, --ranks is such as 2-5, and --csv stands without --json\n")]
     Unread,
 }
 
@@ -228,6 +289,40 @@ Call n of a rank has the places 2n, where it was entered, and 2n + 1, where it r
 R:CALL.PART is what an MPI_Startall starts for place PART of its list, where that isn't 0.
 "#;
 
+/// What the help of `calls` says below its arguments.
+const CALLS_HELP: &str = r#"Example: mpimatch calls r0.txt r1.txt >calls.csv
+
+It prints a line for each call that can be read, by rank and number: as CSV with a header, or with --json
+as a JSON object a line. An MPI_Sendrecv has two lines, its send and its receive, and an MPI_Startall one
+for each of its requests. A field that doesn't apply, or that isn't told, is empty, or null:
+  rank, call, part             which call; part is the place in the list of an MPI_Startall, else 0
+  side                         send or receive, of what makes a message or takes one
+  function                     as the text has it
+  enter, return                when, in seconds
+  object                       the id of the communicator, window or file in the layout
+  peer, tag, count, datatype   what the call names: peer is a rank of the trace, of a call with a root the root
+  bytes                        how long the message is, where the status of its receive tells it
+  request                      the trace's number of the request
+  partner_rank, partner_call, partner_part
+                               the other end: of a send its receive, of a receive its send
+  round                        K of a collective call: the object's round K has it
+  completed_by                 the call that completes what was posted
+  site                         from where in the program the call was made
+A packed piece keeps no names: function is then what the call is, and datatype a number.
+"#;
+
+/// What the help of `timeline` says below its arguments.
+const TIMELINE_HELP: &str = r#"Example: mpimatch timeline r0.txt r1.txt >run.json
+
+It prints trace events as JSON, which ui.perfetto.dev and chrome://tracing open: a track for each rank, a
+slice for each call with what it names, an arrow from each message to its receive, and a mark on the last
+call of each stuck rank. A call that didn't return is open to the end of the trace. Times begin with the
+first call of the run, as those of mpimatch explain do.
+
+With --from and --to it prints what lies between two moments, with --ranks what these ranks did:
+  mpimatch timeline --from 4.2 --to 4.5 --ranks 0-15 layout.json manifest.json >part.json
+"#;
+
 /// What the help of `replay` says below its arguments.
 const REPLAY_HELP: &str =
     r#"It runs the manifest's schedule step by step and prints, for each node N from 0 on, the line node N
@@ -275,6 +370,7 @@ rank that is named stuck or is let go on is looked at by itself. It prints two l
                                after another; or invalid
 It ends with 0 where they say equal and valid, and else with 1. mpimatch is proved to print nothing else:
 unequal or invalid is a fault of the program, its proof or the machine.
+With --json it prints the four counts, and whether both lines hold, as one JSON object on one line.
 Each piece costs a pass over all calls of its rank, so a rank in many pieces takes long.
 "#;
 
@@ -303,22 +399,28 @@ It writes both or none, and over a file that is there only with --force. It prin
 calls and communicators with their members, and what it left out, by the call that made it.
 The first text is that of rank 0, and so on; or the digits at each name's end are the rank, where every
 name has some and they are 0 to n-1, each once.
-To get the answer at once, give the texts to explain, graph, page, report or check in place of both files.
+With --json it prints what it found as one JSON object on one line: docs/formats.md has its keys.
+A folder stands for the files in it whose names end in .txt.
+To get the answer at once, give the texts to explain, graph, page, report, calls, timeline or check in
+place of both files.
 "#;
 
 /// What the help says below the verbs.
 const MORE_HELP: &str =
     r#"To see what is wrong: explain. A picture: graph. A page to look at, and to send: page.
 All facts: report. A check of the answer: check.
+Each call with its partner, for other programs: calls. The run in time: timeline.
 Nodes that exchange what they know: replay, cluster. A trace in parts, on many machines: pack.
 A layout and a manifest from texts: init.
 
 Example: mpimatch explain r0.txt r1.txt
+Example: mpimatch explain mpimatch-trace/
 Example: mpimatch explain layout.json manifest.json
 
 FILE... are a LAYOUT and a MANIFEST, or the texts of all ranks, rank 0 first, of which both are then
 made as init makes them, but not written. They are texts where the first one that isn't empty has a line
 among its first 4,096 bytes that begins with MPI_, as no line of JSON does. None may come by a pipe.
+A folder stands for the files in it whose names end in .txt.
 
 LAYOUT has the ranks and communicators of the run, in one JSON text:
   {"ranks":2,"world":2,"sends":"wait","comms":[{"id":2,"members":[0,1]}]}
@@ -330,8 +432,8 @@ MANIFEST has the text files of the trace, each with its rank and the number of i
   {"pieces":[{"rank":0,"first":0,"file":"r0.txt"},{"rank":1,"first":0,"file":"r1.txt"}]}
 and for replay also "nodes" and a "schedule", for cluster a "node" and a "worker" of each piece:
 mpimatch help replay and mpimatch help cluster say what they may hold. A file that pack has written
-is a piece {"packed":"FILE"}. Calls of a rank are numbered from 0. Files are named from the folder
-in which mpimatch runs.
+is a piece {"packed":"FILE"}. Calls of a rank are numbered from 0. A file is looked for from the folder
+in which mpimatch runs, and then beside the manifest.
 
 It ends with 0 and what the verb prints, with 2 for a mistake in the words, or with 1 and a line on
 standard error where an input is refused:
@@ -347,7 +449,7 @@ Other lines name a rule of layouts, or a file and its line: docs/formats.md has 
 fn program_command<'a>(alloc: Global) -> Result<Command<'a>, AllocError>
     ensures { IfOk result (λ c. app_of c ≡ program) }
 {
-    let command = answering_command(alloc)?;
+    let command = telling_command(alloc)?;
     let command = with_pair(
         command,
         alloc,
@@ -362,13 +464,7 @@ fn program_command<'a>(alloc: Global) -> Result<Command<'a>, AllocError>
         "Reads the pieces of two nodes, which exchange what they know, and prints the report of each",
         CLUSTER_HELP,
     )?;
-    let command = with_files(
-        command,
-        alloc,
-        "check",
-        "Makes pairs and stuck ranks once more straight from the rules, and prints whether they agree",
-        CHECK_HELP,
-    )?;
+    let command = with_check(command, alloc)?;
     let command = with_pair(
         command,
         alloc,
@@ -393,6 +489,15 @@ fn answering_command<'a>(alloc: Global) -> Result<Command<'a>, AllocError>
         PAGE_HELP,
     )?;
     with_report(command, alloc)
+}
+
+/// The same, with the verbs that say what each call did.
+fn telling_command<'a>(alloc: Global) -> Result<Command<'a>, AllocError>
+    ensures { IfOk result (λ c. app_of c ≡ telling) }
+{
+    let command = answering_command(alloc)?;
+    let command = with_calls(command, alloc)?;
+    with_timeline(command, alloc)
 }
 
 /// The program without its verbs.
@@ -524,6 +629,121 @@ fn report_command<'a>(alloc: Global) -> Result<Command<'a>, AllocError>
     bare.arg(json_argument(alloc, "Prints the report as one JSON object"))
 }
 
+/// Adds `calls`, which has flags.
+fn with_calls<'a>(command: Command<'a>, alloc: Global) -> Result<Command<'a>, AllocError>
+    ensures { IfOk result (λ c. app_of c ≡ and_calls (app_of command.entry)) }
+{
+    let calls = calls_command(alloc)?;
+    command.subcommand(calls)
+}
+
+/// `calls`, over texts or a layout and a manifest: as CSV or as JSON lines.
+fn calls_command<'a>(alloc: Global) -> Result<Command<'a>, AllocError>
+    ensures shape { IfOk result (λ c. app_of c ≡ calls_app) }
+    ensures local { IfOk result (λ c. (out-Command c).has_globals ≡ false) }
+{
+    let bare = files_command(
+        alloc,
+        "calls",
+        "Prints every call with its partner, as a table for other programs",
+        CALLS_HELP,
+    )?;
+    let csv = bare.arg(csv_argument(alloc))?;
+    csv.arg(json_argument(alloc, "Prints a JSON object a line"))
+}
+
+/// The flag for CSV.
+fn csv_argument<'a>(alloc: Global) -> Arg<'a>
+    ensures rule { rule_of result ≡ csv_rule }
+    ensures local { result.global ≡ false }
+{
+    Arg::new(alloc, "csv")
+        .long("csv")
+        .help("Prints CSV, as it does without a flag")
+        .action(ArgAction::SetTrue)
+}
+
+/// Adds `timeline`, which has options.
+fn with_timeline<'a>(command: Command<'a>, alloc: Global) -> Result<Command<'a>, AllocError>
+    ensures { IfOk result (λ c. app_of c ≡ and_timeline (app_of command.entry)) }
+{
+    let timeline = timeline_command(alloc)?;
+    command.subcommand(timeline)
+}
+
+/// `timeline`, over texts or a layout and a manifest, perhaps cut by time and by rank.
+fn timeline_command<'a>(alloc: Global) -> Result<Command<'a>, AllocError>
+    ensures shape { IfOk result (λ c. app_of c ≡ timeline_app) }
+    ensures local { IfOk result (λ c. (out-Command c).has_globals ≡ false) }
+{
+    let bare = files_command(
+        alloc,
+        "timeline",
+        "Prints the calls of all ranks in time, as trace events for a viewer",
+        TIMELINE_HELP,
+    )?;
+    let from = bare.arg(from_argument(alloc))?;
+    let to = from.arg(to_argument(alloc))?;
+    to.arg(ranks_argument(alloc))
+}
+
+/// An option for a value, which it may lack.
+fn free_argument<'a>(alloc: Global, id: &'a str, value: &'a str, help: &'a str) -> Arg<'a>
+    ensures rule { rule_of result ≡ free_rule id.entry.now }
+    ensures local { result.global ≡ false }
+{
+    Arg::new(alloc, id).long(id).value_name(value).help(help)
+}
+
+/// `--from`, a moment.
+fn from_argument<'a>(alloc: Global) -> Arg<'a>
+    ensures rule { rule_of result ≡ from_rule }
+    ensures local { result.global ≡ false }
+{
+    let help = "Leaves out what ends before so many seconds of the run";
+    free_argument(alloc, "from", "S", help)
+}
+
+/// `--to`, a moment.
+fn to_argument<'a>(alloc: Global) -> Arg<'a>
+    ensures rule { rule_of result ≡ to_rule }
+    ensures local { result.global ≡ false }
+{
+    let help = "Leaves out what begins after so many seconds of the run";
+    free_argument(alloc, "to", "S", help)
+}
+
+/// `--ranks`, the first and the last.
+fn ranks_argument<'a>(alloc: Global) -> Arg<'a>
+    ensures rule { rule_of result ≡ ranks_rule }
+    ensures local { result.global ≡ false }
+{
+    let help = "Shows the ranks from A to B alone";
+    free_argument(alloc, "ranks", "A-B", help)
+}
+
+/// Adds `check`, which has a flag.
+fn with_check<'a>(command: Command<'a>, alloc: Global) -> Result<Command<'a>, AllocError>
+    ensures { IfOk result (λ c. app_of c ≡ and_check (app_of command.entry)) }
+{
+    let check = check_command(alloc)?;
+    command.subcommand(check)
+}
+
+/// `check`, over texts or a layout and a manifest, and whether as JSON.
+fn check_command<'a>(alloc: Global) -> Result<Command<'a>, AllocError>
+    ensures shape { IfOk result (λ c. app_of c ≡ check_app) }
+    ensures local { IfOk result (λ c. (out-Command c).has_globals ≡ false) }
+{
+    let bare = files_command(
+        alloc,
+        "check",
+        "Makes pairs and stuck ranks once more straight from the rules, and prints whether they agree",
+        CHECK_HELP,
+    )?;
+    bare.arg(json_argument(alloc, "Prints the same as one JSON object"))
+}
+
 /// The flag for JSON.
 fn json_argument<'a>(alloc: Global, help: &'a str) -> Arg<'a>
     ensures rule { rule_of result ≡ json_rule }
@@ -553,7 +773,9 @@ fn init_command<'a>(alloc: Global) -> Result<Command<'a>, AllocError>
     let sends = texts.arg(sends_argument(alloc))?;
     let layout = sends.arg(layout_argument(alloc))?;
     let manifest = layout.arg(manifest_argument(alloc))?;
-    manifest.arg(force_argument(alloc))
+    let force = manifest.arg(force_argument(alloc))?;
+    let quiet = force.arg(quiet_argument(alloc))?;
+    quiet.arg(json_argument(alloc, "Prints what was found as one JSON object"))
 }
 
 /// `init`, without its texts and options.
@@ -622,6 +844,29 @@ fn force_argument<'a>(alloc: Global) -> Arg<'a>
         .action(ArgAction::SetTrue)
 }
 
+/// `-q`, `--quiet`, which leaves nothing on standard error but faults.
+fn quiet_argument<'a>(alloc: Global) -> Arg<'a>
+    ensures rule { rule_of result ≡ quiet_rule }
+    ensures local { result.global ≡ false }
+{
+    Arg::new(alloc, "quiet")
+        .short('q')
+        .long("quiet")
+        .help("Writes nothing on standard error but faults")
+        .action(ArgAction::SetTrue)
+}
+
+/// `--verbose`, which names what was found in the texts.
+fn verbose_argument<'a>(alloc: Global) -> Arg<'a>
+    ensures rule { rule_of result ≡ verbose_rule }
+    ensures local { result.global ≡ false }
+{
+    Arg::new(alloc, "verbose")
+        .long("verbose")
+        .help("Names the communicators that the texts make, and those that are left out")
+        .action(ArgAction::SetTrue)
+}
+
 /// A verb over a layout and a manifest.
 fn pair_command<'a>(
     alloc: Global,
@@ -642,11 +887,10 @@ fn pair_command<'a>(
         "MANIFEST",
         "The pieces of the trace: text files by rank, or packed ones (JSON)",
     );
-    Command::new(alloc, name)
-        .about(about)
-        .after_help(more)
-        .arg(layout)?
-        .arg(manifest)
+    let bare = Command::new(alloc, name).about(about).after_help(more);
+    let one = bare.arg(layout)?;
+    let both = one.arg(manifest)?;
+    both.arg(quiet_argument(alloc))
 }
 
 /// A verb over its files.
@@ -664,10 +908,10 @@ fn files_command<'a>(
         "FILE",
         "A layout and a manifest (JSON), or the texts of all ranks, rank 0 first",
     );
-    Command::new(alloc, name)
-        .about(about)
-        .after_help(more)
-        .arg(files)
+    let bare = Command::new(alloc, name).about(about).after_help(more);
+    let named = bare.arg(files)?;
+    let quiet = named.arg(quiet_argument(alloc))?;
+    quiet.arg(verbose_argument(alloc))
 }
 
 /// A file that has to be named.
@@ -721,6 +965,7 @@ fn in_form(verb: Verb, json: Option<&str>, all: Option<&str>, rank: Option<&str>
         (Verb::Explain(_), Some(json), Some(all), None) => Some(told_in(json, all)),
         (Verb::Graph(_), _, Some(all), _) => Some(Verb::Graph(extent_in(all))),
         (Verb::Report, Some(text), _, _) => Some(report_in(text)),
+        (Verb::Check, Some(text), _, _) => Some(check_in(text)),
         (verb, _, _, _) => Some(verb),
     }
 }
@@ -751,8 +996,18 @@ fn told_in(json: &str, all: &str) -> Verb
 fn explain_in(text: &str) -> Option<Verb>
     ensures { result ≡ explain_in text.now }
 {
+    match rank_in(text) {
+        Some(rank) => Some(Verb::ExplainRank(rank)),
+        None => None,
+    }
+}
+
+/// The number of a rank that a text says.
+fn rank_in(text: &str) -> Option<u32>
+    ensures { result ≡ rank_in text.now }
+{
     match text.parse::<u32>() {
-        Ok(rank) => Some(Verb::ExplainRank(rank)),
+        Ok(rank) => Some(rank),
         Err(_) => None,
     }
 }
@@ -768,6 +1023,17 @@ fn report_in(flag: &str) -> Verb
     }
 }
 
+/// A check, as JSON where the value of the flag says so.
+fn check_in(flag: &str) -> Verb
+    ensures { result ≡ check_in flag.now }
+{
+    if flag == "true" {
+        Verb::CheckJson
+    } else {
+        Verb::Check
+    }
+}
+
 /// The verb of a name in the form that its flags give it.
 fn form_in(name: &str, inner: &ArgMatches<'_>) -> Option<Verb>
     ensures { result ≡ form_in name.now (rows_of (found_of inner.now)) }
@@ -779,13 +1045,51 @@ fn form_in(name: &str, inner: &ArgMatches<'_>) -> Option<Verb>
     in_form(verb, json, all, rank)
 }
 
+/// Whether a flag is set, by its value.
+fn is_set(flag: Option<&str>) -> bool
+    ensures { result ≡ is_set (text_of flag.entry) }
+{
+    match flag {
+        Some(flag) => flag == "true",
+        None => false,
+    }
+}
+
+/// How much is said by the values of both flags: `--quiet` before `--verbose`.
+fn verbosity_of(quiet: Option<&str>, verbose: Option<&str>) -> Verbosity
+    ensures { result ≡ verbosity_of (text_of quiet.entry) (text_of verbose.entry) }
+{
+    if is_set(quiet) {
+        Verbosity::Quiet
+    } else if is_set(verbose) {
+        Verbosity::Verbose
+    } else {
+        Verbosity::Brief
+    }
+}
+
+/// How much a verb is to say beside faults.
+fn verbosity_in(inner: &ArgMatches<'_>) -> Verbosity
+    ensures { result ≡ verbosity_in (rows_of (found_of inner.now)) }
+{
+    let quiet = inner.get_str("quiet");
+    let verbose = inner.get_str("verbose");
+    verbosity_of(quiet, verbose)
+}
+
 /// A verb over a layout and a manifest, where both are named.
-fn pair_of<'a>(verb: Verb, layout: Option<&'a str>, manifest: Option<&'a str>) -> Option<Asked<'a>>
-    ensures { option_map request_of result ≡ pair_of verb (text_of layout.entry) (text_of manifest.entry) }
+fn pair_of<'a>(
+    verb: Verb,
+    verbosity: Verbosity,
+    layout: Option<&'a str>,
+    manifest: Option<&'a str>,
+) -> Option<Asked<'a>>
+    ensures { option_map request_of result ≡ pair_of verb verbosity (text_of layout.entry) (text_of manifest.entry) }
 {
     match (layout, manifest) {
         (Some(layout), Some(manifest)) => Some(Asked::Pair {
             verb,
+            verbosity,
             layout,
             manifest,
         }),
@@ -799,7 +1103,7 @@ fn pair_in<'a>(verb: Verb, inner: &ArgMatches<'a>) -> Option<Asked<'a>>
 {
     let layout = inner.get_str("LAYOUT");
     let manifest = inner.get_str("MANIFEST");
-    pair_of(verb, layout, manifest)
+    pair_of(verb, verbosity_in(inner), layout, manifest)
 }
 
 /// A verb over its files, or over its layout and its manifest.
@@ -813,9 +1117,162 @@ fn files_in<'a>(
     match inner.get_strs("FILE") {
         Some(names) => {
             let files = Vec::from_slice(alloc, names)?;
-            Ok(Some(Asked::Files { verb, files }))
+            let verbosity = verbosity_in(inner);
+            Ok(Some(Asked::Files {
+                verb,
+                verbosity,
+                files,
+            }))
         }
         None => Ok(pair_in(verb, inner)),
+    }
+}
+
+/// A table in the form that its flags say; none where both are set.
+fn table_verb(csv: &str, json: &str) -> Option<Verb>
+    ensures { result ≡ table_verb csv.now json.now }
+{
+    if json == "true" {
+        if csv == "true" {
+            None
+        } else {
+            Some(Verb::Calls(TableForm::Json))
+        }
+    } else {
+        Some(Verb::Calls(TableForm::Csv))
+    }
+}
+
+/// A table in the form of its flags, which `clap` gives each time.
+fn calls_asked(csv: Option<&str>, json: Option<&str>) -> Option<Verb>
+    ensures { result ≡ calls_asked (text_of csv.entry) (text_of json.entry) }
+{
+    match (csv, json) {
+        (Some(csv), Some(json)) => table_verb(csv, json),
+        _ => None,
+    }
+}
+
+/// The verb that the words of `calls` ask for.
+fn calls_named(inner: &ArgMatches<'_>) -> Option<Verb>
+    ensures { result ≡ calls_named (rows_of (found_of inner.now)) }
+{
+    let csv = inner.get_str("csv");
+    let json = inner.get_str("json");
+    calls_asked(csv, json)
+}
+
+/// `calls` over its files, in the form of its flags.
+fn calls_in<'a>(alloc: Global, inner: &ArgMatches<'a>) -> Result<Option<Asked<'a>>, AllocError>
+    ensures { IfOk result (λ asked. option_map request_of asked ≡ calls_in (rows_of (found_of inner.now))) }
+{
+    match calls_named(inner) {
+        Some(verb) => files_in(alloc, verb, inner),
+        None => Ok(None),
+    }
+}
+
+/// The moment that a text says, in nanoseconds.
+fn moment_in(text: &str) -> Option<u64>
+    ensures { result ≡ moment_in text.now }
+{
+    match parse_time(text.as_bytes()) {
+        Ok(moment) => Some(moment),
+        Err(_) => None,
+    }
+}
+
+/// The moment that an option gives, where it is there; none at all where its text is no moment.
+fn given_moment(text: Option<&str>) -> Option<Option<u64>>
+    ensures { result ≡ given_moment (text_of text.entry) }
+{
+    match text {
+        None => Some(None),
+        Some(text) => match moment_in(text) {
+            Some(moment) => Some(Some(moment)),
+            None => None,
+        },
+    }
+}
+
+/// What stands before and behind the first hyphen.
+fn ends_in(text: &str) -> Option<(&str, &str)>
+    ensures { option_map (λ x. (x.0.now, x.1.now)) result ≡ ends_in text.now }
+{
+    text.split_once('-')
+}
+
+/// Both numbers, where both are there.
+fn both_of(first: Option<u32>, last: Option<u32>) -> Option<(u32, u32)>
+    ensures { result ≡ both_of first last }
+{
+    match (first, last) {
+        (Some(first), Some(last)) => Some((first, last)),
+        _ => None,
+    }
+}
+
+/// The first and the last rank that a text says.
+fn ranks_in(text: &str) -> Option<(u32, u32)>
+    ensures { result ≡ ranks_in text.now }
+{
+    match ends_in(text) {
+        Some((first, last)) => both_of(rank_in(first), rank_in(last)),
+        None => None,
+    }
+}
+
+/// The ranks that an option gives, where it is there; none at all where its text says none.
+fn given_ranks(text: Option<&str>) -> Option<Option<(u32, u32)>>
+    ensures { result ≡ given_ranks (text_of text.entry) }
+{
+    match text {
+        None => Some(None),
+        Some(text) => match ranks_in(text) {
+            Some(ranks) => Some(Some(ranks)),
+            None => None,
+        },
+    }
+}
+
+/// What is shown, where each of the options could be read.
+fn window_of(
+    from: Option<Option<u64>>,
+    to: Option<Option<u64>>,
+    ranks: Option<Option<(u32, u32)>>,
+) -> Option<Window>
+    ensures { result ≡ window_of from to ranks }
+{
+    match (from, to, ranks) {
+        (Some(from), Some(to), Some(ranks)) => Some(Window { from, to, ranks }),
+        _ => None,
+    }
+}
+
+/// What is shown, by the texts of the options.
+fn window_by(from: Option<&str>, to: Option<&str>, ranks: Option<&str>) -> Option<Window>
+    ensures { result ≡ window_by (text_of from.entry) (text_of to.entry) (text_of ranks.entry) }
+{
+    window_of(given_moment(from), given_moment(to), given_ranks(ranks))
+}
+
+/// What is shown, by the words of `timeline`.
+fn window_in(inner: &ArgMatches<'_>) -> Option<Window>
+    ensures { result ≡ window_in (rows_of (found_of inner.now)) }
+{
+    let from = inner.get_str("from");
+    let to = inner.get_str("to");
+    let ranks = inner.get_str("ranks");
+    window_by(from, to, ranks)
+}
+
+/// `timeline` over its files, cut as its options say.
+fn timeline_in<'a>(alloc: Global, inner: &ArgMatches<'a>) -> Result<Option<Asked<'a>>, AllocError>
+    ensures { IfOk result (λ asked. option_map request_of asked ≡ timeline_in (rows_of (found_of inner.now))) }
+{
+    match window_in(inner) {
+        Some(window) => files_in(alloc, Verb::Timeline(window), inner),
+        None => Ok(None),
     }
 }
 
@@ -867,15 +1324,17 @@ fn wanted_of<'a>(
     layout: Option<&'a str>,
     manifest: Option<&'a str>,
     force: Option<&str>,
+    json: Option<&str>,
 ) -> Option<Wanted<'a>>
-    ensures { option_map wish_of result ≡ wanted_of sends (text_of layout.entry) (text_of manifest.entry) (text_of force.entry) }
+    ensures { option_map wish_of result ≡ wanted_of sends (text_of layout.entry) (text_of manifest.entry) (text_of force.entry) (text_of json.entry) }
 {
-    match (sends, layout, manifest, force) {
-        (Some(sends), Some(layout), Some(manifest), Some(force)) => Some(Wanted {
+    match (sends, layout, manifest, force, json) {
+        (Some(sends), Some(layout), Some(manifest), Some(force), Some(json)) => Some(Wanted {
             sends,
             layout,
             manifest,
             force: force == "true",
+            json: json == "true",
         }),
         _ => None,
     }
@@ -890,7 +1349,8 @@ fn wanted_in<'a>(inner: &ArgMatches<'a>) -> Option<Wanted<'a>>
     let layout = inner.get_str("layout");
     let manifest = inner.get_str("manifest");
     let force = inner.get_str("force");
-    wanted_of(sends, layout, manifest, force)
+    let json = inner.get_str("json");
+    wanted_of(sends, layout, manifest, force, json)
 }
 
 /// `init` over its texts, with what it is to make.
@@ -919,6 +1379,12 @@ fn asked_in<'a>(alloc: Global, matches: &ArgMatches<'a>) -> Result<Option<Asked<
     }
     if name == "cluster" {
         return Ok(cluster_in(inner));
+    }
+    if name == "calls" {
+        return calls_in(alloc, inner);
+    }
+    if name == "timeline" {
+        return timeline_in(alloc, inner);
     }
     verb_in(alloc, name, inner)
 }

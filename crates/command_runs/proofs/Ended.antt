@@ -3,8 +3,7 @@ use Rattle.std.proofs.Common.{◌≡◌, inl, inr, ℕ, List, Option, Some, None
 use Rattle.std.specs.Io.KnownBytes.{Keeps}
 use Rattle.command_line.specs.Program.{Wish}
 use Rattle.run_files.specs.Stores.{Files, Goes, Same}
-use Rattle.run_files.specs.Values.{manifest_value}
-use Rattle.text_layouts.specs.Making.{RefusesLayoutFile, RefusesManifestFile, made_layout}
+use Rattle.text_layouts.specs.Making.{RefusesLayoutFile, RefusesManifestFile, made_layout, made_manifest}
 use Rattle.text_layouts.specs.declared.fault.MadeFault.{MadeFault}
 use Rattle.text_layouts.specs.declared.made.Made.{Made}
 use Rattle.command_runs.specs.Inits.{RanInit, RefusesFiles}
@@ -30,14 +29,14 @@ init_refused file words wish store failed (Err e) fault written failures out is 
 
 -- a file of what was made would be too long
 pub made_refused : {W : Type 0} (file : List ℕ → Option (List ℕ)) (words : List (List ℕ)) (wish : Wish) (store : Option Files) (failed : Type 0) (r : Result (Unit {0}) InitFault) (fault : InitFault)
-    (written : W → Option (List ℕ)) (failures : W → ℕ) (out : W) (made : Made) (is : IsMadeOf file wish.sends words made) → IsErrAnd r (λ e. e ≡ fault) → RefusesFiles made is.names fault
+    (written : W → Option (List ℕ)) (failures : W → ℕ) (out : W) (made : Made) (is : IsMadeOf file wish.sends words made) → IsErrAnd r (λ e. e ≡ fault) → RefusesFiles made fault
     → RanInit file words wish store store failed r written failures out out
 made_refused file words wish store failed (Ok done) fault written failures out made is err h = absurd err
 made_refused file words wish store failed (Err e) fault written failures out made is err h =
-    inr (inl (made, is, inl (subst (RefusesFiles made is.names) (sym err) h, goes_same store), keeps_same (written out)))
+    inr (inl (made, is, inl (subst (RefusesFiles made) (sym err) h, goes_same store), keeps_same (written out)))
 
-pub layout_too_long : (made : Made) (names : List (List ℕ)) (cause : MadeFault) → RefusesLayoutFile (made_layout made) cause → RefusesFiles made names (faults.Made cause)
-layout_too_long made names cause h = inr (cause, refl, inl h)
+pub layout_too_long : (made : Made) (cause : MadeFault) → RefusesLayoutFile (made_layout made) cause → RefusesFiles made (faults.Made cause)
+layout_too_long made cause h = inr (cause, refl, inl h)
 
-pub manifest_too_long : (made : Made) (names : List (List ℕ)) (cause : MadeFault) → RefusesManifestFile (manifest_value names) cause → RefusesFiles made names (faults.Made cause)
-manifest_too_long made names cause h = inr (cause, refl, inr h)
+pub manifest_too_long : (made : Made) (cause : MadeFault) → RefusesManifestFile (made_manifest made) cause → RefusesFiles made (faults.Made cause)
+manifest_too_long made cause h = inr (cause, refl, inr h)

@@ -1,4 +1,5 @@
 pub mod AllTold
+pub mod Folders
 pub mod AnyOrder
 pub mod ByPlace
 pub mod ByRank
@@ -9,8 +10,10 @@ pub mod Looks
 pub mod Nodes
 pub mod Notes
 pub mod OneByOne
+pub mod Prepared
 pub mod Opening
 pub mod Ordered
+pub mod OwnOps
 pub mod OwnPieces
 pub mod PackedShares
 pub mod Packing
@@ -20,6 +23,7 @@ pub mod Runs
 pub mod Segments
 pub mod Sharing
 pub mod Stops
+pub mod Streaming
 pub mod Told
 pub mod Traces
 pub mod Unpacking

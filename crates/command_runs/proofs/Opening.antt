@@ -1,9 +1,9 @@
 -- A file that can't be opened, or read whole, as what it is refused for.
-use Rattle.std.proofs.Common.{◌≢◌, ◌<◌, arith, inl, inr, ℕ, List, Option, Some, None, ap, length, refl, subst, sym}
+use Rattle.std.proofs.Common.{◌≡◌, ◌≢◌, ◌<◌, arith, inl, inr, ℕ, List, Option, Some, None, ap, length, refl, subst, sym}
 use Rattle.std.proofs.lemmas.List.{length-append}
 use Rattle.std.specs.Io.KnownBytes.{Consumes}
 use Rattle.dumpi_text.specs.Failing.{Fails}
-use Rattle.command_runs.specs.Files.{IsUnreadable, NamesFailed, StandsAtFirst}
+use Rattle.command_runs.specs.Files.{IsLength, IsUnreadable, NamesFailed, StandsAtFirst}
 use Rattle.command_runs.specs.Inputs.{IsNoWant, IsWholeFaultOf, RefusesFile, RefusesOpening}
 use Rattle.command_runs.specs.Packed.{RefusesPackedFile}
 use Rattle.command_runs.specs.Pieces.{RefusesPiece}
@@ -75,3 +75,12 @@ whole_refused most name file left failures old new cause Worker stands refused i
 whole_refused most name file left failures old new cause Net stands refused is = absurd is
 whole_refused most name file left failures old new cause (Frame broken) stands refused is = absurd is
 whole_refused most name file left failures old new cause Write stands refused is = absurd is
+
+-- nothing is told of the bytes of a file
+pub untold_stands : (file left : Option (List ℕ)) → file ≡ None → StandsAtFirst file left
+untold_stands None left e = tt
+untold_stands (Some bytes) left e = absurd (cc e)
+
+pub untold_length : (file : Option (List ℕ)) (count : ℕ) → file ≡ None → IsLength file count
+untold_length None count e = tt
+untold_length (Some bytes) count e = absurd (cc e)

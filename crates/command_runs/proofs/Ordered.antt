@@ -3,6 +3,7 @@ use Rattle.std.proofs.Common.{◌≡◌, ◌<◌, ◌≤◌, ◌++◌, ◌∷◌
 use Rattle.std.proofs.lemmas.List.{length-map}
 use Rattle.std.proofs.lemmas.Option.{get_or_from_slice_get, slice_get-get_or, slice_get-map, slice_get_within}
 use Rattle.text_layouts.specs.Names.{IsByDigits, IsTwice, number_of, numbers_of}
+use Rattle.text_layouts.specs.Seats.{kept}
 use Rattle.std.specs.List.{slice_get}
 use Rattle.command_runs.specs.Prepared.{AreAt}
 
@@ -38,6 +39,10 @@ twice_within names first second h =
 -- the bytes of the name at a place
 pub name_at : (names : List (String Global)) (k : ℕ) (name : String Global) → k < length names → name ≡ get_or names k name → slice_get (map string_bytes names) k ≡ Some (string_bytes name)
 name_at names k name lt is = slice_get-map string_bytes names k ∙ ap (option_map string_bytes) (slice_get-get_or names k name lt ∙ ap Some (sym is))
+
+-- the text of the rank of a place
+pub seat_at : (seats : List (Option (String Global))) (k : ℕ) (seat : Option (String Global)) → k < length seats → seat ≡ get_or seats k seat → slice_get (kept seats) k ≡ Some (option_map string_bytes seat)
+seat_at seats k seat lt is = slice_get-map (option_map string_bytes) seats k ∙ ap (option_map (option_map string_bytes)) (slice_get-get_or seats k seat lt ∙ ap Some (sym is))
 
 -- how many names there are
 pub names_within : (names : List (String Global)) (words : List (List ℕ)) (most : ℕ) → map string_bytes names ≡ words → length names ≤ most → length words ≤ most

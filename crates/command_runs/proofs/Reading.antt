@@ -6,7 +6,7 @@ use Rattle.dumpi_calls.specs.declared.walking.Walked.{Walked}
 use Rattle.comm_makings.specs.declared.calls.RankCalls.{RankCalls}
 use Rattle.text_layouts.specs.Texts.{IsReadFrom, StopsIn}
 use Rattle.command_runs.specs.Files.{StandsAtFirst}
-use Rattle.command_runs.specs.TextCalls.{AllSay, HasNoCall, Says, StopsSo, is_no_text}
+use Rattle.command_runs.specs.TextCalls.{AllSay, HasNoCall, Says, SaysAt, StopsSo, is_no_text}
 
 pub said : (file left : Option (List ℕ)) (rank : RankCalls) (walked : Walked) → StandsAtFirst file left → IsReadFrom left rank walked → is_no_text walked ≡ false
     → Says file rank walked.calls
@@ -21,12 +21,12 @@ pub has_no_call : (file left : Option (List ℕ)) (rank : RankCalls) (walked : W
 has_no_call None left rank walked stands read none = tt
 has_no_call (Some bytes) left rank walked stands read none = (rank, walked, subst (λ (t : Option (List ℕ)). IsReadFrom t rank walked) stands read, none)
 
-pub say_more : (file : List ℕ → Option (List ℕ)) (names : List (List ℕ)) (name : List ℕ) (ranks : List RankCalls) (rank : RankCalls) (calls count : ℕ)
-    → AllSay file names ranks calls → Says (file name) rank count → AllSay file (names ++ name ∷ []) (ranks ++ rank ∷ []) (calls + count)
-say_more file [] name ranks rank calls count are says =
+pub say_more : (file : List ℕ → Option (List ℕ)) (seats : List (Option (List ℕ))) (seat : Option (List ℕ)) (ranks : List RankCalls) (rank : RankCalls) (calls count : ℕ)
+    → AllSay file seats ranks calls → SaysAt file seat rank count → AllSay file (seats ++ seat ∷ []) (ranks ++ rank ∷ []) (calls + count)
+say_more file [] seat ranks rank calls count are says =
     (rank, [], count, 0, says, (refl, refl), ap (λ (rs : List RankCalls). rs ++ rank ∷ []) are.0, grind (arith, are.1))
-say_more file (n ∷ ns) name ranks rank calls count are says =
-    (are.0, are.1 ++ rank ∷ [], are.2, are.3 + count, are.4, say_more file ns name are.1 rank are.3 count are.5 says, ap (λ (rs : List RankCalls). rs ++ rank ∷ []) are.6, grind (arith, are.7))
+say_more file (n ∷ ns) seat ranks rank calls count are says =
+    (are.0, are.1 ++ rank ∷ [], are.2, are.3 + count, are.4, say_more file ns seat are.1 rank are.3 count are.5 says, ap (λ (rs : List RankCalls). rs ++ rank ∷ []) are.6, grind (arith, are.7))
 
 -- counts that end at the greatest number
 pub counted : (most total count : ℕ) → min (min total most + count) most ≡ min (total + count) most

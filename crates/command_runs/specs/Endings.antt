@@ -5,7 +5,7 @@ use Rattle.clap.specs.Words.{Text, subcommand_of}
 use Rattle.mpi_model.specs.Failures.{HasFailed}
 use Rattle.mpi_model.specs.Layouts.{Parts}
 use Rattle.mpi_model.specs.declared.layout.Sends.TheVariants.{Wait}
-use Rattle.command_line.specs.Program.{Refuses, Request, asked_rank, cluster, files, init, pair, program, request_in, status_of}
+use Rattle.command_line.specs.Program.{Refuses, Request, Wish, asked_rank, cluster, files, init, pair, program, request_in, status_of}
 use Rattle.command_line.specs.declared.CommandFault.{CommandFault}
 use Rattle.command_line.specs.declared.Verb.{Verb}
 use Rattle.run_files.specs.Manifests.{ManifestParts}
@@ -15,16 +15,20 @@ use Rattle.command_runs.specs.Advice.{IsShownIn, is_in_words}
 use Rattle.command_runs.specs.FaultLines.{fault_line_of}
 use Rattle.command_runs.specs.FileNames.{shown_name}
 use Rattle.command_runs.specs.Files.{IsLength, NamesFailed}
+use Rattle.command_runs.specs.Folders.{NamesNoFolder, StandForAll}
 use Rattle.command_runs.specs.InitAdvice.{IsInitShown}
+use Rattle.command_runs.specs.InitFaults.{init_fault_line_of}
 use Rattle.command_runs.specs.Inits.{EndsInit, NamesPiped}
 use Rattle.command_runs.specs.Inputs.{LacksRank, RefusesLoading, TellInput}
 use Rattle.command_runs.specs.Looks.{BeginsAsText}
+use Rattle.command_runs.specs.NoTexts.{AreNoTexts}
 use Rattle.command_runs.specs.Prepared.{IsMadeOf, RefusesWords}
 use Rattle.command_runs.specs.Verbs.{Ran, RanCluster}
 use Rattle.command_runs.specs.declared.ending.Ending.{Ending}
 use Rattle.command_runs.specs.declared.faults.fault.RunFault.{RunFault}
-use Rattle.command_runs.specs.declared.faults.fault.RunFault.TheVariants.{Memory, Outside, Write}
+use Rattle.command_runs.specs.declared.faults.fault.RunFault.TheVariants.{Memory, Write}
 use Rattle.command_runs.specs.declared.faults.init_fault.InitFault.{InitFault}
+use Rattle.command_runs.specs.declared.faults.init_fault.InitFault.TheVariants.{Outside as NoRank}
 use Rattle.command_runs.specs.declared.run.Outcome.{Outcome}
 use Rattle.command_runs.specs.declared.run.Outcome.TheVariants.{Good, CheckFailed}
 
@@ -64,7 +68,8 @@ abbrev pub EndsTexts : {W : Type 0} → Type 0 → (List ℕ → Option (List �
 EndsTexts fails file verb texts written failures old new e = EndsUnmade file verb texts old new e
     ⊎ ((made : Made) × IsMadeOf file Wait texts made
     × (EndsRun fails file verb made.input.layout made.input.manifest written failures old new e
-    ⊎ (LacksRank (asked_rank verb) made.input.layout × EndsShowing (is_in_words verb) file Outside old new e)))
+    ⊎ (LacksRank (asked_rank verb) made.input.layout × (new ≡ old) × (e.status ≡ 1)
+    × IsInitShown file verb (NoRank made.input.layout.ranks) (string_bytes e.errors))))
 
 -- The first of these files that isn't empty begins as the text of a trace.
 abbrev pub BeginsWithText : (List ℕ → Option (List ℕ)) → List Text → Type 0
@@ -81,18 +86,42 @@ abbrev pub strange_line : List Text → List ℕ
 strange_line names = codes "mpimatch: " ++ shown_name (first_name names)
     ++ codes " can't be read as a trace text: name the texts of all ranks, or a layout and a manifest\n"
 
+-- Files that are no texts, and not two, are refused: one can't be read, or has to be unpacked; or the words are
+-- mistaken.
+abbrev pub EndsStrange : (List ℕ → Option (List ℕ)) → Verb → List Text → Ending → Type 0
+EndsStrange file verb names e = ((fault : InitFault) × AreNoTexts file names fault × (e.status ≡ 1) × IsInitShown file verb fault (string_bytes e.errors))
+    ⊎ ((e.status ≡ 2) × (string_bytes e.errors ≡ strange_line names))
+
 -- A verb over its files ends so: over texts, where the first that isn't empty begins as one; or over a layout and a
--- manifest, where they are two; or they are mistaken, and nothing is written.
+-- manifest, where they are two; or they are refused, and nothing is written.
 abbrev pub EndsFiles : {W : Type 0} → Type 0 → (List ℕ → Option (List ℕ)) → Verb → List Text → (W → Option (List ℕ)) → (W → ℕ) → W → W → Ending → Type 0
 EndsFiles fails file verb names written failures old new e = (BeginsWithText file names × EndsTexts fails file verb names written failures old new e)
     ⊎ (((layout manifest : Text) × (names ≡ layout ∷ manifest ∷ []) × EndsPair fails file verb layout manifest written failures old new e)
-    ⊎ ((length names ≢ 2) × (new ≡ old) × (e.status ≡ 2) × (string_bytes e.errors ≡ strange_line names)))
+    ⊎ ((length names ≢ 2) × (new ≡ old) × EndsStrange file verb names e))
+
+-- A verb over the files that its words name ends so: over the names for which the words stand, or one of them stands
+-- for none, and nothing is written.
+abbrev pub EndsNamed : {W : Type 0} → Type 0 → (List ℕ → Option (List ℕ)) → Verb → List Text → (W → Option (List ℕ)) → (W → ℕ) → W → W → Ending → Type 0
+EndsNamed fails file verb words written failures old new e =
+    ((names : List Text) × StandForAll file words names × EndsFiles fails file verb names written failures old new e)
+    ⊎ ((fault : InitFault) × NamesNoFolder file words fault × (new ≡ old) × (e.status ≡ 1) × IsInitShown file verb fault (string_bytes e.errors))
+
+-- `init` over the texts that its words name ends so: over the names for which the words stand, or one of them stands
+-- for none, and nothing is written or kept.
+abbrev pub EndsInitNamed : {W : Type 0} → (List ℕ → Option (List ℕ)) → List Text → Wish → Option Files → Option Files → Type 0 → (W → Option (List ℕ)) → (W → ℕ) → W → W → Ending → Type 0
+EndsInitNamed file words wish before after failed written failures old new e =
+    ((names : List Text) × StandForAll file words names × EndsInit file names wish before after failed written failures old new e)
+    ⊎ ((fault : InitFault) × NamesNoFolder file words fault × (after ≡ before) × (new ≡ old) × (e.status ≡ 1) × (string_bytes e.errors ≡ init_fault_line_of fault))
+
+-- A cluster ran over this layout and this manifest, over readers that fail so, and the program ends so.
+abbrev pub EndsClusterRun : {W : Type 0} → Type 0 → (List ℕ → Option (List ℕ)) → Parts → ManifestParts → (W → Option (List ℕ)) → (W → ℕ) → W → W → Ending → Type 0
+EndsClusterRun fails file l m written failures old new e = (ran : Result Outcome RunFault)
+    × RanCluster fails file l m ran written failures old new × IfErr ran (NamesFailed ⊥) × IsEndedBy false file ran e
 
 -- A cluster of the files of a layout and a manifest ends so: it ran over what they tell, or they are refused.
 abbrev pub EndsCluster : {W : Type 0} → Type 0 → (List ℕ → Option (List ℕ)) → Text → Text → (W → Option (List ℕ)) → (W → ℕ) → W → W → Ending → Type 0
 EndsCluster fails file layout manifest written failures old new e =
-    ((l : Parts) × (m : ManifestParts) × TellInput file layout manifest l m × (ran : Result Outcome RunFault)
-    × RanCluster fails file l m ran written failures old new × IfErr ran (NamesFailed ⊥) × IsEndedBy false file ran e)
+    ((l : Parts) × (m : ManifestParts) × TellInput file layout manifest l m × EndsClusterRun fails file l m written failures old new e)
     ⊎ ((fault : RunFault) × RefusesLoading fails file None layout manifest fault × EndsShowing false file fault old new e)
 
 -- What the program is run on, and what it leaves: the words, the files that it reads, and the store in which `init`
@@ -105,14 +134,14 @@ pub record Surroundings : Type 0 where
 
 -- What the words ask for ends so, over readers that fail so and a store that has failed meanwhile.
 abbrev pub EndsAsked : {W : Type 0} → Type 0 → Type 0 → Surroundings → Request → (W → Option (List ℕ)) → (W → ℕ) → W → W → Ending → Type 0
-EndsAsked fails failed s (pair verb layout manifest) written failures old new e =
+EndsAsked fails failed s (pair verb verbosity layout manifest) written failures old new e =
     EndsPair fails s.file verb layout manifest written failures old new e × (s.store_after ≡ s.store_before)
-EndsAsked fails failed s (files verb names) written failures old new e =
-    EndsFiles fails s.file verb names written failures old new e × (s.store_after ≡ s.store_before)
+EndsAsked fails failed s (files verb verbosity names) written failures old new e =
+    EndsNamed fails s.file verb names written failures old new e × (s.store_after ≡ s.store_before)
 EndsAsked fails failed s (cluster layout manifest) written failures old new e =
     EndsCluster fails s.file layout manifest written failures old new e × (s.store_after ≡ s.store_before)
 EndsAsked fails failed s (init texts wish) written failures old new e =
-    EndsInit s.file texts wish s.store_before s.store_after failed written failures old new e
+    EndsInitNamed s.file texts wish s.store_before s.store_after failed written failures old new e
 
 -- ---- the program
 

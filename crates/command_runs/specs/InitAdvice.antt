@@ -1,21 +1,26 @@
 -- What is said below the line of a fault of texts: what was found, and what to do.
-use Rattle.std.specs.Prelude.{◌≡◌, ◌++◌, ℕ, Bool, true, false, List, [], Option, None, string_bytes}
+use Rattle.std.specs.Prelude.{◌≡◌, ◌==◌, ◌-◌, ◌++◌, ℕ, Bool, true, false, List, [], Option, None, codes, decimal, string_bytes, if◌then◌else◌}
 use Rattle.command_line.specs.declared.Verb.{Verb}
 use Rattle.command_runs.specs.Advice.{IsFound, advice_text, is_in_words}
 use Rattle.command_runs.specs.Notes.{BeginsSo}
-use Rattle.command_runs.specs.Sentences.{begun_text, layout_text}
+use Rattle.command_runs.specs.Sentences.{begun_text, layout_text, said}
 use Rattle.command_runs.specs.declared.faults.found.Found.{Found}
 use Rattle.text_layouts.specs.declared.fault.MadeFault.TheVariants as mades
 use Rattle.command_runs.specs.InitFaults.{init_fault_line_of}
 use Rattle.command_runs.specs.declared.faults.init_fault.InitFault.{InitFault}
-use Rattle.command_runs.specs.declared.faults.init_fault.InitFault.TheVariants.{Text, NoCall, Made}
+use Rattle.command_runs.specs.declared.faults.init_fault.InitFault.TheVariants.{Text, NoCall, Made, Outside}
 
--- the words: of a text that is refused those of its fault, of one without a call what it begins as, and of a layout
--- that breaks a rule the rule
+-- which ranks there are
+abbrev pub ranks_there_text : ℕ → List ℕ
+ranks_there_text ranks = if ranks - 1 == 0 then said (codes "there is rank 0 alone") else codes "  there are ranks 0 to " ++ decimal (ranks - 1) ++ codes "\n"
+
+-- the words: of a text that is refused those of its fault, of one without a call what it begins as, of a layout that
+-- breaks a rule the rule, and of a rank that is not there which there are
 abbrev pub init_advice_text : InitFault → Found → List ℕ
 init_advice_text (Text fault) found = advice_text fault found
 init_advice_text (NoCall path) found = begun_text found.start
 init_advice_text (Made (mades.Layout fault)) found = layout_text fault
+init_advice_text (Outside ranks) found = ranks_there_text ranks
 init_advice_text fault found = []
 
 -- What was found is of the text that the fault names; of all others nothing was.

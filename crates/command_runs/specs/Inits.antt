@@ -1,15 +1,14 @@
 -- `init`: how it ran, and how the program ends; and texts that are no files.
-use Rattle.std.specs.Prelude.{◌≡◌, ◌⊎◌, ℕ, Bool, true, false, List, [], Option, Result, Ok, Err, string_bytes, Contains, None}
+use Rattle.std.specs.Prelude.{◌≡◌, ◌⊎◌, ℕ, Bool, true, false, List, [], Option, Result, Ok, Err, string_bytes, Contains, None, if◌then◌else◌}
 use Rattle.std.specs.Io.KnownBytes.{Appends, Keeps}
 use Rattle.command_line.specs.Program.{Wish}
 use Rattle.run_files.specs.Stores.{AddsBoth, File, Files, Goes, HasBoth, LeavesNothing, RefusesAdding, RefusesReplacing, Same, spare_name}
-use Rattle.run_files.specs.Values.{manifest_value}
 use Rattle.run_files.specs.declared.store.PutFault.{PutFault}
-use Rattle.text_layouts.specs.Making.{IsFile, RefusesLayoutFile, RefusesManifestFile, made_layout}
+use Rattle.text_layouts.specs.Making.{IsFile, RefusesLayoutFile, RefusesManifestFile, made_layout, made_manifest}
 use Rattle.text_layouts.specs.declared.fault.MadeFault.{MadeFault}
 use Rattle.text_layouts.specs.declared.made.Made.{Made}
 use Rattle.command_runs.specs.InitFaults.{IsPutFault, init_fault_line_of}
-use Rattle.command_runs.specs.Prepared.{IsMadeOf, RefusesWords, notes_of}
+use Rattle.command_runs.specs.Prepared.{Form, IsMadeOf, RefusesWords, as_json, as_words, notes_of}
 use Rattle.command_runs.specs.Writing.{BreaksOff}
 use Rattle.command_runs.specs.declared.ending.Ending.{Ending}
 use Rattle.command_runs.specs.declared.faults.init_fault.InitFault.{InitFault}
@@ -22,15 +21,15 @@ NamesPiped file words _ = ⊥
 
 -- ---- both files
 
--- These are the bytes of both files of what was made, of texts with these names by rank.
-pub record AreFilesOf (made : Made) (names : List (List ℕ)) (layout manifest : List ℕ) : Type 0 where
+-- These are the bytes of both files of what was made.
+pub record AreFilesOf (made : Made) (layout manifest : List ℕ) : Type 0 where
   pub layout_is : IsFile (made_layout made) layout
-  pub manifest_is : IsFile (manifest_value names) manifest
+  pub manifest_is : IsFile (made_manifest made) manifest
 
 -- One of the two files would be too long, or memory was wanting.
-abbrev pub RefusesFiles : Made → List (List ℕ) → InitFault → Type 0
-RefusesFiles made names fault = (fault ≡ faults.Memory) ⊎ ((cause : MadeFault) × (fault ≡ faults.Made cause)
-    × (RefusesLayoutFile (made_layout made) cause ⊎ RefusesManifestFile (manifest_value names) cause))
+abbrev pub RefusesFiles : Made → InitFault → Type 0
+RefusesFiles made fault = (fault ≡ faults.Memory) ⊎ ((cause : MadeFault) × (fault ≡ faults.Made cause)
+    × (RefusesLayoutFile (made_layout made) cause ⊎ RefusesManifestFile (made_manifest made) cause))
 
 -- a file
 abbrev pub file_with : List ℕ → List ℕ → File
@@ -61,23 +60,27 @@ pub record IsUnkept (wish : Wish) (old new : Option Files) (failed : Type 0) (fa
 -- ---- `init`
 
 -- Both files of what was made are kept as they are wanted.
-pub record KeepsMade (wish : Wish) (made : Made) (names : List (List ℕ)) (old new : Option Files) : Type 0 where
+pub record KeepsMade (wish : Wish) (made : Made) (old new : Option Files) : Type 0 where
   pub layout : List ℕ
   pub manifest : List ℕ
-  pub are : AreFilesOf made names layout manifest
+  pub are : AreFilesOf made layout manifest
   pub kept : Goes (PutsBoth wish.force (file_with wish.layout layout) (file_with wish.manifest manifest)) old new
+
+-- how what was found is wanted
+abbrev pub wished_form : Wish → Form
+wished_form wish = if wish.json then as_json wish.layout wish.manifest else as_words
 
 -- How `init` ran over the texts that these words name, in a store of these files: both files are kept and the notes of
 -- them written; or nothing was made, or what was made isn't kept, and nothing written; or only a front of the notes is.
 abbrev pub RanInit : {W : Type 0} → (List ℕ → Option (List ℕ)) → List (List ℕ) → Wish → Option Files → Option Files → Type 0 → Result (Unit {0}) InitFault → (W → Option (List ℕ)) → (W → ℕ) → W → W → Type 0
 RanInit file words wish old new failed (Ok done) written failures before after = (made : Made) × (is : IsMadeOf file wish.sends words made)
-    × KeepsMade wish made is.names old new × Appends (written before) (written after) (notes_of made is)
+    × KeepsMade wish made old new × Appends (written before) (written after) (notes_of (wished_form wish) made is)
 RanInit file words wish old new failed (Err fault) written failures before after =
     (RefusesWords file words fault × Goes Same old new × Keeps (written before) (written after))
-    ⊎ (((made : Made) × (is : IsMadeOf file wish.sends words made) × ((RefusesFiles made is.names fault × Goes Same old new) ⊎ IsUnkept wish old new failed fault)
+    ⊎ (((made : Made) × (is : IsMadeOf file wish.sends words made) × ((RefusesFiles made fault × Goes Same old new) ⊎ IsUnkept wish old new failed fault)
     × Keeps (written before) (written after))
-    ⊎ ((fault ≡ faults.Write) × ((made : Made) × (is : IsMadeOf file wish.sends words made) × KeepsMade wish made is.names old new
-    × BreaksOff (λ text. text ≡ notes_of made is) written failures before after)))
+    ⊎ ((fault ≡ faults.Write) × ((made : Made) × (is : IsMadeOf file wish.sends words made) × KeepsMade wish made old new
+    × BreaksOff (λ text. text ≡ notes_of (wished_form wish) made is) written failures before after)))
 
 -- the ending after such a run of `init`
 abbrev pub IsEndedInit : Result (Unit {0}) InitFault → Ending → Type 0

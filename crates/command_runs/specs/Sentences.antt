@@ -31,17 +31,30 @@ is_absolute (c ∷ name) = c == 47
 -- from where the name of a file is looked up
 abbrev pub folder_text : List ℕ → List ℕ
 folder_text name = if is_absolute name then []
-    else said (codes "names of files are looked up from the folder in which mpimatch was started")
+    else said (codes "names of files are looked up from the folder in which mpimatch was started, and those of a manifest also beside it")
 
 -- what a file that was read begins as
 abbrev pub begun_text : Option Start → List ℕ
 begun_text None = []
 begun_text (Some starts.Empty) = said (codes "it is empty")
-begun_text (Some starts.Gzip) = said (codes "it begins as what gzip packed: unpack it")
-begun_text (Some starts.Utf16) = said (codes "it begins as UTF-16: write it as UTF-8")
+begun_text (Some starts.Gzip) = said (codes "it is packed by gzip: gunzip unpacks it")
+begun_text (Some starts.Bzip2) = said (codes "it is packed by bzip2: bunzip2 unpacks it")
+begun_text (Some starts.Xz) = said (codes "it is packed by xz: unxz unpacks it")
+begun_text (Some starts.Zstd) = said (codes "it is packed by zstd: unzstd unpacks it")
+begun_text (Some starts.Utf16) = said (codes "it is written in UTF-16: iconv -f UTF-16 -t UTF-8 writes it as UTF-8")
+begun_text (Some starts.Binary) = said (codes "it is a binary file, by a byte 0 near its start: if it is of SST DUMPI, dumpi2ascii prints it")
 begun_text (Some starts.Mark) = said (codes "it begins with a byte order mark: remove its first three bytes")
-begun_text (Some starts.Binary) = said (codes "there is a byte 0 near its start, as in a binary file")
 begun_text (Some starts.Lines) = []
+
+-- what is said of a file that has to be unpacked or written anew, behind its name
+abbrev pub strange_text : Start → List ℕ
+strange_text starts.Gzip = codes " is packed by gzip: gunzip unpacks it"
+strange_text starts.Bzip2 = codes " is packed by bzip2: bunzip2 unpacks it"
+strange_text starts.Xz = codes " is packed by xz: unxz unpacks it"
+strange_text starts.Zstd = codes " is packed by zstd: unzstd unpacks it"
+strange_text starts.Utf16 = codes " is written in UTF-16: iconv -f UTF-16 -t UTF-8 writes it as UTF-8"
+strange_text starts.Binary = codes " is a binary file, by a byte 0 near its start: if it is of SST DUMPI, dumpi2ascii prints it"
+strange_text _ = codes " is no trace text"
 
 -- ---- of layouts and manifests
 
@@ -116,6 +129,7 @@ wanted_text parameters.Comm = codes "a number from 0 to 2147483647, or (MPI_COMM
 wanted_text parameters.OldComm = codes "a number from 0 to 2147483647, or (MPI_COMM_WORLD) behind a number"
 wanted_text parameters.CommOld = codes "a number from 0 to 2147483647, or (MPI_COMM_WORLD) behind a number"
 wanted_text parameters.LocalComm = codes "a number from 0 to 2147483647, or (MPI_COMM_WORLD) behind a number"
+wanted_text parameters.Intercomm = codes "a number from 0 to 2147483647, or (MPI_COMM_WORLD) behind a number"
 wanted_text parameters.Win = codes "a number from 0 to 2147483647"
 wanted_text parameters.Fh = codes "a number from 0 to 2147483647"
 wanted_text parameters.File = codes "a number from 0 to 2147483647"

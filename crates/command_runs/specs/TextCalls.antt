@@ -21,11 +21,26 @@ abbrev pub Says : Option (List ℕ) → RankCalls → ℕ → Type 0
 Says None rank count = Unit {0}
 Says (Some text) rank count = (walked : Walked) × IsReadFrom (Some text) rank walked × (is_no_text walked ≡ false) × (walked.calls ≡ count)
 
--- The texts of these files say this, each of its rank, and have so many calls together.
-abbrev pub AllSay : (List ℕ → Option (List ℕ)) → List (List ℕ) → List RankCalls → ℕ → Type 0
+-- a rank without a text says nothing
+pub record SaysNothing (rank : RankCalls) : Type 0 where
+  pub world : rank.world ≡ None
+  pub own : rank.own ≡ None
+  pub size : rank.size ≡ None
+  pub calls : rank.calls.items ≡ []
+  pub uses : rank.uses.items ≡ []
+  pub windows : rank.windows.items ≡ []
+  pub files : rank.files.items ≡ []
+
+-- The text of a rank, where it has one, says this of communicators, and has so many calls.
+abbrev pub SaysAt : (List ℕ → Option (List ℕ)) → Option (List ℕ) → RankCalls → ℕ → Type 0
+SaysAt file None rank count = SaysNothing rank × (count ≡ 0)
+SaysAt file (Some name) rank count = Says (file name) rank count
+
+-- The texts of the ranks, of those that have one, say this, and have so many calls together.
+abbrev pub AllSay : (List ℕ → Option (List ℕ)) → List (Option (List ℕ)) → List RankCalls → ℕ → Type 0
 AllSay file [] ranks calls = (ranks ≡ []) × (calls ≡ 0)
-AllSay file (name ∷ names) ranks calls = (rank : RankCalls) × (rest : List RankCalls) × (count more : ℕ) × Says (file name) rank count
-    × AllSay file names rest more × (ranks ≡ rank ∷ rest) × (calls ≡ count + more)
+AllSay file (seat ∷ seats) ranks calls = (rank : RankCalls) × (rest : List RankCalls) × (count more : ℕ) × SaysAt file seat rank count
+    × AllSay file seats rest more × (ranks ≡ rank ∷ rest) × (calls ≡ count + more)
 
 -- ---- why a text is refused
 
@@ -51,16 +66,21 @@ RefusesText name text (Text fault) = RefusesRead name text fault
 RefusesText name text (NoCall path) = IsNamed path name × HasNoCall text
 RefusesText name text _ = ⊥
 
+-- Why the text of a rank is refused, where it has one.
+abbrev pub RefusesAt : (List ℕ → Option (List ℕ)) → Option (List ℕ) → InitFault → Type 0
+RefusesAt file None fault = ⊥
+RefusesAt file (Some name) fault = RefusesText name (file name) fault
+
 -- The first of these texts that isn't read is refused so: those before it say something.
-pub record IsFirstRefused (file : List ℕ → Option (List ℕ)) (names : List (List ℕ)) (fault : InitFault) : Type 0 where
+pub record IsFirstRefused (file : List ℕ → Option (List ℕ)) (seats : List (Option (List ℕ))) (fault : InitFault) : Type 0 where
   pub place : ℕ
-  pub name : List ℕ
-  pub there : slice_get names place ≡ Some name
+  pub seat : Option (List ℕ)
+  pub there : slice_get seats place ≡ Some seat
   pub ranks : List RankCalls
   pub calls : ℕ
-  pub before : AllSay file (take place names) ranks calls
-  pub refused : RefusesText name (file name) fault
+  pub before : AllSay file (take place seats) ranks calls
+  pub refused : RefusesAt file seat fault
 
 -- the first of these texts that isn't read is refused, or memory was wanting
-abbrev pub RefusesOne : (List ℕ → Option (List ℕ)) → List (List ℕ) → InitFault → Type 0
-RefusesOne file names fault = (fault ≡ Memory) ⊎ IsFirstRefused file names fault
+abbrev pub RefusesOne : (List ℕ → Option (List ℕ)) → List (Option (List ℕ)) → InitFault → Type 0
+RefusesOne file seats fault = (fault ≡ Memory) ⊎ IsFirstRefused file seats fault

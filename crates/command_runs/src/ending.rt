@@ -3,31 +3,37 @@
 ghost use Rattle.std.specs.Prelude.{◌≡◌, ◌≢◌, ◌∷◌, [], Contains, IfOk, IfSome, IsTrue, None, Option, length, string_bytes};
 ghost use Rattle.mpi_model.specs.Failures.{HasFailed};
 ghost use Rattle.dumpi_text.specs.Failing.{Fails};
-ghost use Rattle.command_line.specs.Program.{texts_of, wish_of};
+ghost use Rattle.command_line.specs.Program.{asked_rank, texts_of, wish_of};
 ghost use Rattle.run_files.specs.Stores.{Files};
 ghost use Rattle.command_runs.specs.Advice.{IsShownIn};
-ghost use Rattle.command_runs.specs.Endings.{BeginsWithText, EndsCluster, EndsFiles, EndsFor, EndsPair, EndsTexts, IsEndedBy, IsEnding, first_name, strange_line};
+ghost use Rattle.command_runs.specs.Endings.{BeginsWithText, EndsCluster, EndsClusterRun, EndsFiles, EndsFor, EndsInitNamed, EndsNamed, EndsPair, EndsRun, EndsStrange, EndsTexts, IsEndedBy, IsEnding, first_name, strange_line};
 ghost use Rattle.command_runs.specs.FaultLines.{fault_line_of};
 ghost use Rattle.command_runs.specs.Files.{IsLength};
 ghost use Rattle.command_runs.specs.InitAdvice.{IsInitShown};
+ghost use Rattle.command_runs.specs.InitFaults.{init_fault_line_of};
 ghost use Rattle.command_runs.specs.Inits.{EndsInit};
+ghost use Rattle.command_runs.specs.Inputs.{HasRank};
 
 use crate::faults::advice::{is_in_words, shown_fault};
 use crate::faults::fault::{RunFault, fault_line};
 use crate::faults::file_name::FileName;
 use crate::faults::init_advice::shown_init_fault;
 use crate::faults::init_fault::{InitFault, init_fault_line};
+use crate::load::beside::Beside;
 use crate::load::first_look::begins_as_text;
+use crate::load::folders::{borrowed, with_folders};
 use crate::load::input::{has_rank, input_at};
+use crate::load::no_text::no_text_of;
 use crate::load::opener::Opener;
-use crate::load::prepared::prepare;
+use crate::load::prepared::{Saying, prepare};
+use crate::load::telling::tell;
 use crate::load::watch::Watcher;
 use crate::run::{Outcome, Run, run_with};
 use crate::verbs::cluster::cluster;
 use crate::verbs::init::init;
-use command_line::{Asked, CommandFault, Verb, Wanted, command_of};
+use command_line::{Asked, CommandFault, Verb, Verbosity, Wanted, command_of};
 use mpi_model::{Sends, Write, write_all};
-use run_files::Store;
+use run_files::{RunInput, Store};
 use std::alloc::{AllocError, Global};
 use std::io::Eprint;
 use std::net::{Net, TcpListener, TcpStream};
@@ -35,7 +41,7 @@ use std::sync::Wait;
 use std::thread::Threads;
 
 /// The status of the program, and what standard error shows.
-#[derive(Debug, Drop)]
+#[derive(Drop)]
 pub struct Ending {
     /// 0 if the run was good, 1 for a refused run, 2 for a mistake in the words.
     pub status: u8,
@@ -47,8 +53,9 @@ pub struct Ending {
 /// help or the version was asked for, 1 for a refused input, with its fault line, and 2 for a
 /// mistake in the words.
 ///
-/// Where a verb takes a layout and a manifest or texts, its words are texts if the first file that isn't
-/// empty begins as one, and else a layout and a manifest if they are two, and else mistaken.
+/// Where a verb takes a layout and a manifest or texts, a folder stands for the texts in it. Then the words are texts
+/// if the first file that isn't empty begins as one, and else a layout and a manifest if they are two, and else
+/// mistaken.
 pub fn ending_of<
     R: Net<Listener = TcpListener, Stream = TcpStream> + Threads + Wait + Sync + Eprint,
     O: Opener,
@@ -72,21 +79,35 @@ pub fn ending_of<
         Ok(asked) => asked,
         Err(fault) => return shown(alloc, &fault, out),
     };
+    heed(asked.verbosity(), watcher);
     match asked {
         Asked::Pair {
             verb,
             layout,
             manifest,
+            ..
         } => over_pair(alloc, verb, (layout, manifest), files, watcher, out),
-        Asked::Files { verb, files: names } => {
-            over_files(rt, alloc, verb, names.as_slice(), files, watcher, out)
+        Asked::Files {
+            verb,
+            verbosity,
+            files: names,
+        } => {
+            let how = (verb, verbosity);
+            over_named(rt, alloc, how, names.as_slice(), files, watcher, out)
         }
         Asked::Cluster { layout, manifest } => {
             over_cluster(rt, alloc, (layout, manifest), files, out)
         }
         Asked::Init { texts, wanted } => {
-            over_init(alloc, texts.as_slice(), wanted, files, store, out)
+            init_named(alloc, texts.as_slice(), wanted, files, store, out)
         }
+    }
+}
+
+/// Shows nothing of how a run comes along, where nothing is to be said but faults.
+fn heed<V: Watcher>(verbosity: Verbosity, watcher: &mut V) {
+    if verbosity == Verbosity::Quiet {
+        watcher.hush();
     }
 }
 
@@ -104,10 +125,47 @@ fn over_pair<O: Opener, V: Watcher, W: Write>(
     let (layout, manifest) = names;
     match input_at(alloc, verb.asked_rank(), layout, manifest, files) {
         Ok(input) => {
-            let ran = run_with(verb, &Run::new(alloc, &input, files), watcher, out);
-            ending_after(alloc, is_in_words(verb), ran, files)
+            let beside = Beside::new(alloc, files, manifest);
+            over_input(alloc, verb, &input, &beside, watcher, out)
         }
         Err(fault) => showing(alloc, is_in_words(verb), &fault, files),
+    }
+}
+
+/// Runs a verb over this input, whose files these are.
+fn over_input<O: Opener, V: Watcher, W: Write>(
+    alloc: Global,
+    verb: Verb,
+    input: &RunInput,
+    files: &O,
+    watcher: &mut V,
+    out: &mut W,
+) -> Result<Ending, AllocError>
+    requires rank { HasRank (asked_rank verb) input.now.layout }
+    ensures { IfOk result (EndsRun (Fails O.R.failures) (O.file files.now) verb input.now.layout input.now.manifest W.written W.failures out.old out.new) }
+{
+    let ran = run_with(verb, &Run::new(alloc, input, files), watcher, out);
+    ending_after(alloc, is_in_words(verb), ran, files)
+}
+
+/// Runs a verb over the files that its words name, where a folder stands for the texts in it.
+fn over_named<R: Eprint, O: Opener, V: Watcher, W: Write>(
+    rt: &R,
+    alloc: Global,
+    how: (Verb, Verbosity),
+    words: &[&str],
+    files: &O,
+    watcher: &mut V,
+    out: &mut W,
+) -> Result<Ending, AllocError>
+    ensures { IfOk result (EndsNamed (Fails O.R.failures) (O.file files.now) how.0 (texts_of words.now) W.written W.failures out.old out.new) }
+{
+    match with_folders(alloc, words, files) {
+        Ok(standing) => {
+            let names = borrowed(alloc, &standing)?;
+            over_files(rt, alloc, how, names.as_slice(), files, watcher, out)
+        }
+        Err(fault) => showing_init(alloc, how.0, &fault, files),
     }
 }
 
@@ -115,50 +173,51 @@ fn over_pair<O: Opener, V: Watcher, W: Write>(
 fn over_files<R: Eprint, O: Opener, V: Watcher, W: Write>(
     rt: &R,
     alloc: Global,
-    verb: Verb,
+    how: (Verb, Verbosity),
     names: &[&str],
     files: &O,
     watcher: &mut V,
     out: &mut W,
 ) -> Result<Ending, AllocError>
-    ensures { IfOk result (EndsFiles (Fails O.R.failures) (O.file files.now) verb (texts_of names.now) W.written W.failures out.old out.new) }
+    ensures { IfOk result (EndsFiles (Fails O.R.failures) (O.file files.now) how.0 (texts_of names.now) W.written W.failures out.old out.new) }
 {
     if are_texts(names, files) {
-        return over_texts(rt, alloc, verb, names, files, watcher, out);
+        return over_texts(rt, alloc, how, names, files, watcher, out);
     }
     match two_of(names) {
-        Some(two) => over_pair(alloc, verb, two, files, watcher, out),
-        None => strange_files(alloc, names),
+        Some(two) => over_pair(alloc, how.0, two, files, watcher, out),
+        None => over_no_texts(alloc, how.0, names, files),
     }
 }
 
-/// Runs a verb over texts: makes the input of them, shows what was found, and runs.
+/// Runs a verb over texts: makes the input of them, shows what was found, as much as is wanted, and runs.
 fn over_texts<R: Eprint, O: Opener, V: Watcher, W: Write>(
     rt: &R,
     alloc: Global,
-    verb: Verb,
+    how: (Verb, Verbosity),
     texts: &[&str],
     files: &O,
     watcher: &mut V,
     out: &mut W,
 ) -> Result<Ending, AllocError>
-    ensures { IfOk result (EndsTexts (Fails O.R.failures) (O.file files.now) verb (texts_of texts.now) W.written W.failures out.old out.new) }
+    ensures { IfOk result (EndsTexts (Fails O.R.failures) (O.file files.now) how.0 (texts_of texts.now) W.written W.failures out.old out.new) }
 {
+    let (verb, verbosity) = how;
     if let Some(path) = piped_of(texts, files) {
         let path = path.to_string(alloc)?;
         return showing_init(alloc, verb, &InitFault::Piped { path }, files);
     }
-    let prepared = match prepare(alloc, Sends::Wait, texts, files) {
+    let prepared = match prepare(alloc, Saying::Words, Sends::Wait, texts, files) {
         Ok(prepared) => prepared,
         Err(fault) => return showing_init(alloc, verb, &fault, files),
     };
-    show(rt, &prepared.notes);
+    tell(rt, alloc, verbosity, &prepared)?;
     let input = &prepared.made.input;
-    if let Err(fault) = has_rank(verb.asked_rank(), &input.layout) {
-        return showing(alloc, is_in_words(verb), &fault, files);
+    if let Err(_outside) = has_rank(verb.asked_rank(), &input.layout) {
+        let ranks = input.layout.ranks();
+        return showing_init(alloc, verb, &InitFault::Outside { ranks }, files);
     }
-    let ran = run_with(verb, &Run::new(alloc, input, files), watcher, out);
-    ending_after(alloc, is_in_words(verb), ran, files)
+    over_input(alloc, verb, input, files, watcher, out)
 }
 
 /// Runs a cluster of a layout and a manifest, by the names of their files.
@@ -172,11 +231,54 @@ fn over_cluster<
     let (layout, manifest) = names;
     match input_at(alloc, None, layout, manifest, files) {
         Ok(input) => {
-            let ran = cluster(rt, &Run::new(alloc, &input, files), out);
-            ending_after(alloc, false, ran, files)
+            let beside = Beside::new(alloc, files, manifest);
+            cluster_over(rt, alloc, &input, &beside, out)
         }
         Err(fault) => showing(alloc, false, &fault, files),
     }
+}
+
+/// Runs a cluster over this input, whose files these are.
+fn cluster_over<
+    R: Net<Listener = TcpListener, Stream = TcpStream> + Threads + Wait + Sync,
+    O: Opener,
+    W: Write,
+>(rt: &R, alloc: Global, input: &RunInput, files: &O, out: &mut W) -> Result<Ending, AllocError>
+    ensures { IfOk result (EndsClusterRun (Fails O.R.failures) (O.file files.now) input.now.layout input.now.manifest W.written W.failures out.old out.new) }
+{
+    let ran = cluster(rt, &Run::new(alloc, input, files), out);
+    ending_after(alloc, false, ran, files)
+}
+
+/// Runs `init` over the texts that its words name, where a folder stands for the texts in it.
+fn init_named<O: Opener, S: Store, W: Write>(
+    alloc: Global,
+    words: &[&str],
+    wanted: Wanted<'_>,
+    files: &O,
+    store: &mut S,
+    out: &mut W,
+) -> Result<Ending, AllocError>
+    ensures { IfOk result (EndsInitNamed (O.file files.now) (texts_of words.now) (wish_of wanted.entry) (S.files store.old) (S.files store.new)
+        (HasFailed (S.failures store.old) (S.failures store.new)) W.written W.failures out.old out.new) }
+{
+    match with_folders(alloc, words, files) {
+        Ok(standing) => {
+            let names = borrowed(alloc, &standing)?;
+            over_init(alloc, names.as_slice(), wanted, files, store, out)
+        }
+        Err(fault) => refused_init(alloc, &fault),
+    }
+}
+
+/// The ending of `init` with a fault.
+fn refused_init(alloc: Global, fault: &InitFault) -> Result<Ending, AllocError>
+    ensures status { IfOk result (λ e. e.status ≡ 1) }
+    ensures errors { IfOk result (λ e. string_bytes e.errors ≡ init_fault_line_of fault.now) }
+{
+    let errors = init_fault_line(alloc, fault)?;
+    let status = 1;
+    Ok(Ending { status, errors })
 }
 
 /// Writes the layout and the manifest that are made of texts, both or none, and then what was found.
@@ -193,17 +295,7 @@ fn over_init<O: Opener, S: Store, W: Write>(
 {
     match init(alloc, texts, wanted, files, store, out) {
         Ok(()) => Ok(silent(alloc, 0)),
-        Err(fault) => Ok(Ending {
-            status: 1,
-            errors: init_fault_line(alloc, &fault)?,
-        }),
-    }
-}
-
-/// Shows on standard error what was found in the texts.
-fn show<R: Eprint>(rt: &R, notes: &[u8]) {
-    if let Ok(text) = std::str::from_utf8(notes) {
-        let _ = eprint!(rt; "{text}");
+        Err(fault) => refused_init(alloc, &fault),
     }
 }
 
@@ -262,6 +354,22 @@ fn first_name<'a>(names: &[&'a str]) -> &'a str
     match names {
         [first, ..] => *first,
         [] => "",
+    }
+}
+
+/// The ending over files that are no texts, and not two: one can't be read, or has to be unpacked; or the words are
+/// mistaken.
+fn over_no_texts<O: Opener>(
+    alloc: Global,
+    verb: Verb,
+    names: &[&str],
+    files: &O,
+) -> Result<Ending, AllocError>
+    ensures { IfOk result (EndsStrange (O.file files.now) verb (texts_of names.now)) }
+{
+    match no_text_of(alloc, names, files)? {
+        Some(fault) => showing_init(alloc, verb, &fault, files),
+        None => strange_files(alloc, names),
     }
 }
 

@@ -3,12 +3,14 @@
 //! The input of a run is loaded once, in one place: a layout and a manifest, from their files or made of the texts of
 //! all ranks. A verb is a function of a [`Run`], which has both and the files of the manifest's pieces, and of the
 //! output. `report` reads the pieces, joins them into one knowledge, and writes its answer; `check` makes it once more
-//! straight from the rules (`trace_check`), `explain`, `graph` and `page` tell what holds up the run (`trace_diagnosis`)
-//! in words, as JSON and as a picture (`diagnosis_words`), and as a page (`page_words`); `pack` writes what the pieces tell as bytes. `replay` runs the
+//! straight from the rules (`trace_check`), `calls` and `timeline` print every call with its partner (`call_table`),
+//! `explain`, `graph` and `page` tell what holds up the run (`trace_diagnosis`) in words, as JSON and as a picture
+//! (`diagnosis_words`), and as a page (`page_words`); `pack` writes what the pieces tell as bytes. `replay` runs the
 //! manifest's schedule over nodes that exchange what they know (`trace_world`), and `cluster` lets two nodes read their
 //! pieces and exchange what they know over a socket (`trace_cluster`). `init` writes the layout and the manifest that
-//! are made of texts. Nothing is written before the whole run is good. Files come from an [`Opener`], so that a run can
-//! be proved and tested over files in memory; the program opens those of the system.
+//! are made of texts. Nothing is written before the whole run is good; `calls` and `timeline`, whose output may be
+//! longer than what is known, write it while they read the pieces a second time. Files come from an [`Opener`], so that
+//! a run can be proved and tested over files in memory; the program opens those of the system.
 //!
 //! The work is linear in the texts, but for the joins of their pieces (`trace_know`) and the answer
 //! (`trace_node`). Memory holds what is known and the events of one piece; that of a replay also all
@@ -29,7 +31,9 @@
 //!   `specs/Inputs.antt`, `Prepared.antt`, `TextCalls.antt`
 //! - when files are texts ([`load::first_look`]), and what is looked at twice ([`load::second_look`]):
 //!   `specs/Looks.antt`, `Notes.antt`
-//! - where files come from ([`load::opener`]), and what observes how far the reading is ([`load::watch`],
+//! - which texts a folder stands for ([`load::folders`]), what is no text ([`load::no_text`]), and what is said of
+//!   texts ([`load::telling`]): `specs/Folders.antt`, `NoTexts.antt`, `Telling.antt`
+//! - where files come from ([`load::opener`], [`load::beside`]), and what observes how far the reading is ([`load::watch`],
 //!   [`load::terminal`]): `specs/Files.antt`
 //! - how a piece is read ([`pieces::piece`], with notes in [`pieces::noted`]), and in which order pieces are refused:
 //!   `specs/Pieces.antt`, `Traces.antt`, `Refusals.antt`, `Notes.antt`
@@ -53,6 +57,7 @@
 //!   piece of a strange rank aside, since a node sees no pieces; the piece of a crew's fault is counted once more.
 //! - A cluster runs by a function of its own: it may wait for threads and a socket, and its promises hold if it
 //!   returns. `report` and `replay` promise that they return.
+//! - Nothing tells the bytes of a file that is found beside a manifest, so of such a run the promises are those of a disk.
 //! - Files are opened through a shared reference, so no clause has to say that a run leaves its files as they were.
 //! - A check rebuilds its index if there are packed files, since the index follows pieces of one rank.
 //! - The names of a fault of `init` are copied before a file is kept, so want of memory hides none that is left.

@@ -10,12 +10,15 @@ ghost use Rattle.command_runs.specs.Verbs.{Ran};
 use crate::faults::fault::RunFault;
 use crate::load::opener::Opener;
 use crate::load::watch::Watcher;
+use crate::verbs::calls::calls;
 use crate::verbs::check::check;
+use crate::verbs::check_json::check_as_json;
 use crate::verbs::explain::{Printing, explain};
 use crate::verbs::pack::pack;
 use crate::verbs::page::page;
 use crate::verbs::replay::replay;
 use crate::verbs::report::{report, report_as_json};
+use crate::verbs::timeline::timeline;
 use command_line::Verb;
 use mpi_model::{Layout, Write};
 use run_files::{Manifest, RunInput};
@@ -50,7 +53,7 @@ impl<'a, O: Opener> Run<'a, O> {
 }
 
 /// How a run ended whose output was written completely.
-#[derive(Clone, Copy, Debug, PartialEq, Eq)]
+#[derive(Clone, Copy)]
 pub enum Outcome {
     /// All that was checked held.
     Good,
@@ -71,7 +74,8 @@ fn keep_freed_memory(alloc: Global) {
     drop(block);
 }
 
-/// Runs a verb. Nothing is written before all else has succeeded. A cluster, which takes threads, is run by
+/// Runs a verb. Nothing is written before all pieces were read and the answer is made; `calls` and `timeline` read them
+/// a second time while they write. A cluster, which takes threads, is run by
 /// [`cluster`](crate::verbs::cluster::cluster). [`RunFault`] says why a run was refused.
 pub fn run_with<O: Opener, V: Watcher, W: Write>(
     verb: Verb,
@@ -92,8 +96,11 @@ pub fn run_with<O: Opener, V: Watcher, W: Write>(
         Verb::Page => page(run, watcher, out),
         Verb::Report => report(run, watcher, out),
         Verb::ReportJson => report_as_json(run, watcher, out),
+        Verb::Calls(form) => calls(form, run, watcher, out),
+        Verb::Timeline(window) => timeline(window, run, watcher, out),
         Verb::Replay => replay(run, watcher, out),
         Verb::Check => check(run, watcher, out),
+        Verb::CheckJson => check_as_json(run, watcher, out),
         Verb::Pack => pack(run, watcher, out),
     }
 }

@@ -2,7 +2,9 @@
 
 pub(crate) mod answerer;
 pub(crate) mod arguments;
+pub(crate) mod calls;
 pub(crate) mod check;
+pub(crate) mod check_json;
 pub(crate) mod cluster;
 pub(crate) mod explain;
 pub(crate) mod facts;
@@ -13,4 +15,7 @@ pub(crate) mod page;
 pub(crate) mod replay;
 pub(crate) mod report;
 pub(crate) mod schedule;
+pub(crate) mod streaming;
+pub(crate) mod survey;
+pub(crate) mod timeline;
 pub(crate) mod writing;

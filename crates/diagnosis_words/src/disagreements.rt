@@ -68,7 +68,7 @@ pub(crate) fn most_of(groups: &[ValueGroup]) -> Option<usize> {
 }
 
 /// Rounds of one object in which the same ranks differ in the same thing.
-#[derive(Clone, Copy, Debug)]
+#[derive(Clone, Copy)]
 pub(crate) struct Alike {
     /// The place of the first of them.
     pub first: usize,

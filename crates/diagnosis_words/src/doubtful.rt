@@ -2,7 +2,7 @@
 
 /// One-sided calls and the synchronization of single windows (MPI 4.0, 12.3 and 12.5), and makings of communicators
 /// that aren't collective over one object (7.4.2, 7.4.3, 7.6.2, 11.9.4).
-const DOUBTFUL: [&str; 29] = [
+const DOUBTFUL: [&str; 27] = [
     "MPI_Put",
     "MPI_Get",
     "MPI_Accumulate",
@@ -30,13 +30,11 @@ const DOUBTFUL: [&str; 29] = [
     "MPI_Comm_create_from_group",
     "MPI_Intercomm_create_from_groups",
     "MPI_Comm_join",
-    "MPI_Intercomm_create",
-    "MPI_Intercomm_merge",
 ];
 
 /// Collective calls on communicators, windows and files (MPI 4.0, 7, 8, 12 and 14): such a call is local only where a
 /// parameter that it is read by is missing.
-const COLLECTIVE: [&str; 46] = [
+const COLLECTIVE: [&str; 48] = [
     "MPI_Comm_split",
     "MPI_Comm_split_type",
     "MPI_Dist_graph_create",
@@ -49,6 +47,8 @@ const COLLECTIVE: [&str; 46] = [
     "MPI_Graph_create",
     "MPI_Dist_graph_create_adjacent",
     "MPI_Cart_sub",
+    "MPI_Intercomm_create",
+    "MPI_Intercomm_merge",
     "MPI_Comm_spawn",
     "MPI_Comm_spawn_multiple",
     "MPI_Comm_accept",

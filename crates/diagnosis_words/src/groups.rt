@@ -7,7 +7,7 @@ use std::collections::BTreeMap;
 use trace_diagnosis::{Beyond, Stand, Standing};
 
 /// Ranks that stand alike: in or after calls of one function on one object in one round, from one place of the program.
-#[derive(Debug, Drop)]
+#[derive(Drop)]
 pub(crate) struct Group {
     pub ranks: Vec<u32>,
     /// The least and the greatest number of their calls.

@@ -64,7 +64,7 @@ fn picture_of(source: Source<'_>, nodes: Nodes, all: bool) -> Result<Picture<'_>
 }
 
 /// Ranks that are drawn as one.
-#[derive(Debug, Drop)]
+#[derive(Drop)]
 struct Node {
     group: Group,
     /// How many nodes of one shape it stands for.

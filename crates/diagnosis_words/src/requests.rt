@@ -6,7 +6,7 @@ use std::alloc::AllocError;
 use trace_diagnosis::Operation;
 
 /// How soon a request is told.
-#[derive(Clone, Copy, Debug, PartialEq, Eq)]
+#[derive(Clone, Copy)]
 enum Order {
     /// It lacks a partner, and names one of the ranks that are asked for.
     Asked,

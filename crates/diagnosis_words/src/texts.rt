@@ -6,7 +6,7 @@ use text_notes::{CallSite, Look, TextNote, note_of};
 use trace_arguments::{Disagreement, Truncated};
 
 /// What the texts of a run tell of its calls and of themselves. It is empty if there is no text.
-#[derive(Debug, Drop)]
+#[derive(Drop)]
 pub struct TextFacts {
     /// What was noted of each text, in the order of the pieces.
     pub notes: Vec<TextNote>,
@@ -25,7 +25,7 @@ pub struct TextFacts {
 }
 
 /// Where a call of a rank stands in its text.
-#[derive(Debug, Drop)]
+#[derive(Drop)]
 pub struct PlacedSite {
     pub rank: u32,
     /// The number of the call among all calls of its rank, from 0.
@@ -36,14 +36,14 @@ pub struct PlacedSite {
 }
 
 /// How often a function was called.
-#[derive(Debug, Drop)]
+#[derive(Drop)]
 pub struct LocalCalls {
     pub function: Vec<u8>,
     pub calls: u64,
 }
 
 /// A text that ends inside a line or a call.
-#[derive(Debug, Drop)]
+#[derive(Drop)]
 pub struct CutText {
     pub rank: u32,
     /// The place of the text among the notes.
@@ -53,7 +53,7 @@ pub struct CutText {
 }
 
 /// Where a call stands, as far as the texts tell it.
-#[derive(Clone, Copy, Debug)]
+#[derive(Clone, Copy)]
 pub(crate) struct Place<'a> {
     /// The name of the text's file, as the manifest spells it.
     pub path: &'a [u8],

@@ -139,36 +139,58 @@ fn other_rounds(source: Source<'_>) -> Result<Vec<usize>, AllocError> {
     Ok(places)
 }
 
-/// The lists of a diagnosis.
-fn lists_of(source: Source<'_>) -> Result<Lists, AllocError> {
-    let alloc = source.alloc;
-    let diagnosis = source.diagnosis;
-    let mut ranks = Vec::new(alloc);
-    for standing in diagnosis.waiting.standing.iter() {
+/// How the ranks stand, in groups of those that stand alike.
+fn standing_groups(source: Source<'_>) -> Result<Vec<Group>, AllocError> {
+    let mut ranks = Vec::new(source.alloc);
+    for standing in source.diagnosis.waiting.standing.iter() {
         ranks.push(standing.rank)?;
     }
-    let groups = groups_of(source, ranks.as_slice())?;
-    let unmatched = &diagnosis.unmatched;
-    let left = unmatched.left_over.as_slice();
-    let starving = unmatched.starving.as_slice();
+    groups_of(source, ranks.as_slice())
+}
+
+/// The messages that are left over, in the order in which they are told.
+fn places_of_left(source: Source<'_>) -> Result<Vec<usize>, AllocError> {
+    let left = source.diagnosis.unmatched.left_over.as_slice();
+    places_by(source.alloc, orders_of_left(source.alloc, left)?.as_slice())
+}
+
+/// The receives that starve, in the order in which they are told.
+fn places_of_starving(source: Source<'_>) -> Result<Vec<usize>, AllocError> {
+    let starving = source.diagnosis.unmatched.starving.as_slice();
+    places_by(
+        source.alloc,
+        orders_of_starving(source.alloc, starving)?.as_slice(),
+    )
+}
+
+/// The lists of a diagnosis.
+fn lists_of(source: Source<'_>) -> Result<Lists, AllocError> {
+    let diagnosis = source.diagnosis;
+    let left_over = places_of_left(source)?;
+    let starving = places_of_starving(source)?;
+    let groups = standing_groups(source)?;
     let mismatched = other_rounds(source)?;
     let arguments = alike_in(source)?;
-    let mut lengths = Vec::new(alloc);
-    lengths.push(diagnosis.waiting.roots.len())?;
-    lengths.push(groups.len())?;
-    lengths.push(mismatched.len())?;
-    lengths.push(diagnosis.rounds.open.len())?;
-    lengths.push(left.len())?;
-    lengths.push(starving.len())?;
-    lengths.push(unmatched.unfinished.len())?;
-    lengths.push(source.texts.truncated.len())?;
-    lengths.push(arguments.len())?;
+    let lengths = Vec::from_slice(
+        source.alloc,
+        &[
+            diagnosis.waiting.roots.len(),
+            groups.len(),
+            mismatched.len(),
+            diagnosis.rounds.open.len(),
+            left_over.len(),
+            starving.len(),
+            diagnosis.unmatched.unfinished.len(),
+            source.texts.truncated.len(),
+            arguments.len(),
+        ],
+    )?;
     Ok(Lists {
         groups,
         arguments,
         mismatched,
-        left_over: places_by(alloc, orders_of_left(alloc, left)?.as_slice())?,
-        starving: places_by(alloc, orders_of_starving(alloc, starving)?.as_slice())?,
+        left_over,
+        starving,
         lengths,
     })
 }

@@ -242,19 +242,29 @@ impl<'a> Writer<'a> {
         }
     }
 
-    /// The members of an object.
+    /// The members of an object, of an intercommunicator those of each group: ` (ranks 0 to 1 and ranks 2 to 3)`.
     fn put_members(&mut self, object: u32) {
-        let Some(members) = self.source.layout.members(object) else {
+        let layout = self.source.layout;
+        let Some(comm) = layout.comm(object) else {
             return;
         };
-        let Ok(mut ranks) = Vec::from_slice(self.source.alloc, members) else {
+        self.put(b" (");
+        self.put_rising(comm.first_group());
+        if comm.is_inter() {
+            self.put(b" and ");
+            self.put_rising(comm.second_group());
+        }
+        self.put(b")");
+    }
+
+    /// Ranks in rising order.
+    fn put_rising(&mut self, ranks: &[u32]) {
+        let Ok(mut ranks) = Vec::from_slice(self.source.alloc, ranks) else {
             self.out.give_up();
             return;
         };
         ranks.as_mut_slice().sort_unstable();
-        self.put(b" (");
         self.put_ranks(ranks.as_slice());
-        self.put(b")");
     }
 
     /// `round 5 of MPI_COMM_WORLD`.
@@ -297,7 +307,7 @@ impl<'a> Writer<'a> {
         let object = self.named(rank, call, comm)?;
         self.source
             .layout
-            .members(object)?
+            .peers(object, rank)?
             .get(peer as usize)
             .copied()
     }

@@ -35,7 +35,7 @@ use Rattle.dumpi_calls.specs.declared.function.Function.{Function}
 use Rattle.dumpi_calls.specs.declared.function.Function.TheVariants as functions
 use Rattle.dumpi_calls.specs.declared.parameter.CallFault.{CallFault}
 use Rattle.dumpi_calls.specs.declared.parameter.Parameter.{Parameter}
-use Rattle.dumpi_calls.specs.declared.parameter.Parameter.TheVariants.{Count, Datatype, Dest, Source, Tag, Comm, OldComm, CommOld, LocalComm, Win, Fh, File, SendCount, SendType, SendTag, RecvCount, RecvType, RecvTag, Root, Request, Requests, Index, Indices, Flag, Status, Statuses}
+use Rattle.dumpi_calls.specs.declared.parameter.Parameter.TheVariants.{Count, Datatype, Dest, Source, Tag, Comm, OldComm, CommOld, LocalComm, Intercomm, Win, Fh, File, SendCount, SendType, SendTag, RecvCount, RecvType, RecvTag, Root, Request, Requests, Index, Indices, Flag, Status, Statuses}
 
 -- each parameter's name is a word
 pub named_by_a_word : (parameter : Parameter) → is_word (name_of parameter) ≡ true
@@ -48,6 +48,7 @@ named_by_a_word Comm = refl
 named_by_a_word OldComm = refl
 named_by_a_word CommOld = refl
 named_by_a_word LocalComm = refl
+named_by_a_word Intercomm = refl
 named_by_a_word Win = refl
 named_by_a_word Fh = refl
 named_by_a_word File = refl

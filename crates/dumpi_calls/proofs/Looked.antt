@@ -28,7 +28,7 @@ use Rattle.dumpi_calls.specs.declared.function.Function.{Function}
 use Rattle.dumpi_calls.specs.declared.function.Function.TheVariants as functions
 use Rattle.dumpi_calls.specs.declared.parameter.CallFault.{CallFault}
 use Rattle.dumpi_calls.specs.declared.parameter.Parameter.{Parameter}
-use Rattle.dumpi_calls.specs.declared.parameter.Parameter.TheVariants.{Count, Datatype, Dest, Source, Tag, Comm, OldComm, CommOld, LocalComm, Win, Fh, File, SendCount, SendType, SendTag, RecvCount, RecvType, RecvTag, Root, Request, Requests, Index, Indices, Flag, Status, Statuses}
+use Rattle.dumpi_calls.specs.declared.parameter.Parameter.TheVariants.{Count, Datatype, Dest, Source, Tag, Comm, OldComm, CommOld, LocalComm, Intercomm, Win, Fh, File, SendCount, SendType, SendTag, RecvCount, RecvType, RecvTag, Root, Request, Requests, Index, Indices, Flag, Status, Statuses}
 use Rattle.dumpi_calls.specs.declared.typing.TypedCall.{TypedCall}
 use Rattle.dumpi_calls.proofs.Names.{same_test}
 
@@ -511,6 +511,7 @@ same_of objects.Comm a b s = (s.texts Comm refl, tt)
 same_of objects.OldComm a b s = (s.texts OldComm refl, (s.texts Comm refl, tt))
 same_of objects.CommOld a b s = (s.texts OldComm refl, (s.texts CommOld refl, (s.texts Comm refl, tt)))
 same_of objects.LocalComm a b s = (s.texts LocalComm refl, tt)
+same_of objects.Intercomm a b s = (s.texts Intercomm refl, tt)
 same_of objects.Win a b s = (s.texts Win refl, tt)
 same_of objects.File a b s = (s.texts Fh refl, (s.texts File refl, tt))
 

@@ -44,6 +44,7 @@ name_of parameters.Comm = codes "comm"
 name_of parameters.OldComm = codes "oldcomm"
 name_of parameters.CommOld = codes "comm_old"
 name_of parameters.LocalComm = codes "local_comm"
+name_of parameters.Intercomm = codes "intercomm"
 name_of parameters.Win = codes "win"
 name_of parameters.Fh = codes "fh"
 name_of parameters.File = codes "file"
@@ -223,6 +224,7 @@ object_parameters objects.Comm = parameters.Comm ∷ []
 object_parameters objects.OldComm = parameters.OldComm ∷ parameters.Comm ∷ []
 object_parameters objects.CommOld = parameters.OldComm ∷ parameters.CommOld ∷ parameters.Comm ∷ []
 object_parameters objects.LocalComm = parameters.LocalComm ∷ []
+object_parameters objects.Intercomm = parameters.Intercomm ∷ []
 object_parameters objects.Win = parameters.Win ∷ []
 object_parameters objects.File = parameters.Fh ∷ parameters.File ∷ []
 

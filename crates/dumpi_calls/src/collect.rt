@@ -37,7 +37,7 @@ impl<T: Drop> From<AllocFailed<T>> for Memory {
 }
 
 /// The events of calls, in their order. Enter and Return alternate: a call after one that has not returned is left out.
-#[derive(Debug, Drop)]
+#[derive(Drop)]
 pub struct Collect {
     events: ReadyEvents,
     is_open: bool,

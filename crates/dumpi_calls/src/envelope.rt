@@ -13,7 +13,7 @@ use mpi_model::{Call, CommRef, Envelope, Exchange, Peer, ReceiveEnvelope, SendEn
 use std::alloc::Global;
 
 /// What an envelope says apart from its communicator, which a Sendrecv names once, after both.
-#[derive(Clone, Copy, Debug)]
+#[derive(Clone, Copy)]
 pub struct Part {
     /// Elements of the datatype.
     pub count: u32,

@@ -8,7 +8,7 @@ use dumpi_text::RawCall;
 use mpi_model::{CollectiveFunction, Kind, Mode};
 
 /// A function of MPI, as the walk distinguishes them.
-#[derive(Clone, Copy, Debug, PartialEq, Eq)]
+#[derive(Clone, Copy)]
 pub enum Function {
     /// `MPI_Send`, `MPI_Ssend`, `MPI_Bsend`, `MPI_Rsend`.
     Send(Mode),

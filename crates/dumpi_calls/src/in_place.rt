@@ -28,7 +28,7 @@ use mpi_model::{
 use std::alloc::Global;
 
 /// A whole call in front of a text.
-#[derive(Debug, Drop)]
+#[derive(Drop)]
 pub struct Whole {
     pub function: Function,
     pub call: TypedCall,

@@ -8,9 +8,9 @@ ghost use Rattle.dumpi_calls.specs.Looked.{is_named_in, looked_parameters};
 use crate::function::{Function, function_of, is};
 use crate::parameter::Parameter;
 use crate::parameter::Parameter::{
-    Comm, CommOld, Count, Datatype, Dest, Fh, File, Flag, Index, Indices, LocalComm, OldComm,
-    RecvCount, RecvTag, RecvType, Request, Requests, Root, SendCount, SendTag, SendType, Source,
-    Status, Statuses, Tag, Win,
+    Comm, CommOld, Count, Datatype, Dest, Fh, File, Flag, Index, Indices, Intercomm, LocalComm,
+    OldComm, RecvCount, RecvTag, RecvType, Request, Requests, Root, SendCount, SendTag, SendType,
+    Source, Status, Statuses, Tag, Win,
 };
 use dumpi_text::{Keeping, RawCall};
 use mpi_model::ObjectParameter;
@@ -37,6 +37,7 @@ fn looked_on(parameter: ObjectParameter) -> &'static [Parameter]
         ObjectParameter::OldComm => &[Request, OldComm, Comm],
         ObjectParameter::CommOld => &[Request, OldComm, CommOld, Comm],
         ObjectParameter::LocalComm => &[Request, LocalComm],
+        ObjectParameter::Intercomm => &[Request, Intercomm],
         ObjectParameter::Win => &[Request, Win],
         ObjectParameter::File => &[Request, Fh, File],
     }

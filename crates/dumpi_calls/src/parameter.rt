@@ -18,6 +18,7 @@ pub enum Parameter {
     OldComm,
     CommOld,
     LocalComm,
+    Intercomm,
     Win,
     Fh,
     File,
@@ -53,6 +54,7 @@ impl Parameter {
             Parameter::OldComm => "oldcomm",
             Parameter::CommOld => "comm_old",
             Parameter::LocalComm => "local_comm",
+            Parameter::Intercomm => "intercomm",
             Parameter::Win => "win",
             Parameter::Fh => "fh",
             Parameter::File => "file",
@@ -81,7 +83,7 @@ impl fmt::Display for Parameter {
 }
 
 /// Why a call is refused.
-#[derive(Clone, Copy, Debug, PartialEq, Eq)]
+#[derive(Clone, Copy)]
 pub enum CallFault {
     /// No memory was left to read it.
     Memory,

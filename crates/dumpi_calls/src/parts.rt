@@ -16,7 +16,7 @@ pub const MOST_CALLS: u64 = 32_768;
 
 /// Events in their order: those of full parts, each of [`MOST_EVENTS`] events, and then those of the part that is being
 /// filled.
-#[derive(Debug, Drop)]
+#[derive(Drop)]
 pub struct Parts {
     pub full: Vec<ReadyEvents>,
     pub last: ReadyEvents,

@@ -247,6 +247,7 @@ fn object_parameters(parameter: ObjectParameter) -> &'static [Parameter]
         ObjectParameter::OldComm => &[Parameter::OldComm, Parameter::Comm],
         ObjectParameter::CommOld => &[Parameter::OldComm, Parameter::CommOld, Parameter::Comm],
         ObjectParameter::LocalComm => &[Parameter::LocalComm],
+        ObjectParameter::Intercomm => &[Parameter::Intercomm],
         ObjectParameter::Win => &[Parameter::Win],
         ObjectParameter::File => &[Parameter::Fh, Parameter::File],
     }

@@ -22,7 +22,7 @@ use mpi_model::Told;
 use std::alloc::Global;
 
 /// What was seen of the fields of a group: the numbers of the first `cancelled` and of the first `source`.
-#[derive(Clone, Copy, Debug, PartialEq, Eq)]
+#[derive(Clone, Copy)]
 struct Seen {
     cancelled: Option<Num>,
     source: Option<Num>,

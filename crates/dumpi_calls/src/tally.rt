@@ -8,7 +8,7 @@ use mpi_model::{Call, Exit, Stamp};
 use std::convert::Infallible;
 
 /// How often each callback was called. A count saturates at the greatest value of its type. This sink refuses no call.
-#[derive(Clone, Copy, Debug, PartialEq, Eq)]
+#[derive(Clone, Copy)]
 pub struct Tally {
     pub on_send: u64,
     pub on_isend: u64,

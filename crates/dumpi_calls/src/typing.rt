@@ -24,7 +24,7 @@ use mpi_model::{Call, Collective, CommRef, Exit, Kind, Mode, ProbeEnvelope, Stam
 use std::alloc::{AllocError, Global};
 
 /// A call with what it names, when it was entered, and how it returned, if it did.
-#[derive(Debug, Drop)]
+#[derive(Drop)]
 pub struct TypedCall {
     pub call: Call,
     /// When it was entered.

@@ -23,7 +23,7 @@ use std::alloc::Global;
 use std::mem;
 
 /// A text that was walked to its end.
-#[derive(Clone, Copy, Debug, PartialEq, Eq)]
+#[derive(Clone, Copy)]
 pub struct Walked {
     /// How many calls were handed on: all of the text, or those up to one at which another thread ended the reading.
     pub calls: u64,
@@ -36,7 +36,7 @@ pub struct Walked {
 }
 
 /// A call that was handed on.
-#[derive(Clone, Copy, Debug, PartialEq, Eq)]
+#[derive(Clone, Copy)]
 pub(crate) struct HandedCall {
     /// The line where it begins, if it has not returned.
     pub(crate) open_line: Option<u64>,

@@ -49,7 +49,7 @@ pub struct Field {
 }
 
 /// The fields of a group, in its order.
-#[derive(Debug, Drop)]
+#[derive(Drop)]
 pub struct Group {
     fields: Vec<Field>,
 }
@@ -80,7 +80,7 @@ impl Group {
 }
 
 /// The groups of a list, in its order.
-#[derive(Debug, Drop)]
+#[derive(Drop)]
 pub struct Groups {
     groups: Vec<Group>,
 }

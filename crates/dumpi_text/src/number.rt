@@ -38,7 +38,7 @@ pub struct Num {
 }
 
 /// The numbers of a list, in its order.
-#[derive(Debug, Drop)]
+#[derive(Drop)]
 pub struct Nums {
     numbers: Vec<Num>,
 }

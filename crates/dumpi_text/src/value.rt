@@ -17,7 +17,7 @@ use std::alloc::{AllocError, AllocFailed, Global};
 use thiserror::Error;
 
 /// What a value says.
-#[derive(Debug, Drop)]
+#[derive(Drop)]
 pub enum Value {
     /// One number.
     Number(Num),

@@ -1,5 +1,5 @@
 -- What the tests of a group tell.
-use Rattle.std.proofs.Common.{◌≡◌, ◌≤◌, ◌<◌, ℕ, ◌+◌, ◌==◌, ◌&&◌, ◌||◌, ◌∙◌, Bool, true, false, List, [], ◌∷◌, nat_le, length, refl, ap, arith, Option, Some, None, IfSome, eqb, option_map, rules}
+use Rattle.std.proofs.Common.{◌≡◌, ◌≤◌, ◌<◌, ℕ, ◌+◌, ◌==◌, ◌&&◌, ◌||◌, ◌∙◌, Bool, true, false, List, [], ◌∷◌, nat_le, length, take, drop, refl, ap, arith, Option, Some, None, IfSome, eqb, option_map, rules, if◌then◌else◌}
 use Rattle.std.proofs.lemmas.Grind.{common_steps}
 use Rattle.std.proofs.lemmas.List.Elements.{All-from_recursion, All-head, All-tail}
 use Rattle.std.proofs.lemmas.Map.Keys.{IsDistinct-cons}
@@ -8,7 +8,7 @@ use Rattle.std.specs.List.{All, AllByRecursion, IsDistinct, list_any, range_with
 use Rattle.mpi_model.specs.declared.object.Object.{Object}
 use Rattle.mpi_model.specs.declared.object.Object.TheVariants.{Communicator as a_communicator, Window, File}
 use Rattle.mpi_model.specs.Kinds.{object_number}
-use Rattle.mpi_model.specs.Communicators.{Communicator, has_double, members_of}
+use Rattle.mpi_model.specs.Communicators.{Communicator, first_group, has_double, is_among, is_inter, local_group, members_of, second_group}
 use Rattle.mpi_model.specs.Layouts.{IsGroup, counts_from, has_double_member, has_stranger, is_empty_group, is_some_communicator, is_some_whole, is_whole}
 
 pub or_false : (a b : Bool) → (a || b) ≡ false → (a ≡ false) × (b ≡ false)
@@ -86,6 +86,21 @@ member_below n (x ∷ xs) all q has = step (eqb q x) refl has (member_below n xs
 -- A group has no more members than the run has ranks.
 pub small_group : (ranks : ℕ) (members : List ℕ) → IsGroup ranks members → length members ≤ ranks
 small_group ranks members g = length-le_from_distinct_below members ranks g.distinct (member_below ranks members g.in_range)
+
+short_front : (n : ℕ) (xs : List ℕ) → length (take n xs) ≤ length xs
+short_front n xs = grind (arith, common_steps)
+
+short_rest : (n : ℕ) (xs : List ℕ) → length (drop n xs) ≤ length xs
+short_rest n xs = grind (arith, common_steps)
+
+-- The group of an intercommunicator in which a rank is has no more members than both groups.
+pub small_side : (rank : ℕ) (g : Communicator) → length (local_group rank g) ≤ length g.members
+small_side rank g = by (is_inter g) (is_among rank (first_group g))
+  where
+    by : (two first : Bool) → length (if two then (if first then first_group g else second_group g) else g.members) ≤ length g.members
+    by true true = short_front _ g.members
+    by true false = short_rest _ g.members
+    by false first = omega arith
 
 counted : (first : ℕ) (xs : List ℕ) → counts_from first xs ≡ true → xs ≡ range_with_len first (length xs)
 counted first [] h = refl

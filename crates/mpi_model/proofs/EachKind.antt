@@ -87,6 +87,7 @@ again kinds.FileWriteOrderedEnd = refl
 again kinds.CommSetInfo = refl
 again kinds.WinSetInfo = refl
 again kinds.FileSetInfo = refl
+again kinds.IntercommMerge = refl
 
 some_is : {X : Type 0} (x y : X) → Some x ≡ Some y → x ≡ y
 some_is x y h = cc
@@ -128,7 +129,7 @@ counts_all : counts 0 all_kinds ≡ true
 unfolding all_kinds kind_number
 counts_all = refl
 
-below : (kind : Kind) → kind_number kind < 74
+below : (kind : Kind) → kind_number kind < 75
 unfolding all_kinds
 below kind = slice_get_within all_kinds (kind_number kind) kind (again kind)
 

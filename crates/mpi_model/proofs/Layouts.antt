@@ -1,5 +1,5 @@
 -- What the tests of a layout tell.
-use Rattle.std.proofs.Common.{◌≡◌, ◌≤◌, ◌<◌, ℕ, ◌==◌, ◌||◌, ◌∙◌, Bool, true, false, List, [], nat_lt, length, refl, ap, arith, Some, None, option_map, if◌then◌else◌, eqb}
+use Rattle.std.proofs.Common.{◌≡◌, ◌≤◌, ◌<◌, ℕ, ◌==◌, ◌&&◌, ◌||◌, not, ◌∙◌, Bool, true, false, List, [], nat_lt, length, refl, ap, arith, Some, None, option_map, if◌then◌else◌, eqb}
 use Rattle.std.proofs.lemmas.Grind.{common_steps}
 use Rattle.std.proofs.lemmas.List.{get_or-map}
 use Rattle.std.proofs.lemmas.List.Sorted.{All-permutation, IsPermutation-map, length_permutation}
@@ -9,7 +9,7 @@ use Rattle.std.specs.List.Sorted.{IsNonDecreasing, IsNonDecreasingBy, IsStrictly
 use Rattle.mpi_model.specs.declared.layout.Sends.{Sends}
 use Rattle.mpi_model.specs.declared.object.Object.TheVariants.{Communicator as a_communicator}
 use Rattle.mpi_model.specs.declared.layout.fault.LayoutFault.TheVariants.{CommCount}
-use Rattle.mpi_model.specs.Communicators.{Communicator, InOrder, has_double, members_of, object_of_comm, ids}
+use Rattle.mpi_model.specs.Communicators.{Communicator, InOrder, has_double, is_intercomm, is_some_inter, members_of, object_of_comm, ids}
 use Rattle.mpi_model.specs.Layouts.{IsGroup, IsLayout, comm_fault, fault_of, has_double_member, has_stranger, has_world, has_wrong_numbers, is_empty_group, is_some_communicator, is_some_whole}
 use Rattle.mpi_model.specs.declared.object.Object.{Object}
 use Rattle.mpi_model.specs.declared.object.Object.TheVariants.{Window, File}
@@ -38,6 +38,7 @@ record Passes (ranks world : ℕ) (gs : List Communicator) : Type 0 where
   pub no_double : list_any has_double_member gs ≡ false
   pub world_there : is_some_whole ranks (members_of gs world) ≡ true
   pub world_object : is_some_communicator (object_of_comm gs world) ≡ true
+  pub world_group : is_intercomm gs world ≡ false
   pub clear : has_clash gs ≡ false
 
 passes_by : {F : Type 0} (a b c d e m n : Bool) (f g h i j k : F)
@@ -52,19 +53,33 @@ passes_by false false false false true false true f g h i j k h' = cc
 passes_by false false false false true false false f g h i j k h' = (refl, refl, refl, refl, refl, refl)
 passes_by false false false false false m n f g h i j k h' = cc
 
+not_so : (a : Bool) → not a ≡ true → a ≡ false
+not_so true h = cc
+not_so false h = refl
+
 passes : (ranks world : ℕ) (gs : List Communicator) → comm_fault ranks world gs ≡ None → Passes ranks world gs
 passes ranks world gs n =
     let all = passes_by (has_double (ids gs)) (list_any is_empty_group gs) (list_any (λ g. has_stranger ranks g.members) gs) (list_any has_double_member gs) (has_world ranks world gs)
     (list_any has_wrong_numbers gs) (has_clash gs) _ _ _ _ _ _ n in
-    let of_world = and_true (is_some_communicator (object_of_comm gs world)) (is_some_whole ranks (members_of gs world)) all.4 in
-    record { single = all.0; full = all.1; in_range = all.2; no_double = all.3; world_there = of_world.1; world_object = of_world.0; clear = all.5 }
+    let of_world = and_true (is_some_communicator (object_of_comm gs world)) (not (is_intercomm gs world) && is_some_whole ranks (members_of gs world)) all.4 in
+    let of_group = and_true (not (is_intercomm gs world)) (is_some_whole ranks (members_of gs world)) of_world.1 in
+    record {
+      single = all.0;
+      full = all.1;
+      in_range = all.2;
+      no_double = all.3;
+      world_there = of_group.1;
+      world_object = of_world.0;
+      world_group = not_so (is_intercomm gs world) of_group.0;
+      clear = all.5;
+    }
 
 flips : (x y : ℕ) → eqb x y ≡ eqb y x
 flips x y = grind (arith, common_steps)
 
 never_falls : (gs : List Communicator) → IsNonDecreasingBy (λ g. g.comm) gs → IsNonDecreasing (ids gs)
 never_falls gs up i j d le lt =
-    let none : Communicator = record { comm = 0; object = a_communicator; members = []; numbers = [] } in
+    let none : Communicator = record { comm = 0; object = a_communicator; members = []; remote_size = 0; numbers = [] } in
     let in_list : j < length gs = grind (arith, common_steps, lt) in
     rw (get_or-map (λ (g : Communicator). g.comm) gs i none d (omega (arith, le, in_list)), get_or-map (λ (g : Communicator). g.comm) gs j none d in_list) (up i j none le in_list)
 
@@ -85,6 +100,7 @@ layout_known ranks world sends given sorted some few short n o =
       groups = All-permutation (λ g. IsGroup ranks g.members) given sorted o.same (all_groups ranks given p.full p.in_range p.no_double);
       world = ap (option_map (λ (g : Communicator). g.members)) (o.found world) ∙ whole_world ranks (members_of given world) p.world_there;
       world_object = ap (option_map (λ (g : Communicator). g.object)) (o.found world) ∙ communicator_world (object_of_comm given world) p.world_object;
+      world_group = ap is_some_inter (o.found world) ∙ p.world_group;
     }
 
 -- no two names of objects of one sort clash

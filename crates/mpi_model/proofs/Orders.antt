@@ -10,7 +10,7 @@ use Rattle.mpi_model.specs.Communicators.{Communicator, one_of}
 
 -- the sort's own test of one number
 abbrev has_number : ℕ → Communicator → Bool
-has_number n = ties (λ g h. is_lt (nat_cmp g.comm h.comm)) (record { comm = n; object = a_communicator; members = []; numbers = [] })
+has_number n = ties (λ g h. is_lt (nat_cmp g.comm h.comm)) (record { comm = n; object = a_communicator; members = []; remote_size = 0; numbers = [] })
 
 abbrev first_one : List Communicator → Option Communicator
 first_one [] = None
@@ -30,4 +30,4 @@ one_first n (g ∷ gs) = step (g.comm == n) refl (one_first n gs)
 
 pub found_stays : (given sorted : List Communicator) → IsStableByKey (λ g. g.comm) nat_cmp given sorted → (n : ℕ) → one_of sorted n ≡ one_of given n
 found_stays given sorted stable n =
-    one_first n sorted ∙ ap first_one (stable (record { comm = n; object = a_communicator; members = []; numbers = [] })) ∙ sym (one_first n given)
+    one_first n sorted ∙ ap first_one (stable (record { comm = n; object = a_communicator; members = []; remote_size = 0; numbers = [] })) ∙ sym (one_first n given)

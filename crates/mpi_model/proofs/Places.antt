@@ -15,7 +15,7 @@ use Rattle.mpi_model.specs.Communicators.{Communicator, one_of, ids}
 use Rattle.mpi_model.proofs.Finds.{find_by, find_none}
 
 abbrev pub none : Communicator
-none = record { comm = 0; object = a_communicator; members = []; numbers = [] }
+none = record { comm = 0; object = a_communicator; members = []; remote_size = 0; numbers = [] }
 
 abbrev pub number_at : List Communicator → ℕ → ℕ
 number_at gs i = (get_or gs i none).comm

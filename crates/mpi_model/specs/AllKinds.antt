@@ -12,4 +12,4 @@ TestsEach = (test : Kind → Bool) → list_all test all_kinds ≡ true → (kin
 pub record HaveNumbers : Type 0 where
   pub again : (kind : Kind) → kind_of (kind_number kind) ≡ Some kind
   pub back : (number : ℕ) (kind : Kind) → kind_of number ≡ Some kind → kind_number kind ≡ number
-  pub below : (kind : Kind) → kind_number kind < 74
+  pub below : (kind : Kind) → kind_number kind < 75

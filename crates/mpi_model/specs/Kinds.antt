@@ -5,7 +5,7 @@ use Rattle.mpi_model.specs.declared.kind.Category.TheVariants.{AllToAll, OneToAl
 use Rattle.mpi_model.specs.declared.kind.Kind.{Kind}
 use Rattle.mpi_model.specs.declared.kind.Kind.TheVariants as kinds
 use Rattle.mpi_model.specs.declared.kind.ObjectParameter.{ObjectParameter}
-use Rattle.mpi_model.specs.declared.kind.ObjectParameter.TheVariants.{Comm, OldComm, CommOld, LocalComm, Win, File}
+use Rattle.mpi_model.specs.declared.kind.ObjectParameter.TheVariants.{Comm, OldComm, CommOld, LocalComm, Intercomm, Win, File}
 use Rattle.mpi_model.specs.declared.object.Object.{Object}
 use Rattle.mpi_model.specs.declared.object.Object.TheVariants as objects
 
@@ -77,6 +77,9 @@ of_comm_old = other objects.Communicator CommOld true false
 
 abbrev pub of_local_comm : Row
 of_local_comm = other objects.Communicator LocalComm true false
+
+abbrev pub of_intercomm : Row
+of_intercomm = other objects.Communicator Intercomm true false
 
 abbrev pub of_comm_with_long_form : Row
 of_comm_with_long_form = other objects.Communicator Comm true true
@@ -163,6 +166,7 @@ row kinds.FileWriteOrderedEnd = blocking (codes "MPI_File_write_ordered_end") of
 row kinds.CommSetInfo = blocking (codes "MPI_Comm_set_info") of_comm
 row kinds.WinSetInfo = blocking (codes "MPI_Win_set_info") of_window
 row kinds.FileSetInfo = blocking (codes "MPI_File_set_info") of_file
+row kinds.IntercommMerge = blocking (codes "MPI_Intercomm_merge") of_intercomm
 
 -- the number of a kind: its code in a frame
 unfoldable pub kind_number : Kind → ℕ
@@ -240,10 +244,11 @@ kind_number kinds.FileWriteOrderedEnd = 70
 kind_number kinds.CommSetInfo = 71
 kind_number kinds.WinSetInfo = 72
 kind_number kinds.FileSetInfo = 73
+kind_number kinds.IntercommMerge = 74
 
 -- all kinds, in the order of their numbers
 unfoldable pub all_kinds : List Kind
-all_kinds = kinds.Barrier ∷ kinds.Bcast ∷ kinds.Scatter ∷ kinds.Gather ∷ kinds.Reduce ∷ kinds.Allreduce ∷ kinds.Allgather ∷ kinds.Alltoall ∷ kinds.Scan ∷ kinds.Exscan ∷ kinds.ReduceScatterBlock ∷ kinds.ReduceScatter ∷ kinds.Allgatherv ∷ kinds.Alltoallv ∷ kinds.Alltoallw ∷ kinds.Gatherv ∷ kinds.Scatterv ∷ kinds.CommSplit ∷ kinds.CommSplitType ∷ kinds.DistGraphCreate ∷ kinds.CommDup ∷ kinds.CommDupWithInfo ∷ kinds.CommCreate ∷ kinds.CommFree ∷ kinds.CommDisconnect ∷ kinds.CartCreate ∷ kinds.GraphCreate ∷ kinds.DistGraphCreateAdjacent ∷ kinds.CartSub ∷ kinds.IntercommCreate ∷ kinds.CommSpawn ∷ kinds.CommSpawnMultiple ∷ kinds.CommAccept ∷ kinds.CommConnect ∷ kinds.WinCreate ∷ kinds.WinAllocate ∷ kinds.WinAllocateShared ∷ kinds.WinCreateDynamic ∷ kinds.FileOpen ∷ kinds.NeighborAllgather ∷ kinds.NeighborAllgatherv ∷ kinds.NeighborAlltoall ∷ kinds.NeighborAlltoallv ∷ kinds.NeighborAlltoallw ∷ kinds.WinFence ∷ kinds.WinFree ∷ kinds.FileClose ∷ kinds.FileSetView ∷ kinds.FileSetSize ∷ kinds.FilePreallocate ∷ kinds.FileSync ∷ kinds.FileSetAtomicity ∷ kinds.FileSeekShared ∷ kinds.FileReadAll ∷ kinds.FileReadAtAll ∷ kinds.FileReadOrdered ∷ kinds.FileWriteAll ∷ kinds.FileWriteAtAll ∷ kinds.FileWriteOrdered ∷ kinds.FileReadAllBegin ∷ kinds.FileReadAtAllBegin ∷ kinds.FileReadOrderedBegin ∷ kinds.FileWriteAllBegin ∷ kinds.FileWriteAtAllBegin ∷ kinds.FileWriteOrderedBegin ∷ kinds.FileReadAllEnd ∷ kinds.FileReadAtAllEnd ∷ kinds.FileReadOrderedEnd ∷ kinds.FileWriteAllEnd ∷ kinds.FileWriteAtAllEnd ∷ kinds.FileWriteOrderedEnd ∷ kinds.CommSetInfo ∷ kinds.WinSetInfo ∷ kinds.FileSetInfo ∷ []
+all_kinds = kinds.Barrier ∷ kinds.Bcast ∷ kinds.Scatter ∷ kinds.Gather ∷ kinds.Reduce ∷ kinds.Allreduce ∷ kinds.Allgather ∷ kinds.Alltoall ∷ kinds.Scan ∷ kinds.Exscan ∷ kinds.ReduceScatterBlock ∷ kinds.ReduceScatter ∷ kinds.Allgatherv ∷ kinds.Alltoallv ∷ kinds.Alltoallw ∷ kinds.Gatherv ∷ kinds.Scatterv ∷ kinds.CommSplit ∷ kinds.CommSplitType ∷ kinds.DistGraphCreate ∷ kinds.CommDup ∷ kinds.CommDupWithInfo ∷ kinds.CommCreate ∷ kinds.CommFree ∷ kinds.CommDisconnect ∷ kinds.CartCreate ∷ kinds.GraphCreate ∷ kinds.DistGraphCreateAdjacent ∷ kinds.CartSub ∷ kinds.IntercommCreate ∷ kinds.CommSpawn ∷ kinds.CommSpawnMultiple ∷ kinds.CommAccept ∷ kinds.CommConnect ∷ kinds.WinCreate ∷ kinds.WinAllocate ∷ kinds.WinAllocateShared ∷ kinds.WinCreateDynamic ∷ kinds.FileOpen ∷ kinds.NeighborAllgather ∷ kinds.NeighborAllgatherv ∷ kinds.NeighborAlltoall ∷ kinds.NeighborAlltoallv ∷ kinds.NeighborAlltoallw ∷ kinds.WinFence ∷ kinds.WinFree ∷ kinds.FileClose ∷ kinds.FileSetView ∷ kinds.FileSetSize ∷ kinds.FilePreallocate ∷ kinds.FileSync ∷ kinds.FileSetAtomicity ∷ kinds.FileSeekShared ∷ kinds.FileReadAll ∷ kinds.FileReadAtAll ∷ kinds.FileReadOrdered ∷ kinds.FileWriteAll ∷ kinds.FileWriteAtAll ∷ kinds.FileWriteOrdered ∷ kinds.FileReadAllBegin ∷ kinds.FileReadAtAllBegin ∷ kinds.FileReadOrderedBegin ∷ kinds.FileWriteAllBegin ∷ kinds.FileWriteAtAllBegin ∷ kinds.FileWriteOrderedBegin ∷ kinds.FileReadAllEnd ∷ kinds.FileReadAtAllEnd ∷ kinds.FileReadOrderedEnd ∷ kinds.FileWriteAllEnd ∷ kinds.FileWriteAtAllEnd ∷ kinds.FileWriteOrderedEnd ∷ kinds.CommSetInfo ∷ kinds.WinSetInfo ∷ kinds.FileSetInfo ∷ kinds.IntercommMerge ∷ []
 
 -- the kind of a number
 unfoldable pub kind_of : ℕ → Option Kind

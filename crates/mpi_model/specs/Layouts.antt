@@ -12,7 +12,7 @@ use Rattle.mpi_model.specs.declared.object.Object.{Object}
 use Rattle.mpi_model.specs.declared.object.Object.TheVariants.{Communicator as a_communicator}
 use Rattle.mpi_model.specs.Kinds.{object_number}
 use Rattle.mpi_model.specs.declared.envelope.CommRef.TheVariants as comms
-use Rattle.mpi_model.specs.Communicators.{Communicator, has_double, ids, members_of, object_of_comm}
+use Rattle.mpi_model.specs.Communicators.{Communicator, has_double, ids, is_intercomm, members_of, object_of_comm}
 use Rattle.mpi_model.specs.Names.{has_clash, numbered}
 
 -- what a layout holds
@@ -28,7 +28,7 @@ pub record IsGroup (ranks : ℕ) (members : List ℕ) : Type 0 where
   pub in_range : All (λ r. r < ranks) members
   pub distinct : IsDistinct eqb members
 
--- What holds of every layout. The world is a communicator of all ranks, in their order (MPI 4.0, 11.2).
+-- What holds of every layout. The world is a communicator of one group, of all ranks in their order (MPI 4.0, 11.2).
 pub record IsLayout (l : Parts) : Type 0 where
   pub some_rank : 0 < l.ranks
   pub few_ranks : l.ranks ≤ MOST_RANKS
@@ -37,6 +37,7 @@ pub record IsLayout (l : Parts) : Type 0 where
   pub groups : All (λ g. IsGroup l.ranks g.members) l.comms
   pub world : members_of l.comms l.world ≡ Some (range_with_len 0 l.ranks)
   pub world_object : object_of_comm l.comms l.world ≡ Some a_communicator
+  pub world_group : is_intercomm l.comms l.world ≡ false
 
 -- The layout holds what was given: the same communicators, each with its members and numbers.
 pub record Holds (ranks world : ℕ) (sends : Sends) (given : List Communicator) (l : Parts) : Type 0 where
@@ -46,10 +47,11 @@ pub record Holds (ranks world : ℕ) (sends : Sends) (given : List Communicator)
   pub same_comms : IsPermutation given l.comms
   pub members : (comm : ℕ) → members_of l.comms comm ≡ members_of given comm
   pub objects : (comm : ℕ) → object_of_comm l.comms comm ≡ object_of_comm given comm
+  pub groups : (comm : ℕ) → is_intercomm l.comms comm ≡ is_intercomm given comm
 
--- a communicator without members
+-- No member stands in its first group: it has none at all, or only those of a second one.
 abbrev pub is_empty_group : Communicator → Bool
-is_empty_group g = length g.members == 0
+is_empty_group g = nat_le (length g.members) g.remote_size
 
 -- some member is no rank of the run
 abbrev pub has_stranger : ℕ → List ℕ → Bool
@@ -78,9 +80,9 @@ abbrev pub is_some_communicator : Option Object → Bool
 is_some_communicator None = false
 is_some_communicator (Some object) = object_number object == object_number a_communicator
 
--- the world is there, is a communicator, and has all ranks in order
+-- the world is there, is a communicator of one group, and has all ranks in order
 abbrev pub has_world : ℕ → ℕ → List Communicator → Bool
-has_world ranks world gs = is_some_communicator (object_of_comm gs world) && is_some_whole ranks (members_of gs world)
+has_world ranks world gs = is_some_communicator (object_of_comm gs world) && (not (is_intercomm gs world) && is_some_whole ranks (members_of gs world))
 
 -- there is an end, and it comes before a call
 abbrev pub ends_before : Option ℕ → ℕ → Bool

@@ -11,7 +11,7 @@ use crate::object::Object;
 use std::alloc::AllocError;
 
 /// A call, as it was entered. A request is named by the trace's number of it.
-#[derive(Debug, Drop)]
+#[derive(Drop)]
 pub enum Call {
     /// A function that takes part in no matching.
     Local,

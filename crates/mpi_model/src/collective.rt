@@ -16,7 +16,7 @@ pub use nonblocking::NonblockingCollective;
 /// A collective call. Its root is a rank in the group: none where its kind has no root, or where
 /// the call names `MPI_ROOT`, `MPI_PROC_NULL` or a number below 0 (MPI 4.0, 6.2.3). Its object is
 /// a communicator, or a window or a file, which has a number of its own.
-#[derive(Clone, Copy, Debug, PartialEq, Eq)]
+#[derive(Clone, Copy)]
 pub struct Collective {
     kind: Kind,
     root: Option<u32>,

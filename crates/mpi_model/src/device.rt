@@ -9,7 +9,7 @@ ghost use Rattle.mpi_model.specs.Side.{Side, LeavesSide, untold};
 use std::io;
 
 /// A call of a device failed. The doc of that call says which bytes it moved.
-#[derive(Clone, Copy, Debug, PartialEq, Eq)]
+#[derive(Clone, Copy)]
 pub struct Failed;
 
 /// Where bytes come from.
@@ -60,7 +60,7 @@ pub trait Write: Drop {
 ///
 /// It passes on the bytes of the inner value and counts the failures of reads and of writes, each
 /// up to 2^64 - 1. A write that takes none of a nonempty piece counts as a failure.
-#[derive(Debug, Drop)]
+#[derive(Drop)]
 pub struct Device<T> {
     inner: T,
     read_failures: u64,

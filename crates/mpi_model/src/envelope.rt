@@ -34,7 +34,7 @@ pub enum CommRef {
 }
 
 /// The mode of a send (MPI 4.0, 3.4).
-#[derive(Clone, Copy, Debug, PartialEq, Eq, PartialOrd, Ord)]
+#[derive(Clone, Copy, PartialEq, Eq, PartialOrd, Ord)]
 pub enum Mode {
     /// `MPI_Send` and its forms: MPI decides whether the send is buffered.
     Standard,
@@ -50,7 +50,7 @@ pub enum Mode {
 ///
 /// Any value can be written down here; [`SendEnvelope`] and [`ReceiveEnvelope`] hold those that a
 /// call can have.
-#[derive(Clone, Copy, Debug, PartialEq, Eq)]
+#[derive(Clone, Copy, Debug)]
 pub struct Envelope {
     pub peer: Peer,
     /// `None` is `MPI_ANY_TAG`.

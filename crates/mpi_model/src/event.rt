@@ -14,7 +14,7 @@ use std::alloc::AllocError;
 use std::cmp::Ordering;
 
 /// One entry of a rank's trace. Times are part of it: at another time it is another event.
-#[derive(Debug, Drop)]
+#[derive(Drop)]
 pub enum Event {
     /// The rank enters the call at this time.
     Enter(Call, Stamp),
@@ -64,7 +64,7 @@ impl Event {
 }
 
 /// How a call returned.
-#[derive(Debug, Drop)]
+#[derive(Drop)]
 pub struct Exit {
     /// What it brought back.
     pub outs: Outs,
@@ -73,7 +73,7 @@ pub struct Exit {
 }
 
 /// The name of an operation. Names are ordered by rank, then call, then part.
-#[derive(Clone, Copy, Debug, PartialEq, Eq)]
+#[derive(Clone, Copy, PartialEq, Eq)]
 pub struct OpName {
     /// The rank in the trace.
     pub rank: u32,

@@ -16,7 +16,7 @@ mod table;
 pub use laws::each_kind;
 
 /// From which members to which members of its group a collective call moves data (MPI 4.0, 6.2.2).
-#[derive(Clone, Copy, Debug, PartialEq, Eq)]
+#[derive(Clone, Copy)]
 pub enum Category {
     /// From all members to all.
     AllToAll,
@@ -30,7 +30,7 @@ pub enum Category {
 
 /// The kind of a collective call: MPI forbids a member of its group to leave one out, whatever it
 /// is for. Its blocking and its nonblocking call do the same (MPI 4.0, 6.12).
-#[derive(Clone, Copy, Debug)]
+#[derive(Clone, Copy)]
 pub enum Kind {
     // (MPI 4.0, chapter 6)
     Barrier,
@@ -114,10 +114,12 @@ pub enum Kind {
     CommSetInfo,
     WinSetInfo,
     FileSetInfo,
+    // of an intercommunicator alone (MPI 4.0, 7.6.2)
+    IntercommMerge,
 }
 
 /// Which parameters may name the object of a call. The first of them that the call has names it.
-#[derive(Clone, Copy, Debug, PartialEq, Eq)]
+#[derive(Clone, Copy)]
 pub enum ObjectParameter {
     /// `comm`
     Comm,
@@ -127,6 +129,8 @@ pub enum ObjectParameter {
     CommOld,
     /// `local_comm`
     LocalComm,
+    /// `intercomm`
+    Intercomm,
     /// `win`
     Win,
     /// `fh`, `file`
@@ -134,7 +138,7 @@ pub enum ObjectParameter {
 }
 
 /// The properties of a kind, as MPI defines them.
-#[derive(Clone, Copy, Debug)]
+#[derive(Clone, Copy)]
 pub struct KindRow {
     /// The name of its blocking function.
     pub function: &'static [u8],
@@ -232,7 +236,7 @@ impl Kind {
 }
 
 /// A collective function: of a kind, and blocking or not. Not every kind has a nonblocking one.
-#[derive(Clone, Copy, Debug, PartialEq, Eq)]
+#[derive(Clone, Copy, PartialEq, Eq)]
 pub struct CollectiveFunction {
     kind: Kind,
     nonblocking: bool,

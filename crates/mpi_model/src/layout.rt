@@ -2,14 +2,16 @@
 
 ghost use Rattle.std.specs.Prelude.{◌≡◌, ◌≢◌, ◌==◌, ◌<◌, ◌≤◌, IfOk, IfErr, IfSome, OnOk, Some, None, nat_lt, option_and_then, option_map, slice_get};
 ghost use Rattle.std.specs.List.{position_from};
-ghost use Rattle.mpi_model.specs.Communicators.{communicators, ids_with, members_of, object_of_comm};
+ghost use Rattle.mpi_model.specs.Communicators.{communicators, ids_with, is_intercomm, local_group_of, members_of, object_of_comm, one_of, peers_of};
 ghost use Rattle.mpi_model.specs.Names.{numbered};
 ghost use Rattle.mpi_model.specs.Layouts.{Holds, IsGroup, IsLayout, fault_of, named};
 ghost use Rattle.mpi_model.specs.declared.layout.TheConstants.{MOST_RANKS};
 ghost use Rattle.mpi_model.specs.declared.layout.fault.LayoutFault.TheVariants.{Memory};
 
 use crate::envelope::CommRef;
-use crate::layout::comm::{Comm, comms_of, copies, in_order, members_in, object_in, place_of};
+use crate::layout::comm::{
+    Comm, comm_in, comms_of, copies, in_order, members_in, object_in, place_of,
+};
 use crate::layout::fault::LayoutFault;
 use crate::layout::held::{held_by, held_copied, held_in};
 use crate::layout::names::ordered_names;
@@ -33,7 +35,7 @@ pub const MOST_RANKS: u32 = 1024;
 pub const MOST_COMMS: usize = 65_536;
 
 /// How sends of standard mode complete. MPI allows both, and a program can't know which it gets (MPI 4.0, 3.4).
-#[derive(Clone, Copy, Debug, PartialEq, Eq)]
+#[derive(Clone, Copy, PartialEq, Eq)]
 pub enum Sends {
     /// A send completes only when its receive has been posted.
     Wait,
@@ -43,7 +45,7 @@ pub enum Sends {
 
 /// The ranks of a run, its communicators, windows and files (MPI 4.0, chapters 7, 12 and 14), and
 /// how its sends complete.
-#[derive(Debug, Drop)]
+#[derive(Drop)]
 pub struct Layout {
     ranks: u32,
     world: u32,
@@ -196,8 +198,16 @@ impl Layout {
         Some(self.comms.get(i)?.id())
     }
 
-    /// The members of a communicator, window or file, ranks of the run in the order of their ranks in it. It is a
-    /// binary search over the objects: keep the slice if you need it often.
+    /// The communicator, window or file with this id, with its groups. It is a binary search over the objects.
+    pub fn comm(&self, comm: u32) -> Option<&Comm>
+        ensures { option_map (λ c. c.now) result ≡ one_of self.now.comms comm }
+    {
+        comm_in(&self.comms, comm)
+    }
+
+    /// The members of a communicator, window or file, ranks of the run in the order of their ranks in it; of an
+    /// intercommunicator those of both groups, one behind the other. It is a binary search over the objects: keep the
+    /// slice if you need it often.
     pub fn members(&self, comm: u32) -> Option<&[u32]>
         ensures value { option_map (λ m. m.now) result ≡ members_of self.now.comms comm }
         ensures group { IfSome result (λ m. IsGroup self.now.ranks m.now) }
@@ -241,11 +251,30 @@ impl Layout {
         rank < self.ranks
     }
 
-    /// The rank that a rank of the run has in a communicator; `None` if it isn't a member.
-    pub fn rank_in(&self, comm: u32, rank: u32) -> Option<u32>
-        ensures { result ≡ option_and_then (position_from (λ r. r == rank) 0) (members_of self.now.comms comm) }
+    /// Whether the communicator is an intercommunicator.
+    pub fn is_intercomm(&self, comm: u32) -> bool
+        ensures { result ≡ is_intercomm self.now.comms comm }
     {
-        place_of(members_in(&self.comms, comm)?, rank)
+        match comm_in(&self.comms, comm) {
+            Some(comm) => comm.is_inter(),
+            None => false,
+        }
+    }
+
+    /// The group whose ranks a rank of the run names on a communicator: its members, or of an intercommunicator the
+    /// group in which the rank isn't (MPI 4.0, 7.6).
+    pub fn peers(&self, comm: u32, rank: u32) -> Option<&[u32]>
+        ensures { option_map (λ m. m.now) result ≡ peers_of self.now.comms comm rank }
+    {
+        Some(comm_in(&self.comms, comm)?.peers(rank))
+    }
+
+    /// The rank that a rank of the run has in a communicator, in an intercommunicator in its own group; `None` if it
+    /// isn't a member.
+    pub fn rank_in(&self, comm: u32, rank: u32) -> Option<u32>
+        ensures { result ≡ option_and_then (position_from (λ r. r == rank) 0) (local_group_of self.now.comms comm rank) }
+    {
+        place_of(comm_in(&self.comms, comm)?.local_group(rank), rank)
     }
 
     /// The ids of the communicators, windows and files that hold the rank, in rising order. Fails with `AllocError`

@@ -8,7 +8,7 @@ use crate::envelope::Mode;
 use crate::event::OpName;
 
 /// What a Cancel leaves of a message or a receive (MPI 4.0, 3.8.4).
-#[derive(Clone, Copy, Debug, PartialEq, Eq, PartialOrd, Ord)]
+#[derive(Clone, Copy, PartialEq, Eq, PartialOrd, Ord)]
 pub enum Trust {
     /// No Cancel that was read names it, or the trace says that it completed all the same.
     Sure,
@@ -42,7 +42,7 @@ impl Trust {
 }
 
 /// A message of a send: ranks are those of the trace, and a communicator is named by its number.
-#[derive(Clone, Copy, Debug, PartialEq, Eq, PartialOrd, Ord)]
+#[derive(Clone, Copy, PartialEq, Eq, PartialOrd, Ord)]
 pub struct Message {
     /// The call that sent it.
     pub name: OpName,
@@ -64,7 +64,7 @@ pub struct Message {
 
 /// A receive that was posted: ranks are those of the trace, and a communicator is named by its
 /// number.
-#[derive(Clone, Copy, Debug, PartialEq, Eq, PartialOrd, Ord)]
+#[derive(Clone, Copy, PartialEq, Eq, PartialOrd, Ord)]
 pub struct Receive {
     /// The call that posted it.
     pub name: OpName,

@@ -5,7 +5,7 @@ ghost use Rattle.mpi_model.specs.Kinds.{object_number};
 
 /// A communicator, a window or a file: calls on it are collective over its group. A rank's numbers for objects of one
 /// sort are independent of those for another.
-#[derive(Clone, Copy, Debug, PartialEq, Eq)]
+#[derive(Clone, Copy, PartialEq, Eq)]
 pub enum Object {
     /// A communicator (MPI 4.0, chapter 7).
     Communicator,

@@ -9,7 +9,7 @@ use std::alloc::AllocError;
 
 /// The outcome of a call. The crates above define which kind belongs to which call. An outcome of another kind says
 /// nothing and completes nothing.
-#[derive(Debug, Drop)]
+#[derive(Drop)]
 pub enum Outs {
     /// The call brings nothing back that matching needs.
     Nothing,

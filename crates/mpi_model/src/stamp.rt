@@ -9,7 +9,7 @@ use std::marker::Model;
 pub const LATEST: u64 = 9_999_999_999_999_999_999;
 
 /// The wall and the CPU time of one moment of a call, in nanoseconds, each at most [`LATEST`].
-#[derive(Clone, Copy, Debug, PartialEq, Eq)]
+#[derive(Clone, Copy, PartialEq, Eq)]
 pub struct Stamp {
     wall: u64,
     cpu: u64,

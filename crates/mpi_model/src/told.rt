@@ -8,7 +8,7 @@ ghost use Rattle.mpi_model.specs.declared.told.Told.TheVariants.{Source};
 use std::marker::Model;
 
 /// A rank in a communicator's group, at most 2^31 - 1.
-#[derive(Clone, Copy, Debug, PartialEq, Eq)]
+#[derive(Clone, Copy, PartialEq, Eq)]
 pub struct GroupRank {
     number: u32,
 }
@@ -47,7 +47,7 @@ impl GroupRank {
 }
 
 /// What a status says of where its message came from (MPI 4.0, 3.2.5, field `MPI_SOURCE`).
-#[derive(Clone, Copy, Debug, PartialEq, Eq)]
+#[derive(Clone, Copy, PartialEq, Eq)]
 pub enum Told {
     /// The trace doesn't give the source.
     Nothing,

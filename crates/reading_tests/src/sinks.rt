@@ -18,7 +18,7 @@ pub struct SentTo {
 }
 
 /// The sink takes no more calls.
-#[derive(Clone, Copy, Debug, PartialEq, Eq)]
+#[derive(Clone, Copy, PartialEq, Eq)]
 pub struct Full;
 
 /// The elements with those of one send more.

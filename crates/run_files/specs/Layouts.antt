@@ -1,5 +1,5 @@
 -- Which layout a text is.
-use Rattle.std.specs.Prelude.{◌≡◌, ℕ, List, [], Option, Some, None, if◌then◌else◌, codes, option_and_then, option_map}
+use Rattle.std.specs.Prelude.{◌≡◌, ℕ, ◌==◌, List, [], ◌++◌, Option, Some, None, length, if◌then◌else◌, codes, option_and_then, option_map}
 use Rattle.std.specs.Str.{bytes_eq}
 use Rattle.serde_json.specs.Data.{Data, Items, no_items, item}
 use Rattle.serde_json.specs.Find.{as_array, as_str, get}
@@ -12,6 +12,7 @@ use Rattle.mpi_model.specs.Communicators.{Communicator}
 use Rattle.mpi_model.specs.Layouts.{Holds, Parts, fault_of}
 use Rattle.run_files.specs.Fields.{IsJson, u32_in, u32s_in, with_first}
 use Rattle.run_files.specs.Numbers.{numbers_in}
+use Rattle.run_files.specs.declared.read.layout.Groups.{Groups as Held}
 use Rattle.run_files.specs.declared.fault.Field.{Field}
 use Rattle.run_files.specs.declared.fault.Field.TheVariants as fields
 use Rattle.run_files.specs.declared.fault.InputFault.{InputFault}
@@ -28,18 +29,54 @@ abbrev pub object_in : Option Data → Option Object
 object_in None = Some sorts.Communicator
 object_in (Some value) = option_and_then object_named (as_str value)
 
--- an object, where all of its fields can be read
-abbrev pub communicator_from : Option ℕ → Option Object → Option (List ℕ) → Option (List (Option Stretch)) → Option Communicator
-communicator_from None object members numbers = None
-communicator_from (Some comm) None members numbers = None
-communicator_from (Some comm) (Some object) None numbers = None
-communicator_from (Some comm) (Some object) (Some members) numbers = option_map (λ ns. record { comm = comm; object = object; members = members; numbers = ns }) numbers
+-- the members of an object, and how many of these, the last ones, are the second group of an intercommunicator
+pub record Groups : Type 0 where
+  pub members : List ℕ
+  pub remote_size : ℕ
 
--- a communicator, a window or a file: its id, its sort, its members, and by which numbers these name it
+-- the groups as they are read
+abbrev pub plain : Held → Groups
+plain g = record { members = g.members.items; remote_size = g.remote_size }
+
+-- An object of one group.
+abbrev pub alone : List ℕ → Groups
+alone members = record { members = members; remote_size = 0 }
+
+-- Two groups, one behind the other. Where the second is told and has no rank, no member is left, so that the rule is
+-- broken that asks each group for one.
+abbrev pub joined : List ℕ → List ℕ → Groups
+joined members remote = if length remote == 0 then alone [] else record { members = members ++ remote; remote_size = length remote }
+
+-- only a communicator has a second group
+abbrev pub with_second : Object → List ℕ → Option (List ℕ) → Option Groups
+with_second sorts.Communicator members remote = option_map (joined members) remote
+with_second sorts.Window members remote = None
+with_second sorts.File members remote = None
+
+-- the groups of an object of these members, by the field of its second one
+abbrev pub groups_in : Object → List ℕ → Option Data → Option Groups
+groups_in object members None = Some (alone members)
+groups_in object members (Some value) = with_second object members (option_and_then u32s_in (as_array value))
+
+-- an object of these groups, where its numbers can be read
+abbrev pub communicator_with : ℕ → Object → Option Groups → Option (List (Option Stretch)) → Option Communicator
+communicator_with comm object None numbers = None
+communicator_with comm object (Some g) numbers = option_map (λ ns. record { comm = comm; object = object; members = g.members; remote_size = g.remote_size; numbers = ns }) numbers
+
+-- an object, where all of its fields can be read
+abbrev pub communicator_from : Option ℕ → Option Object → Option (List ℕ) → Option Data → Option (List (Option Stretch)) → Option Communicator
+communicator_from None object members remote numbers = None
+communicator_from (Some comm) None members remote numbers = None
+communicator_from (Some comm) (Some object) None remote numbers = None
+communicator_from (Some comm) (Some object) (Some members) remote numbers = communicator_with comm object (groups_in object members remote) numbers
+
+-- A communicator, a window or a file: its id, its sort, its members, the other group of an intercommunicator, and by
+-- which numbers all of these name it.
 abbrev pub communicator_in : Data → Option Communicator
 communicator_in value = communicator_from (option_and_then u32_in (get (codes "id") value))
     (object_in (get (codes "object") value))
     (option_and_then u32s_in (option_and_then as_array (get (codes "members") value)))
+    (get (codes "remote") value)
     (numbers_in (get (codes "numbers") value))
 
 -- the communicators of a list, in its order

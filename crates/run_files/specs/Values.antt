@@ -1,18 +1,19 @@
 -- The JSON values of a layout and of a manifest.
-use Rattle.std.specs.Prelude.{◌≡◌, ℕ, ◌+◌, ◌==◌, ◌&&◌, Bool, List, [], ◌∷◌, ◌++◌, Option, Some, None, Result, OnOk, codes, decimal, is_some, not, if◌then◌else◌}
+use Rattle.std.specs.Prelude.{◌≡◌, ℕ, ◌==◌, ◌&&◌, Bool, List, [], ◌∷◌, ◌++◌, Option, Some, None, Result, OnOk, codes, decimal, is_some, not, if◌then◌else◌}
 use Rattle.json.specs.Json.{Json, null, number, string, array, object, Items, no_items, item, Members, no_members, member}
 use Rattle.json.specs.Print.{print}
 use Rattle.json.specs.Token.{Token}
 use Rattle.json.specs.Token as tokens
-use Rattle.json.specs.Tree.{json_tokens}
+use Rattle.json.specs.Tree.{items_tokens, json_tokens}
 use Rattle.json.specs.Written.{Written}
 use Rattle.mpi_model.specs.declared.object.Object.{Object}
 use Rattle.mpi_model.specs.declared.object.Object.TheVariants as sorts
-use Rattle.mpi_model.specs.Communicators.{Communicator}
+use Rattle.mpi_model.specs.Communicators.{Communicator, first_group, is_inter, second_group}
 use Rattle.mpi_model.specs.Layouts.{Parts}
 use Rattle.mpi_model.specs.declared.layout.Sends.{Sends}
 use Rattle.mpi_model.specs.declared.layout.Sends.TheVariants.{Wait, Buffer}
 use Rattle.mpi_model.specs.declared.layout.comm.Stretch.{Stretch}
+use Rattle.run_files.specs.Manifests.{PieceParts}
 
 -- a number, in decimal digits
 abbrev pub number_of : ℕ → Json
@@ -58,9 +59,18 @@ object_tokens sorts.Communicator = []
 object_tokens sorts.Window = tokens.key (codes "object") ∷ tokens.string (codes "window") ∷ []
 object_tokens sorts.File = tokens.key (codes "object") ∷ tokens.string (codes "file") ∷ []
 
--- `{"id":C,"object":"window","members":[..],"numbers":[..]}`, without the second field for a communicator
+-- the field of an intercommunicator's second group, before other fields
+abbrev pub with_remote : Communicator → Members → Members
+with_remote g others = if is_inter g then member (codes "remote") (array (items_of number_of (second_group g))) others else others
+
+-- the tokens of that field
+abbrev pub remote_tokens : Communicator → List Token
+remote_tokens g = if is_inter g then tokens.key (codes "remote") ∷ tokens.begin_array ∷ items_tokens (items_of number_of (second_group g)) else []
+
+-- `{"id":C,"object":"window","members":[..],"remote":[..],"numbers":[..]}`, without the second field for a
+-- communicator, and without the fourth for what has one group
 abbrev pub communicator_value : Communicator → Json
-communicator_value g = object (member (codes "id") (number_of g.comm) (with_object g.object (member (codes "members") (array (items_of number_of g.members)) (numbers_field g.numbers))))
+communicator_value g = object (member (codes "id") (number_of g.comm) (with_object g.object (member (codes "members") (array (items_of number_of (first_group g))) (with_remote g (numbers_field g.numbers)))))
 
 -- how sends of standard mode complete
 abbrev pub sends_word : Sends → List ℕ
@@ -76,18 +86,13 @@ abbrev pub layout_value : Parts → Json
 layout_value l = object (member (codes "ranks") (number_of l.ranks) (member (codes "world") (number_of l.world)
     (member (codes "sends") (string (sends_word l.sends)) (member (codes "comms") (array (items_of communicator_value l.comms)) no_members))))
 
--- the whole text of a rank: `{"rank":R,"first":0,"file":".."}`
-abbrev pub piece_value : ℕ → List ℕ → Json
-piece_value rank file = object (member (codes "rank") (number_of rank) (member (codes "first") (number_of 0) (member (codes "file") (string file) no_members)))
-
--- the files of this rank and of those behind it
-abbrev pub pieces_from : ℕ → List (List ℕ) → Items
-pieces_from rank [] = no_items
-pieces_from rank (file ∷ files) = item (piece_value rank file) (pieces_from (rank + 1) files)
+-- a text that names no node and no worker: `{"rank":R,"first":N,"file":".."}`
+abbrev pub piece_value : PieceParts → Json
+piece_value p = object (member (codes "rank") (number_of p.rank) (member (codes "first") (number_of p.first) (member (codes "file") (string p.file) no_members)))
 
 -- `{"pieces":[..]}`
-abbrev pub manifest_value : List (List ℕ) → Json
-manifest_value files = object (member (codes "pieces") (array (pieces_from 0 files)) no_members)
+abbrev pub manifest_value : List PieceParts → Json
+manifest_value texts = object (member (codes "pieces") (array (items_of piece_value texts)) no_members)
 
 -- a value without spaces, and a line feed
 abbrev pub line_of : Json → List ℕ

@@ -11,8 +11,8 @@
 //!   `schedule`: pieces, and what nodes are to do with them; `Fields.antt`, `Layouts.antt`, `Numbers.antt`,
 //!   `Manifests.antt`, `Schedules.antt`
 //! - [`fault`]: why a text is refused
-//! - [`write`]: `layout`, `numbers`, `manifest`: the bytes of both files; `values`: numbers and lists in them;
-//!   `Values.antt`
+//! - [`write`]: `layout`, `numbers`, `manifest`: the bytes of both files; `values`: numbers and lists in them, which
+//!   others print too; `Values.antt`
 //! - [`store`]: where both files are kept, or neither; [`folder`]: as files of the system; `Stores.antt`
 //!
 //! To change something, open:
@@ -49,3 +49,5 @@ pub use read::manifest::manifest_of;
 pub use store::{NewFile, PutFault, Store, StoreFault, Which, add_both, replace_both};
 pub use write::layout::layout_bytes;
 pub use write::manifest::manifest_bytes;
+pub use write::numbers::put_entries;
+pub use write::values::{line_of, put_number_field, put_numbers, put_string_field};

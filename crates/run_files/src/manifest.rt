@@ -7,7 +7,7 @@ use std::alloc::Global;
 use std::marker::Model;
 
 /// A file with some calls of one rank, one after another.
-#[derive(Clone, Debug, Drop)]
+#[derive(Clone, Drop)]
 pub struct Piece {
     rank: u32,
     first: u64,
@@ -86,7 +86,7 @@ impl Piece {
 }
 
 /// A file of packed knowledge.
-#[derive(Debug, Drop)]
+#[derive(Drop)]
 pub struct PackedPiece {
     file: String,
     node: u8,
@@ -126,7 +126,7 @@ impl PackedPiece {
 }
 
 /// A step as the manifest writes it. All numbers count from 0.
-#[derive(Clone, Copy, Debug, PartialEq, Eq)]
+#[derive(Clone, Copy)]
 pub enum PlannedStep {
     /// A worker posts a piece to a node: each of its segments, in their order.
     Post {
@@ -155,7 +155,7 @@ pub enum PlannedStep {
 }
 
 /// What a manifest names. Each piece that its schedule posts is one of its texts.
-#[derive(Debug, Drop)]
+#[derive(Drop)]
 pub struct Manifest {
     pieces: Vec<Piece>,
     packed: Vec<PackedPiece>,

@@ -30,7 +30,7 @@ use mpi_model::Failed;
 use std::alloc::{AllocError, Global};
 
 /// Why a store didn't add a file.
-#[derive(Clone, Copy, Debug, PartialEq, Eq)]
+#[derive(Clone, Copy)]
 pub enum StoreFault {
     /// There is a file of that name already.
     There,
@@ -70,7 +70,7 @@ pub trait Store: Drop {
 }
 
 /// A file to be written: its name and its bytes.
-#[derive(Clone, Copy, Debug)]
+#[derive(Clone, Copy)]
 pub struct NewFile<'a> {
     pub name: &'a str,
     pub bytes: &'a [u8],

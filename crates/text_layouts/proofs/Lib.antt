@@ -3,6 +3,7 @@ pub mod Fitting
 pub mod Lines
 pub mod Orders
 pub mod Places
+pub mod Putting
 pub mod Refused
-pub mod Texts
+pub mod Seating
 pub mod Told

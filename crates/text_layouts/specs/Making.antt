@@ -1,5 +1,5 @@
 -- What is made of the calls of all ranks, and why nothing is.
-use Rattle.std.specs.Prelude.{◌≡◌, ◌<◌, ◌≤◌, ◌⊎◌, ◌+◌, ◌&&◌, ℕ, Bool, true, false, List, [], ◌∷◌, Some, None, length, nat_le}
+use Rattle.std.specs.Prelude.{◌≡◌, ◌<◌, ◌≤◌, ◌⊎◌, ◌&&◌, ℕ, Bool, true, false, List, Some, None, length, nat_le}
 use Rattle.json.specs.Json.{Json}
 use Rattle.mpi_model.specs.Communicators.{Communicator}
 use Rattle.mpi_model.specs.Layouts.{fault_of}
@@ -12,22 +12,12 @@ use Rattle.comm_makings.specs.World.{world_fault, world_of}
 use Rattle.comm_makings.specs.declared.answer.Choice.TheVariants as choices
 use Rattle.comm_makings.specs.declared.answer.DeriveFault.TheVariants as derives
 use Rattle.comm_makings.specs.declared.calls.RankCalls.{RankCalls}
-use Rattle.run_files.specs.Manifests.{ManifestParts, PieceParts, manifest_of_texts, whole_text}
-use Rattle.run_files.specs.Values.{layout_value, line_of, parts_of}
+use Rattle.run_files.specs.Values.{layout_value, line_of, manifest_value, parts_of}
 use Rattle.run_files.specs.declared.input.TheConstants.{LONGEST_FILE}
 use Rattle.text_layouts.specs.Sizes.{size_fault}
 use Rattle.text_layouts.specs.declared.fault.MadeFault.{MadeFault}
 use Rattle.text_layouts.specs.declared.fault.MadeFault.TheVariants as faults
 use Rattle.text_layouts.specs.declared.made.Made.{Made}
-
--- the whole texts of this rank and of those behind it
-abbrev pub texts_from : ℕ → List (List ℕ) → List PieceParts
-texts_from rank [] = []
-texts_from rank (file ∷ files) = whole_text rank file ∷ texts_from (rank + 1) files
-
--- the manifest of the whole texts of the ranks 0, 1 and so on
-abbrev pub whole_texts : List (List ℕ) → ManifestParts
-whole_texts files = manifest_of_texts (texts_from 0 files)
 
 -- ---- what the layout has
 
@@ -45,8 +35,8 @@ pub record Outgrows (sends : Sends) (ranks : List RankCalls) : Type 0 where
   pub sound : IsSound choices.Named (world_of ranks) ranks named
   pub too_much : fits (length ranks) (world_of ranks) sends named ≡ false
 
--- What a layout has of what these ranks make: all that some call names, where that fits, and else what some call names that
--- doesn't end it.
+-- What a layout has of what these ranks make: all that some call names, where that fits, and else what some call names
+-- that doesn't end it.
 abbrev pub AreObjectsOf : Sends → List RankCalls → List Communicator → Type 0
 AreObjectsOf sends ranks comms = (IsSound choices.Named (world_of ranks) ranks comms × (fits (length ranks) (world_of ranks) sends comms ≡ true))
     ⊎ (IsSound choices.Used (world_of ranks) ranks comms × Outgrows sends ranks)
@@ -99,6 +89,10 @@ pub record IsFile (value : Json) (file : List ℕ) : Type 0 where
 -- the value of the layout's file, with the communicators in the order in which they were derived
 abbrev pub made_layout : Made → Json
 made_layout made = layout_value (parts_of made.input.layout.ranks made.derived.world made.input.layout.sends made.derived.comms.items)
+
+-- the value of the manifest's file
+abbrev pub made_manifest : Made → Json
+made_manifest made = manifest_value made.input.manifest.pieces
 
 -- why the file of the layout isn't made: it is too long
 abbrev pub RefusesLayoutFile : Json → MadeFault → Type 0

@@ -3,13 +3,15 @@ use Rattle.std.specs.Prelude.{◌-◌, ℕ, List, [], ◌++◌, Option, Some, No
 use Rattle.std.specs.List.{flat_map}
 use Rattle.call_words.specs.More.{more_text}
 use Rattle.call_words.specs.Ranges.{named_ranks_text}
-use Rattle.mpi_model.specs.Communicators.{Communicator}
+use Rattle.mpi_model.specs.Communicators.{Communicator, first_group, is_inter, second_group}
 use Rattle.mpi_model.specs.declared.object.Object.{Object}
 use Rattle.mpi_model.specs.declared.object.Object.TheVariants as objects
 use Rattle.comm_makings.specs.declared.answer.LeftOut.{LeftOut}
 use Rattle.comm_makings.specs.declared.answer.MadeBy.{MadeBy}
 use Rattle.comm_makings.specs.declared.answer.MadeBy.TheVariants as makers
 use Rattle.comm_makings.specs.declared.answer.Why.{Why}
+use Rattle.comm_makings.specs.declared.calls.OtherMaker.{OtherMaker}
+use Rattle.comm_makings.specs.declared.calls.OtherMaker.TheVariants as others
 use Rattle.comm_makings.specs.declared.answer.Why.TheVariants as reasons
 use Rattle.text_layouts.specs.declared.words.TheConstants.{MOST_SHOWN}
 
@@ -23,14 +25,31 @@ sort_text objects.Communicator = []
 sort_text objects.Window = codes "window "
 sort_text objects.File = codes "file "
 
--- `  5: ranks 0, 2`, the members in their order, or `  window 9: ranks 0, 1`
+-- ` and ranks 2, 3`: the second group of an intercommunicator
+abbrev pub second_text : Communicator → List ℕ
+second_text g = if is_inter g then codes " and " ++ named_ranks_text (second_group g) else []
+
+-- `  5: ranks 0, 2`, the members in their order, or `  window 9: ranks 0, 1`; `  7: ranks 0, 1 and ranks 2, 3` of an
+-- intercommunicator
 abbrev pub comm_text : Communicator → List ℕ
-comm_text g = codes "  " ++ sort_text g.object ++ decimal g.comm ++ codes ": " ++ named_ranks_text g.members ++ codes "\n"
+comm_text g = codes "  " ++ sort_text g.object ++ decimal g.comm ++ codes ": " ++ named_ranks_text (first_group g) ++ second_text g ++ codes "\n"
 
 -- how many communicators, windows and files there are, and the first twenty of them
 abbrev pub comms_text : List Communicator → List ℕ
 comms_text comms = codes "communicators: " ++ decimal (length comms) ++ codes "\n"
     ++ flat_map comm_text (take MOST_SHOWN comms) ++ more_text (length comms - MOST_SHOWN)
+
+-- a function that gives communicators from which nothing is derived
+abbrev pub other_text : OtherMaker → List ℕ
+other_text others.SplitType = codes "MPI_Comm_split_type"
+other_text others.Accept = codes "MPI_Comm_accept"
+other_text others.Connect = codes "MPI_Comm_connect"
+other_text others.CreateFromGroup = codes "MPI_Comm_create_from_group"
+other_text others.IntercommCreateFromGroups = codes "MPI_Intercomm_create_from_groups"
+other_text others.Spawn = codes "MPI_Comm_spawn"
+other_text others.SpawnMultiple = codes "MPI_Comm_spawn_multiple"
+other_text others.Join = codes "MPI_Comm_join"
+other_text others.GetParent = codes "MPI_Comm_get_parent"
 
 -- the function that gave a communicator
 abbrev pub function_text : MadeBy → List ℕ
@@ -46,7 +65,9 @@ function_text makers.CartSub = codes "MPI_Cart_sub"
 function_text makers.GraphCreate = codes "MPI_Graph_create"
 function_text makers.DistGraphCreate = codes "MPI_Dist_graph_create"
 function_text makers.DistGraphCreateAdjacent = codes "MPI_Dist_graph_create_adjacent"
-function_text makers.Other = codes "another function"
+function_text makers.IntercommCreate = codes "MPI_Intercomm_create"
+function_text makers.IntercommMerge = codes "MPI_Intercomm_merge"
+function_text (makers.Other maker) = other_text maker
 
 -- why a communicator is left out
 abbrev pub why_text : Why → List ℕ

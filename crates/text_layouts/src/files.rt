@@ -1,8 +1,7 @@
 //! The bytes of the two files of what was made.
 
-ghost use Rattle.std.specs.Prelude.{IfErr, IfOk, map, string_bytes};
-ghost use Rattle.run_files.specs.Values.{manifest_value};
-ghost use Rattle.text_layouts.specs.Making.{IsFile, RefusesLayoutFile, RefusesManifestFile, made_layout};
+ghost use Rattle.std.specs.Prelude.{IfErr, IfOk};
+ghost use Rattle.text_layouts.specs.Making.{IsFile, RefusesLayoutFile, RefusesManifestFile, made_layout, made_manifest};
 
 use crate::fault::MadeFault;
 use crate::made::Made;
@@ -29,13 +28,14 @@ pub fn layout_file_of(alloc: Global, made: &Made) -> Result<Vec<u8>, MadeFault>
     Ok(file)
 }
 
-/// The bytes of the manifest's file, with the whole texts of the ranks 0, 1 and so on. Fails with
+/// The bytes of the manifest's file, with the texts of the manifest that was made. Fails with
 /// [`MadeFault::ManifestFile`] if the file is too long, and with `Memory` when memory is refused.
-pub fn manifest_file_of(alloc: Global, files: &[String]) -> Result<Vec<u8>, MadeFault>
-    ensures ok { IfOk result (λ file. IsFile (manifest_value (map string_bytes files.now)) file.items) }
-    ensures fault { IfErr result (λ e. RefusesManifestFile (manifest_value (map string_bytes files.now)) e) }
+pub fn manifest_file_of(alloc: Global, made: &Made) -> Result<Vec<u8>, MadeFault>
+    ensures ok { IfOk result (λ file. IsFile (made_manifest made.now) file.items) }
+    ensures fault { IfErr result (λ e. RefusesManifestFile (made_manifest made.now) e) }
 {
-    let file = manifest_bytes(alloc, files)?;
+    let manifest = &made.input.manifest;
+    let file = manifest_bytes(alloc, manifest.pieces())?;
     if file.len() > LONGEST_FILE {
         return Err(MadeFault::ManifestFile);
     }

@@ -1,11 +1,12 @@
 //! From what all texts say to a layout and a manifest.
 
-ghost use Rattle.std.specs.Prelude.{◌≡◌, ◌<◌, ◌^◌, IfErr, IfOk, None, OnOk, length, map, string_bytes};
+ghost use Rattle.std.specs.Prelude.{◌≡◌, ◌<◌, ◌^◌, IfErr, IfOk, None, OnOk, length};
 ghost use Rattle.mpi_model.specs.Layouts.{Holds, fault_of};
 ghost use Rattle.comm_makings.specs.Derived.{IsSound};
 ghost use Rattle.comm_makings.specs.World.{world_fault, world_of};
+ghost use Rattle.run_files.specs.Manifests.{manifest_of_texts};
 ghost use Rattle.text_layouts.specs.Sizes.{size_fault};
-ghost use Rattle.text_layouts.specs.Making.{AreObjectsOf, RefusesLayout, RefusesMaking, RefusesWorld, fits, texts_from, whole_texts};
+ghost use Rattle.text_layouts.specs.Making.{AreObjectsOf, RefusesLayout, RefusesMaking, RefusesWorld, fits};
 
 use crate::fault::MadeFault;
 use crate::size::other_size;
@@ -53,6 +54,7 @@ fn copy_of(alloc: Global, comm: &Comm) -> Result<Comm, AllocError>
         id: comm.id,
         object: comm.object,
         members,
+        remote_size: comm.remote_size,
         numbers,
     })
 }
@@ -94,8 +96,8 @@ fn fits(alloc: Global, ranks: u32, sends: Sends, derived: &Derived) -> Result<bo
     Ok(file.len() <= LONGEST_FILE)
 }
 
-/// What a layout of these ranks has: all that some call names, or, where a layout can't have all that, what some call names
-/// that doesn't end it. A program may make and free any number of communicators without using them.
+/// What a layout of these ranks has: all that some call names, or, where a layout can't have all that, what some call
+/// names that doesn't end it. A program may make and free any number of communicators without using them.
 #[tactic(auto, using(crate::proofs::Fitting::all_fit, crate::proofs::Fitting::used_are))]
 fn fitting(alloc: Global, sends: Sends, ranks: &[RankCalls]) -> Result<Derived, MadeFault>
     requires { length ranks.now < 2 ^ 32 }
@@ -131,39 +133,23 @@ fn layout_of(
     }
 }
 
-/// The whole texts of the ranks 0, 1 and so on, by the names of their files.
-#[tactic(auto, using(crate::proofs::Texts::one_text_more, crate::proofs::Texts::all_texts))]
-fn texts_of(alloc: Global, files: &[String]) -> Result<Vec<Piece>, AllocError>
-    requires { length files.now < 2 ^ 32 }
-    ensures { IfOk result (λ pieces. pieces.items ≡ texts_from 0 (map string_bytes files.now)) }
-{
-    let mut texts = Vec::with_capacity(alloc, files.len())?;
-    let mut rank = 0u32;
-    for file in files {
-        texts.push(Piece::whole(rank, file.as_str().to_string(alloc)?))?;
-        rank += 1;
-    }
-    Ok(texts)
-}
-
 /// The layout of the ranks whose calls these are, with the communicators that they make, and the manifest of their
-/// texts' files, by rank. Nothing is made of no rank, of more than a layout can have, or where a rank tells another
-/// size of MPI_COMM_WORLD (MPI 4.0, 7.4.1). [`MadeFault`] says why.
+/// texts. Nothing is made of no rank, of more than a layout can have, or where a rank tells another size of
+/// MPI_COMM_WORLD (MPI 4.0, 7.4.1). [`MadeFault`] says why.
 #[tactic(auto, using(crate::proofs::Refused::by_count, crate::proofs::Refused::by_world, crate::proofs::Refused::by_layout))]
 pub fn made_of(
     alloc: Global,
     sends: Sends,
-    files: &[String],
+    texts: Vec<Piece>,
     ranks: &[RankCalls],
 ) -> Result<Made, MadeFault>
-    requires { length files.now < 2 ^ 32 }
     ensures world { IfOk result (λ m. m.derived.world ≡ world_of ranks.now) }
     ensures told { OnOk result (world_fault ranks.now ≡ None) }
     ensures sizes { OnOk result (size_fault ranks.now ≡ None) }
     ensures objects { IfOk result (λ m. AreObjectsOf sends ranks.now m.derived.comms.items) }
     ensures layout { IfOk result (λ m. Holds (length ranks.now) m.derived.world sends m.derived.comms.items m.input.layout) }
     ensures rules { IfOk result (λ m. fault_of (length ranks.now) m.derived.world m.derived.comms.items ≡ None) }
-    ensures manifest { IfOk result (λ m. m.input.manifest ≡ whole_texts (map string_bytes files.now)) }
+    ensures manifest { IfOk result (λ m. m.input.manifest ≡ manifest_of_texts texts.items) }
     ensures fault { IfErr result (RefusesMaking ranks.now) }
 {
     if ranks.is_empty() || ranks.len() > MOST_RANKS as usize {
@@ -175,7 +161,6 @@ pub fn made_of(
     }
     let derived = fitting(alloc, sends, ranks)?;
     let layout = layout_of(alloc, count, sends, &derived)?;
-    let texts = texts_of(alloc, files)?;
     let manifest = Manifest::of_texts(alloc, texts);
     let input = RunInput { layout, manifest };
     Ok(Made { input, derived })

@@ -85,7 +85,7 @@ fn number_of(name: &[u8]) -> Option<u64>
 }
 
 /// The numbers of all names.
-fn numbers_of(alloc: Global, names: &[String]) -> Result<Vec<Option<u64>>, AllocError>
+pub(crate) fn numbers_of(alloc: Global, names: &[String]) -> Result<Vec<Option<u64>>, AllocError>
     ensures { IfOk result (λ numbers. numbers.items ≡ numbers_of (map string_bytes names.now)) }
 {
     let mut numbers = Vec::with_capacity(alloc, names.len())?;
@@ -106,7 +106,7 @@ fn is_number(number: u64, named: Option<u64>) -> bool
 }
 
 /// The first place from this one on at which the number stands.
-fn first_from(numbers: &[Option<u64>], number: u64, from: usize) -> Option<usize>
+pub(crate) fn first_from(numbers: &[Option<u64>], number: u64, from: usize) -> Option<usize>
     ensures { result ≡ first_from number from (drop from numbers.now) }
 {
     for place in from..numbers.len() {

@@ -4,10 +4,10 @@ ghost use Rattle.std.specs.Prelude.{◌≡◌, ◌-◌, length, take};
 ghost use Rattle.std.specs.List.{flat_map};
 ghost use Rattle.call_words.specs.Texts.{Adds};
 ghost use Rattle.text_layouts.specs.declared.words.TheConstants.{MOST_SHOWN};
-ghost use Rattle.text_layouts.specs.Words.{comm_text, comms_text, counts_text, function_text, given_text, left_out_text, left_text, notes_text, some_left_text, sort_text, why_text};
+ghost use Rattle.text_layouts.specs.Words.{comm_text, comms_text, counts_text, function_text, given_text, left_out_text, left_text, notes_text, other_text, second_text, some_left_text, sort_text, why_text};
 
 use call_words::{Text, put_more, put_named_ranks};
-use comm_makings::{Derived, LeftOut, MadeBy, Why};
+use comm_makings::{Derived, LeftOut, MadeBy, OtherMaker, Why};
 use mpi_model::{Comm, Object};
 
 /// How many lines of a kind are written.
@@ -35,7 +35,18 @@ fn put_sort(out: &mut Text, object: Object)
     }
 }
 
-/// `  5: ranks 0, 2`, the members in their order, or `  window 9: ranks 0, 1`.
+/// ` and ranks 2, 3`: the second group of an intercommunicator.
+fn put_second(out: &mut Text, comm: &Comm)
+    ensures { Adds out.old out.new (second_text comm.now) }
+{
+    if comm.is_inter() {
+        out.put(b" and ");
+        put_named_ranks(out, comm.second_group());
+    }
+}
+
+/// `  5: ranks 0, 2`, the members in their order, or `  window 9: ranks 0, 1`; `  7: ranks 0, 1 and ranks 2, 3` of an
+/// intercommunicator.
 fn put_comm(out: &mut Text, comm: &Comm)
     ensures { Adds out.old out.new (comm_text comm.now) }
 {
@@ -43,7 +54,8 @@ fn put_comm(out: &mut Text, comm: &Comm)
     put_sort(out, comm.object);
     out.put_number(comm.id as u64);
     out.put(b": ");
-    put_named_ranks(out, &comm.members);
+    put_named_ranks(out, comm.first_group());
+    put_second(out, comm);
     out.put(b"\n");
 }
 
@@ -67,25 +79,51 @@ fn put_comms(out: &mut Text, comms: &[Comm])
     put_more(out, comms.len().saturating_sub(MOST_SHOWN));
 }
 
+/// A function that gives communicators from which nothing is derived.
+fn other_text(maker: OtherMaker) -> &'static str
+    ensures { result.now ≡ other_text maker }
+{
+    match maker {
+        OtherMaker::SplitType => "MPI_Comm_split_type",
+        OtherMaker::Accept => "MPI_Comm_accept",
+        OtherMaker::Connect => "MPI_Comm_connect",
+        OtherMaker::CreateFromGroup => "MPI_Comm_create_from_group",
+        OtherMaker::IntercommCreateFromGroups => "MPI_Intercomm_create_from_groups",
+        OtherMaker::Spawn => "MPI_Comm_spawn",
+        OtherMaker::SpawnMultiple => "MPI_Comm_spawn_multiple",
+        OtherMaker::Join => "MPI_Comm_join",
+        OtherMaker::GetParent => "MPI_Comm_get_parent",
+    }
+}
+
 /// The function that gave a communicator.
-fn function_text(made_by: MadeBy) -> &'static [u8]
+pub(crate) fn function_text(made_by: MadeBy) -> &'static str
     ensures { result.now ≡ function_text made_by }
 {
     match made_by {
-        MadeBy::Dup => b"MPI_Comm_dup",
-        MadeBy::DupWithInfo => b"MPI_Comm_dup_with_info",
-        MadeBy::Idup => b"MPI_Comm_idup",
-        MadeBy::IdupWithInfo => b"MPI_Comm_idup_with_info",
-        MadeBy::Split => b"MPI_Comm_split",
-        MadeBy::Create => b"MPI_Comm_create",
-        MadeBy::CreateGroup => b"MPI_Comm_create_group",
-        MadeBy::CartCreate => b"MPI_Cart_create",
-        MadeBy::CartSub => b"MPI_Cart_sub",
-        MadeBy::GraphCreate => b"MPI_Graph_create",
-        MadeBy::DistGraphCreate => b"MPI_Dist_graph_create",
-        MadeBy::DistGraphCreateAdjacent => b"MPI_Dist_graph_create_adjacent",
-        MadeBy::Other => b"another function",
+        MadeBy::Dup => "MPI_Comm_dup",
+        MadeBy::DupWithInfo => "MPI_Comm_dup_with_info",
+        MadeBy::Idup => "MPI_Comm_idup",
+        MadeBy::IdupWithInfo => "MPI_Comm_idup_with_info",
+        MadeBy::Split => "MPI_Comm_split",
+        MadeBy::Create => "MPI_Comm_create",
+        MadeBy::CreateGroup => "MPI_Comm_create_group",
+        MadeBy::CartCreate => "MPI_Cart_create",
+        MadeBy::CartSub => "MPI_Cart_sub",
+        MadeBy::GraphCreate => "MPI_Graph_create",
+        MadeBy::DistGraphCreate => "MPI_Dist_graph_create",
+        MadeBy::DistGraphCreateAdjacent => "MPI_Dist_graph_create_adjacent",
+        MadeBy::IntercommCreate => "MPI_Intercomm_create",
+        MadeBy::IntercommMerge => "MPI_Intercomm_merge",
+        MadeBy::Other(maker) => other_text(maker),
     }
+}
+
+/// The function that gave a communicator.
+fn put_function(out: &mut Text, made_by: MadeBy)
+    ensures { Adds out.old out.new (function_text made_by) }
+{
+    out.put(function_text(made_by).as_bytes());
 }
 
 /// Why a communicator is left out.
@@ -122,7 +160,7 @@ fn put_left(out: &mut Text, left: &LeftOut)
     out.put(b", call ");
     out.put_number(left.call);
     out.put(b", ");
-    out.put(function_text(left.made_by));
+    put_function(out, left.made_by);
     out.put(b": ");
     put_given(out, left.number);
     out.put(b", calls that name it: ");

@@ -8,7 +8,7 @@ use Rattle.text_notes.specs.Places.{first_where, place_of}
 use Rattle.dumpi_calls.specs.declared.walking.Walked.{Walked}
 use Rattle.text_notes.specs.declared.totals.TheConstants.{MOST_SHOWN}
 use Rattle.text_notes.specs.declared.start.Start.{Start}
-use Rattle.text_notes.specs.declared.start.Start.TheVariants.{Empty, Gzip, Utf16, Mark, Binary, Lines}
+use Rattle.text_notes.specs.declared.start.Start.TheVariants.{Empty, Gzip, Bzip2, Xz, Zstd, Utf16, Mark, Binary, Lines}
 use Rattle.text_notes.specs.declared.words.Kind.{Kind}
 use Rattle.text_notes.specs.declared.words.Kind.TheVariants.{Unread, Callless, Skipped}
 
@@ -152,6 +152,9 @@ unread_text note (f ∷ functions) =
 abbrev pub guess_text : Start → List ℕ
 guess_text Empty = codes " is empty\n"
 guess_text Gzip = codes " has no call, and begins as what gzip packed\n"
+guess_text Bzip2 = codes " has no call, and begins as what bzip2 packed\n"
+guess_text Xz = codes " has no call, and begins as what xz packed\n"
+guess_text Zstd = codes " has no call, and begins as what zstd packed\n"
 guess_text Utf16 = codes " has no call, and begins as UTF-16\n"
 guess_text Mark = codes " has no call, and begins with a byte order mark\n"
 guess_text Binary = codes " has no call, and a byte 0, as a binary trace\n"

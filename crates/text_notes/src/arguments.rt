@@ -10,7 +10,7 @@ use std::alloc::{AllocError, Global};
 use std::marker::Model;
 
 /// A collective call of which some argument is known.
-#[derive(Debug, Drop)]
+#[derive(Drop)]
 pub struct CallTold {
     number: u64,
     told: SharedTold,

@@ -8,7 +8,7 @@ use std::alloc::{AllocError, Global};
 use std::marker::Model;
 
 /// A function of which a text has calls that are not read.
-#[derive(Debug, Drop)]
+#[derive(Drop)]
 pub struct UnreadFunction {
     name: Vec<u8>,
     first: u64,

@@ -18,7 +18,7 @@ use std::collections::BTreeSet;
 use std::marker::Model;
 
 /// What a second look at a text finds.
-#[derive(Debug, Drop)]
+#[derive(Drop)]
 pub struct Look {
     pub(crate) sites: Vec<CallSite>,
     pub(crate) local: Vec<UnreadFunction>,

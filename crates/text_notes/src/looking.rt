@@ -19,7 +19,7 @@ use std::collections::BTreeSet;
 use std::marker::Model;
 
 /// What a second look keeps of the calls of a text.
-#[derive(Debug, Drop)]
+#[derive(Drop)]
 pub(crate) struct Looking<'a> {
     wanted: &'a BTreeSet<u64>,
     limit: u64,
@@ -241,6 +241,30 @@ fn push_site(sites: &mut Vec<CallSite>, site: Option<CallSite>) -> Result<(), Al
     Ok(())
 }
 
+impl<'a> Looking<'a> {
+    ghost use Rattle.text_notes.specs.Looks.{looked};
+
+    /// Keeps what a call tells. Where memory is refused, it is as it was.
+    #[tactic(auto, using(crate::proofs::Looked::looked_so))]
+    fn keep(&mut self, raw: &RawCall, call: &Call) -> Result<(), Memory>
+        ensures ok { OnOk result (self.new ≡ looked self.old raw.now call.now) }
+        ensures err { OnErr result (self.new ≡ self.old) }
+    {
+        let alloc = *self.sites.allocator();
+        self.sites.reserve(1)?;
+        self.arguments.reserve(1)?;
+        let size = size_of(alloc, raw)?;
+        let site = site_where(alloc, self.wanted, self.calls, raw)?;
+        let told = call_told(alloc, &mut self.last, self.calls, raw, call)?;
+        count_local(&mut self.local, self.limit, self.calls, raw, call)?;
+        push_site(&mut self.sites, site)?;
+        push_told(&mut self.arguments, told)?;
+        self.size = greater(self.size, size);
+        self.calls = self.calls.saturating_add(1);
+        Ok(())
+    }
+}
+
 impl<'a> RawSink for Looking<'a> {
     ghost use Rattle.text_notes.specs.Looks.{looking};
 
@@ -248,19 +272,7 @@ impl<'a> RawSink for Looking<'a> {
 
     ghost step = { looking };
 
-    #[tactic(auto, using(crate::proofs::Looked::looked_so))]
     fn on_call(&mut self, raw: &RawCall, call: Call) -> Result<(), Memory> {
-        let alloc = *self.sites.allocator();
-        let site = site_where(alloc, self.wanted, self.calls, raw)?;
-        let size = size_of(alloc, raw)?;
-        let told = call_told(alloc, &mut self.last, self.calls, raw, &call)?;
-        self.sites.reserve(1)?;
-        self.arguments.reserve(1)?;
-        count_local(&mut self.local, self.limit, self.calls, raw, &call)?;
-        push_site(&mut self.sites, site)?;
-        push_told(&mut self.arguments, told)?;
-        self.size = greater(self.size, size);
-        self.calls = self.calls.saturating_add(1);
-        Ok(())
+        self.keep(raw, &call)
     }
 }

@@ -9,7 +9,7 @@ use dumpi_calls::Walked;
 use std::marker::Model;
 
 /// What was noted of the text of a piece.
-#[derive(Debug, Drop)]
+#[derive(Drop)]
 pub struct TextNote {
     rank: u32,
     first: u64,

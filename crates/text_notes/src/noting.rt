@@ -13,7 +13,7 @@ use std::marker::Model;
 
 /// The events of calls, as [`Collect`] keeps them, and the functions of those that are not read. Memory beside the
 /// events grows with the names of these functions, not with their calls.
-#[derive(Debug, Drop)]
+#[derive(Drop)]
 pub struct Noting {
     collect: Collect,
     calls: u64,

@@ -11,7 +11,7 @@ use std::marker::Model;
 
 /// A call of a text as it stands there: its number among the calls of the text, from 0, the line where it begins, the
 /// name of its function, and the place in the program from which it was made, if the text has that.
-#[derive(Debug, Drop)]
+#[derive(Drop)]
 pub struct CallSite {
     number: u64,
     line: u64,

@@ -15,7 +15,7 @@ pub const MOST_SHOWN: usize = 10;
 
 /// The first ten functions of calls that are not read, each with how many such calls there are, and how many there are
 /// of others.
-#[derive(Debug, Drop)]
+#[derive(Drop)]
 pub(crate) struct Totals {
     functions: Vec<UnreadFunction>,
     others: u64,

@@ -12,7 +12,7 @@ use mpi_model::Read;
 use std::alloc::{AllocError, Global};
 
 /// Why a second look at a text failed.
-#[derive(Clone, Copy, Debug, PartialEq, Eq)]
+#[derive(Clone, Copy)]
 pub enum LookFault {
     /// There was no memory for one of its calls.
     Memory,

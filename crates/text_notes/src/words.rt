@@ -14,7 +14,7 @@ use call_words::{Text, put_more};
 use std::alloc::Global;
 
 /// What is said of a text.
-#[derive(Clone, Copy, Debug, PartialEq, Eq)]
+#[derive(Clone, Copy, PartialEq, Eq)]
 pub enum Kind {
     /// The first of its calls that is not read.
     Unread,
@@ -131,6 +131,9 @@ fn guess_of(start: Start) -> &'static [u8]
     match start {
         Start::Empty => b" is empty\n",
         Start::Gzip => b" has no call, and begins as what gzip packed\n",
+        Start::Bzip2 => b" has no call, and begins as what bzip2 packed\n",
+        Start::Xz => b" has no call, and begins as what xz packed\n",
+        Start::Zstd => b" has no call, and begins as what zstd packed\n",
         Start::Utf16 => b" has no call, and begins as UTF-16\n",
         Start::Mark => b" has no call, and begins with a byte order mark\n",
         Start::Binary => b" has no call, and a byte 0, as a binary trace\n",

@@ -1,7 +1,8 @@
 -- The rounds in which arguments don't agree (MPI 4.0, 6.1 and 6.9).
-use Rattle.std.specs.Prelude.{◌≡◌, ℕ, Bool, List, [], ◌∷◌, Option, All, filter, map}
+use Rattle.std.specs.Prelude.{◌≡◌, ℕ, Bool, List, [], ◌∷◌, Option, All, filter, map, if◌then◌else◌}
 use Rattle.std.specs.List.{flat_map}
 use Rattle.std.specs.List.Sorted.{IsNonDecreasingBy, IsPermutation}
+use Rattle.mpi_model.specs.Communicators.{is_intercomm}
 use Rattle.mpi_model.specs.Kinds.{KindFunction}
 use Rattle.mpi_model.specs.Layouts.{Parts}
 use Rattle.call_arguments.specs.Table.{compared_of, lines_of}
@@ -47,9 +48,10 @@ told_of layout ops calls round function root =
 abbrev pub name_of : Round → RoundName
 name_of round = record { object = round.comm; k = round.k }
 
--- the same of a round: calls that don't match aren't compared
+-- The same of a round: calls that don't match aren't compared, nor those on an intercommunicator, where what a group
+-- gives is what the other one gets (MPI 4.0, 6.2.2).
 abbrev pub told_in : Parts → List Ops → CallsTold → Round → List Heading
-told_in layout ops calls round = by round.standing
+told_in layout ops calls round = if is_intercomm layout.comms round.comm then [] else by round.standing
   where
     by : Standing → List Heading
     by Mismatched = []

@@ -125,7 +125,7 @@ fn name_of(round: &Round) -> RoundName
     }
 }
 
-/// The same of a round, unless its calls don't match.
+/// The same of a round, unless its calls don't match or are on an intercommunicator.
 fn push_round(
     alloc: Global,
     layout: &Layout,
@@ -137,6 +137,9 @@ fn push_round(
     ensures headings { OnOk result (map heading_of told.new.items ≡ map heading_of told.old.items ++ told_in layout.now entries.now calls.now round.now) }
     ensures groups { OnOk result (All (HasGroups layout.now entries.now calls.now) told.old.items → All (HasGroups layout.now entries.now calls.now) told.new.items) }
 {
+    if layout.is_intercomm(round.comm) {
+        return Ok(());
+    }
     let name = name_of(round);
     match round.standing {
         Standing::Mismatched => Ok(()),
@@ -167,8 +170,9 @@ fn told_among(
 }
 
 /// The rounds, among these, of calls that match but don't agree in their arguments: one for each line of the table of
-/// arguments in which two members have different values that are known, in the order of the rounds and then of the lines
-/// (MPI 4.0, 6). What the ranks did is given, and what their calls tell.
+/// arguments in which two members have different values that are known, in the order of the rounds and then of the
+/// lines (MPI 4.0, 6). Rounds of an intercommunicator aren't compared. What the ranks did is given, and what their
+/// calls tell.
 pub fn arguments_of(
     alloc: Global,
     layout: &Layout,

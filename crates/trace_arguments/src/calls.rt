@@ -10,7 +10,7 @@ use std::collections::BTreeMap;
 use std::marker::Model;
 
 /// What collective calls tell of their arguments, by rank and number. Of a call that is told twice the first counts.
-#[derive(Debug, Drop)]
+#[derive(Drop)]
 pub struct CallsTold {
     calls: BTreeMap<(u32, u64), SharedTold>,
 }

@@ -8,7 +8,7 @@ use std::marker::Model;
 use trace_stuck::RoundName;
 
 /// A line of the table of arguments, asked of a round.
-#[derive(Clone, Copy, Debug, PartialEq, Eq)]
+#[derive(Clone, Copy)]
 pub struct Comparison {
     pub round: RoundName,
     /// The root's rank in the group, where the kind has a root.
@@ -17,7 +17,7 @@ pub struct Comparison {
 }
 
 /// A round of calls that match, and in which two members have different arguments.
-#[derive(Debug, Drop)]
+#[derive(Drop)]
 pub struct Disagreement {
     pub comparison: Comparison,
     pub function: CollectiveFunction,
@@ -27,7 +27,7 @@ pub struct Disagreement {
 }
 
 /// The members with one value.
-#[derive(Debug, Drop)]
+#[derive(Drop)]
 pub struct ValueGroup {
     pub(crate) value: Known,
     pub(crate) ranks: Vec<u32>,

@@ -14,7 +14,7 @@ use trace_ops::RankOps;
 use trace_pair::Pair;
 
 /// A message with the receive that takes it and has room for fewer elements, of one datatype.
-#[derive(Clone, Copy, Debug)]
+#[derive(Clone, Copy)]
 pub struct Truncated {
     pub message: Message,
     pub receive: Receive,

@@ -1,7 +1,7 @@
 //! The two nodes of a cluster.
 
 /// A node of a cluster, by its side of the exchange.
-#[derive(Clone, Copy, Debug, PartialEq, Eq)]
+#[derive(Clone, Copy, Debug)]
 pub enum Side {
     /// The node that leads.
     First,

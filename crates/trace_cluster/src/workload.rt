@@ -5,7 +5,7 @@ use trace_know::Knowledge;
 
 /// The pieces of a node's two workers, of each in the order in which it reads them, and what the node is
 /// told besides, as by packed files.
-#[derive(Debug, Drop)]
+#[derive(Drop)]
 pub struct Workload {
     pub first: Vec<TextPiece>,
     pub second: Vec<TextPiece>,

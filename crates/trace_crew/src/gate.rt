@@ -16,7 +16,7 @@ pub trait Gate: Sync {
 }
 
 /// A gate at which nothing waits.
-#[derive(Clone, Copy, Debug)]
+#[derive(Clone, Copy)]
 pub struct OpenGate;
 
 impl Gate for OpenGate {

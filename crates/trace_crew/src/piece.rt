@@ -13,7 +13,7 @@ use thiserror::Error;
 use trace_know::{ReadySegment, SegmentFault};
 
 /// The text of a rank's trace, from one of its calls on.
-#[derive(Debug, Drop)]
+#[derive(Drop)]
 pub struct TextPiece {
     /// The rank among all ranks of the run.
     pub rank: u32,
@@ -37,14 +37,14 @@ pub enum PieceFault {
 }
 
 /// Where a piece stands: the worker that reads it, and its place in that worker's list, from 0.
-#[derive(Clone, Copy, Debug, PartialEq, Eq)]
+#[derive(Clone, Copy, Debug)]
 pub struct PieceAt {
     pub worker: Worker,
     pub place: u64,
 }
 
 /// A piece that gave no segments, and why.
-#[derive(Debug, Drop)]
+#[derive(Drop)]
 pub struct FaultyPiece {
     pub at: PieceAt,
     pub fault: PieceFault,

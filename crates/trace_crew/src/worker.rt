@@ -17,7 +17,7 @@ use std::thread::Promise;
 use trace_know::ReadySegment;
 
 /// Why a worker stopped before it had read all its texts and posted that it ends.
-#[derive(Clone, Copy, Debug, PartialEq, Eq)]
+#[derive(Clone, Copy, PartialEq, Eq)]
 pub enum Stop {
     /// No memory was left to note the fault of a text. It has posted that it ends all the same.
     Memory,

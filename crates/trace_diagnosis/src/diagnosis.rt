@@ -8,7 +8,7 @@ use mpi_model::{Call, CollectiveFunction, Message, Object, OpName, Receive, Send
 use trace_stuck::{Condition, RoundName};
 
 /// What holds up a run, proved or not, and what else is known of it.
-#[derive(Debug, Drop)]
+#[derive(Drop)]
 pub struct Diagnosis {
     /// The number of ranks.
     pub ranks: u32,
@@ -28,7 +28,7 @@ pub struct Diagnosis {
 }
 
 /// The times of a run.
-#[derive(Clone, Copy, Debug)]
+#[derive(Clone, Copy)]
 pub struct Times {
     /// The earliest wall time of a readable Enter.
     pub begin: Option<u64>,
@@ -37,7 +37,7 @@ pub struct Times {
 }
 
 /// Which ranks wait for which ranks.
-#[derive(Debug, Drop)]
+#[derive(Drop)]
 pub struct Waiting {
     /// How each rank stands, that of rank r at place r.
     pub standing: Vec<Standing>,
@@ -50,7 +50,7 @@ pub struct Waiting {
 }
 
 /// Whether a rank has ended, or else how far its last call has come.
-#[derive(Clone, Copy, Debug, PartialEq, Eq)]
+#[derive(Clone, Copy, PartialEq, Eq)]
 pub enum Stand {
     /// It has ended: its last call is `MPI_Finalize`, and nothing is known after it.
     Ended,
@@ -63,7 +63,7 @@ pub enum Stand {
 }
 
 /// What ends the readable prefix of a rank, if more is known of it or was written.
-#[derive(Clone, Copy, Debug, PartialEq, Eq)]
+#[derive(Clone, Copy, PartialEq, Eq)]
 pub enum Beyond {
     /// Nothing is known of the next place.
     Gap,
@@ -76,7 +76,7 @@ pub enum Beyond {
 }
 
 /// How a rank stands.
-#[derive(Debug, Drop)]
+#[derive(Drop)]
 pub struct Standing {
     pub rank: u32,
     pub stand: Stand,
@@ -86,7 +86,7 @@ pub struct Standing {
 }
 
 /// The last call of a rank.
-#[derive(Debug, Drop)]
+#[derive(Drop)]
 pub struct LastCall {
     pub number: u64,
     /// The call, as it was entered.
@@ -102,7 +102,7 @@ pub struct LastCall {
 }
 
 /// A rank that polls: its last calls are tests and probes without success, and local calls.
-#[derive(Debug, Drop)]
+#[derive(Drop)]
 pub struct Polling {
     pub rank: u32,
     /// The different ones, each the last of its content, in their order.
@@ -112,7 +112,7 @@ pub struct Polling {
 }
 
 /// A test or a probe without success.
-#[derive(Debug, Drop)]
+#[derive(Drop)]
 pub struct Polled {
     pub number: u64,
     /// The call, as it was entered.
@@ -122,7 +122,7 @@ pub struct Polled {
 }
 
 /// What a held rank needs: that another rank goes on, or that a round ends which can't.
-#[derive(Clone, Copy, Debug, PartialEq, Eq)]
+#[derive(Clone, Copy, PartialEq, Eq)]
 pub enum Need {
     /// That this rank goes on.
     Rank(u32),
@@ -131,7 +131,7 @@ pub enum Need {
 }
 
 /// A held rank, which can't go on by itself: its condition doesn't hold if no rank can go on.
-#[derive(Debug, Drop)]
+#[derive(Drop)]
 pub struct Held {
     pub rank: u32,
     /// What it waits or polls for.
@@ -141,7 +141,7 @@ pub struct Held {
 }
 
 /// What a root is. Roots of equal weight are printed in this order.
-#[derive(Clone, Copy, Debug, PartialEq, Eq)]
+#[derive(Clone, Copy, PartialEq, Eq)]
 pub enum RootKind {
     /// A round whose calls don't match.
     Mismatch(RoundName),
@@ -156,7 +156,7 @@ pub enum RootKind {
 }
 
 /// A root: what holds up ranks and is itself held up by nobody else.
-#[derive(Debug, Drop)]
+#[derive(Drop)]
 pub struct Root {
     pub kind: RootKind,
     /// Its own ranks; of a round those that have entered it.
@@ -170,7 +170,7 @@ pub struct Root {
 }
 
 /// The rounds that are printed.
-#[derive(Debug, Drop)]
+#[derive(Drop)]
 pub struct Rounds {
     /// The mismatched rounds, by object and number.
     pub mismatched: Vec<MismatchedRound>,
@@ -179,7 +179,7 @@ pub struct Rounds {
 }
 
 /// A round whose calls don't match.
-#[derive(Debug, Drop)]
+#[derive(Drop)]
 pub struct MismatchedRound {
     pub round: RoundName,
     /// The groups of members whose calls match, in the order of their first ranks.
@@ -187,7 +187,7 @@ pub struct MismatchedRound {
 }
 
 /// Ranks that entered a round by calls that match.
-#[derive(Debug, Drop)]
+#[derive(Drop)]
 pub struct CallGroup {
     pub function: CollectiveFunction,
     /// The root's rank in the group, where the kind has a root.
@@ -198,7 +198,7 @@ pub struct CallGroup {
 }
 
 /// A round that some members have entered and others haven't.
-#[derive(Debug, Drop)]
+#[derive(Drop)]
 pub struct OpenRound {
     pub round: RoundName,
     pub function: CollectiveFunction,
@@ -209,7 +209,7 @@ pub struct OpenRound {
 }
 
 /// Messages that nobody received, receives that nothing matched, and requests that were never completed.
-#[derive(Debug, Drop)]
+#[derive(Drop)]
 pub struct Unmatched {
     /// In the order of their names.
     pub left_over: Vec<LeftOver>,
@@ -222,7 +222,7 @@ pub struct Unmatched {
 }
 
 /// A left-over message: no receive can have taken it, and its receiver is held or isn't seen to wait.
-#[derive(Debug, Drop)]
+#[derive(Drop)]
 pub struct LeftOver {
     pub message: Message,
     /// How many messages with the same communicator, sender, receiver and tag were received.
@@ -232,7 +232,7 @@ pub struct LeftOver {
 }
 
 /// A starving receive or probe: it waits for a message which nobody is known to have sent.
-#[derive(Debug, Drop)]
+#[derive(Drop)]
 pub struct Starving {
     pub receive: Receive,
     /// How many messages that fit it were received.
@@ -243,7 +243,7 @@ pub struct Starving {
 
 /// The one thing in which a message and a receive differ that would otherwise be a pair, in the order in which it is
 /// printed.
-#[derive(Clone, Copy, Debug, PartialEq, Eq)]
+#[derive(Clone, Copy)]
 pub enum Why {
     /// Only the tag differs.
     Tag,
@@ -263,14 +263,14 @@ pub enum Why {
 }
 
 /// A receive that a message nearly fits.
-#[derive(Clone, Copy, Debug)]
+#[derive(Clone, Copy)]
 pub struct NearReceive {
     pub why: Why,
     pub receive: Receive,
 }
 
 /// A message that a receive nearly fits.
-#[derive(Clone, Copy, Debug)]
+#[derive(Clone, Copy)]
 pub struct NearMessage {
     pub why: Why,
     pub message: Message,
@@ -279,7 +279,7 @@ pub struct NearMessage {
 }
 
 /// What may make the diagnosis wrong, as far as the ranks' calls show it.
-#[derive(Debug, Drop)]
+#[derive(Drop)]
 pub struct Doubts {
     /// Calls of objects that the layout doesn't know, by sort and number.
     pub foreign: Vec<Foreign>,
@@ -294,7 +294,7 @@ pub struct Doubts {
 }
 
 /// An object that calls name and the layout doesn't know for them.
-#[derive(Clone, Copy, Debug)]
+#[derive(Clone, Copy)]
 pub struct Foreign {
     /// Whether it is a communicator, a window or a file.
     pub object: Object,
@@ -305,7 +305,7 @@ pub struct Foreign {
 }
 
 /// An operation, with the call that started it.
-#[derive(Debug, Drop)]
+#[derive(Drop)]
 pub struct Operation {
     pub name: OpName,
     /// The call, as it was entered.
@@ -315,7 +315,7 @@ pub struct Operation {
 }
 
 /// The call that made a persistent request.
-#[derive(Debug, Drop)]
+#[derive(Drop)]
 pub struct Init {
     pub number: u64,
     /// The call, as it was entered.

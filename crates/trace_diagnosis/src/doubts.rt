@@ -10,7 +10,7 @@ use trace_node::Answer;
 use trace_ops::is_foreign;
 
 /// An object as calls name it: its sort, and the number of the text.
-#[derive(Clone, Copy, Debug)]
+#[derive(Clone, Copy)]
 struct Named {
     object: Object,
     number: u32,

@@ -46,7 +46,7 @@ fn is_idle(active: &BTreeSet<u64>, call: u64) -> bool
     !active.contains(&call)
 }
 
-/// The members of the communicator that a call of a rank names, with its id.
+/// Those whose ranks a call of a rank names on its communicator, with that one's id.
 fn group_of<'a>(
     layout: &'a Layout,
     rank: u32,
@@ -54,7 +54,7 @@ fn group_of<'a>(
     comm: CommRef,
 ) -> Option<(u32, &'a [u32])> {
     let comm = layout.named(rank, number, Object::Communicator, comm)?;
-    Some((comm, layout.members(comm)?))
+    Some((comm, layout.peers(comm, rank)?))
 }
 
 /// The message that an init describes.

@@ -189,37 +189,33 @@ fn push_envelope(key: &mut Vec<i64>, envelope: ProbeEnvelope) -> Result<(), Allo
     push_comm(key, envelope.comm())
 }
 
+/// The number of a test's sort, and its requests.
+fn key_of_test(alloc: Global, sort: i64, requests: &[i64]) -> Result<Vec<i64>, AllocError> {
+    let mut key = Vec::new(alloc);
+    key.push(sort)?;
+    key.extend_from_slice(requests)?;
+    Ok(key)
+}
+
+/// The number of a probe's sort, and what it looks for.
+fn key_of_probe(alloc: Global, sort: i64, envelope: ProbeEnvelope) -> Result<Vec<i64>, AllocError> {
+    let mut key = Vec::new(alloc);
+    key.push(sort)?;
+    push_envelope(&mut key, envelope)?;
+    Ok(key)
+}
+
 /// Numbers that tell the content of a test or a probe: two have the same numbers where they have one content.
 fn key_of(alloc: Global, call: &Call) -> Result<Vec<i64>, AllocError> {
-    let mut key = Vec::new(alloc);
     match call {
-        Call::Test(request) => {
-            key.push(0)?;
-            key.push(*request)?;
-        }
-        Call::Testall(requests) => {
-            key.push(1)?;
-            key.extend_from_slice(requests.as_slice())?;
-        }
-        Call::Testany(requests) => {
-            key.push(2)?;
-            key.extend_from_slice(requests.as_slice())?;
-        }
-        Call::Testsome(requests) => {
-            key.push(3)?;
-            key.extend_from_slice(requests.as_slice())?;
-        }
-        Call::Iprobe(envelope) => {
-            key.push(5)?;
-            push_envelope(&mut key, *envelope)?;
-        }
-        Call::Improbe(envelope) => {
-            key.push(4)?;
-            push_envelope(&mut key, *envelope)?;
-        }
-        _ => {}
+        Call::Test(request) => key_of_test(alloc, 0, &[*request]),
+        Call::Testall(requests) => key_of_test(alloc, 1, requests.as_slice()),
+        Call::Testany(requests) => key_of_test(alloc, 2, requests.as_slice()),
+        Call::Testsome(requests) => key_of_test(alloc, 3, requests.as_slice()),
+        Call::Iprobe(envelope) => key_of_probe(alloc, 5, *envelope),
+        Call::Improbe(envelope) => key_of_probe(alloc, 4, *envelope),
+        _ => Ok(Vec::new(alloc)),
     }
-    Ok(key)
 }
 
 /// A poll: its number, and the call as it was entered.

@@ -265,6 +265,20 @@ fn patterns_of_messages(alloc: Global, messages: &[Message]) -> Result<Vec<Patte
     Ok(asked)
 }
 
+/// Adds the near misses of the message that differ from it in one thing.
+fn push_near_receives(
+    alloc: Global,
+    why: Why,
+    m: &Message,
+    receives: &[Receive],
+    by_thing: &NearReceives,
+    near: &mut Vec<NearReceive>,
+) -> Result<(), AllocError>
+    ensures { OnOk result (All (IsNearReceive m.now) near.old.items → All (IsNearReceive m.now) near.new.items) }
+{
+    push_receives(why, m, receives, &by_thing.near(alloc, m)?, near)
+}
+
 /// What messages that are left over may miss by little.
 #[derive(Drop)]
 struct AllReceives {
@@ -282,13 +296,15 @@ impl AllReceives {
         } else {
             patterns_of_messages(alloc, &found.left)?
         };
+        let idle = Firsts::of_receives(alloc, &asked, &idle.receives)?;
+        drop(asked);
         let starving = &found.starving;
         Ok(AllReceives {
             tag: NearReceives::of(alloc, Why::Tag, starving)?,
             comm: NearReceives::of(alloc, Why::Comm, starving)?,
             source: NearReceives::of(alloc, Why::Source, starving)?,
             dest: NearReceives::of(alloc, Why::Dest, starving)?,
-            idle: Firsts::of_receives(alloc, &asked, &idle.receives)?,
+            idle,
         })
     }
 
@@ -301,6 +317,25 @@ impl AllReceives {
         first_three(places)
     }
 
+    /// Adds the idle receives that would fit the message.
+    fn push_idle(
+        &self,
+        alloc: Global,
+        idle: &Idle,
+        m: &Message,
+        near: &mut Vec<NearReceive>,
+    ) -> Result<(), AllocError>
+        ensures { OnOk result (All (IsNearReceive m.now) near.old.items → All (IsNearReceive m.now) near.new.items) }
+    {
+        push_receives(
+            Why::Idle,
+            m,
+            &idle.receives,
+            &self.idle_for(alloc, m)?,
+            near,
+        )
+    }
+
     /// The near misses of a message.
     fn near(
         &self,
@@ -311,39 +346,29 @@ impl AllReceives {
     ) -> Result<Vec<NearReceive>, AllocError>
         ensures { IfOk result (λ near. All (IsNearReceive m.now) near.items) }
     {
-        let starving = &found.starving;
+        let receives = &found.starving;
         let mut near = Vec::new(alloc);
-        push_receives(Why::Tag, m, starving, &self.tag.near(alloc, m)?, &mut near)?;
-        push_receives(
-            Why::Comm,
-            m,
-            starving,
-            &self.comm.near(alloc, m)?,
-            &mut near,
-        )?;
-        push_receives(
-            Why::Source,
-            m,
-            starving,
-            &self.source.near(alloc, m)?,
-            &mut near,
-        )?;
-        push_receives(
-            Why::Dest,
-            m,
-            starving,
-            &self.dest.near(alloc, m)?,
-            &mut near,
-        )?;
-        push_receives(
-            Why::Idle,
-            m,
-            &idle.receives,
-            &self.idle_for(alloc, m)?,
-            &mut near,
-        )?;
+        push_near_receives(alloc, Why::Tag, m, receives, &self.tag, &mut near)?;
+        push_near_receives(alloc, Why::Comm, m, receives, &self.comm, &mut near)?;
+        push_near_receives(alloc, Why::Source, m, receives, &self.source, &mut near)?;
+        push_near_receives(alloc, Why::Dest, m, receives, &self.dest, &mut near)?;
+        self.push_idle(alloc, idle, m, &mut near)?;
         Ok(near)
     }
+}
+
+/// Adds the near misses of the receive that differ from it in one thing.
+fn push_near_messages(
+    alloc: Global,
+    why: Why,
+    q: &Receive,
+    messages: &[Message],
+    by_thing: &NearMessages,
+    near: &mut Vec<NearMessage>,
+) -> Result<(), AllocError>
+    ensures { OnOk result (All (IsNearMessage q.now) near.old.items → All (IsNearMessage q.now) near.new.items) }
+{
+    push_messages(why, q, messages, &by_thing.near(alloc, q)?, near)
 }
 
 /// What receives that starve may miss by little.
@@ -368,18 +393,21 @@ impl<'a> AllMessages<'a> {
         found: &Found,
         idle: &Idle,
     ) -> Result<AllMessages<'a>, AllocError> {
-        let asked = patterns_of_receives(alloc, &found.starving)?;
-        let left = &found.left;
         let starving = &found.starving;
+        let asked = patterns_of_receives(alloc, starving)?;
+        let loose = Firsts::of_messages(alloc, &asked, &found.loose)?;
+        let idle = Firsts::of_messages(alloc, &asked, &idle.messages)?;
+        drop(asked);
+        let left = &found.left;
         Ok(AllMessages {
             tag: NearMessages::of(alloc, Why::Tag, left, starving)?,
             comm: NearMessages::of(alloc, Why::Comm, left, starving)?,
             source: NearMessages::of(alloc, Why::Source, left, starving)?,
             dest: NearMessages::of(alloc, Why::Dest, left, starving)?,
             taken: taken_of(alloc, run.know, inits, run.ops, run.pairs, starving)?,
-            loose: Firsts::of_messages(alloc, &asked, &found.loose)?,
+            loose,
             takers: Takers::of(alloc, run.ops, reaches)?,
-            idle: Firsts::of_messages(alloc, &asked, &idle.messages)?,
+            idle,
         })
     }
 
@@ -401,6 +429,24 @@ impl<'a> AllMessages<'a> {
         Ok(postponed)
     }
 
+    /// Adds the messages in no pair that fit a receive.
+    fn push_postponed(
+        &self,
+        alloc: Global,
+        found: &Found,
+        q: &Receive,
+        near: &mut Vec<NearMessage>,
+    ) -> Result<(), AllocError>
+        ensures { OnOk result (All (IsNearMessage q.now) near.old.items → All (IsNearMessage q.now) near.new.items) }
+    {
+        push_taken(
+            Why::Postponed,
+            q,
+            &self.postponed_for(alloc, found, q)?,
+            near,
+        )
+    }
+
     /// The near misses of the receive at a place.
     fn near(
         &self,
@@ -412,25 +458,14 @@ impl<'a> AllMessages<'a> {
     ) -> Result<Vec<NearMessage>, AllocError>
         ensures { IfOk result (λ near. All (IsNearMessage q.now) near.items) }
     {
-        let left = &found.left;
+        let messages = &found.left;
         let mut near = Vec::new(alloc);
-        push_messages(Why::Tag, q, left, &self.tag.near(alloc, q)?, &mut near)?;
-        push_messages(Why::Comm, q, left, &self.comm.near(alloc, q)?, &mut near)?;
-        push_messages(
-            Why::Source,
-            q,
-            left,
-            &self.source.near(alloc, q)?,
-            &mut near,
-        )?;
-        push_messages(Why::Dest, q, left, &self.dest.near(alloc, q)?, &mut near)?;
+        push_near_messages(alloc, Why::Tag, q, messages, &self.tag, &mut near)?;
+        push_near_messages(alloc, Why::Comm, q, messages, &self.comm, &mut near)?;
+        push_near_messages(alloc, Why::Source, q, messages, &self.source, &mut near)?;
+        push_near_messages(alloc, Why::Dest, q, messages, &self.dest, &mut near)?;
         push_taken(Why::Taken, q, taken_at(&self.taken, at), &mut near)?;
-        push_taken(
-            Why::Postponed,
-            q,
-            &self.postponed_for(alloc, found, q)?,
-            &mut near,
-        )?;
+        self.push_postponed(alloc, found, q, &mut near)?;
         push_messages(
             Why::Idle,
             q,

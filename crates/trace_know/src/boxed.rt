@@ -19,7 +19,7 @@ use std::alloc::{AllocError, Global};
 use std::marker::Model;
 
 /// A run in memory of its own. In a contract it is the run.
-#[derive(Debug, Drop)]
+#[derive(Drop)]
 pub(crate) struct BoxedRun {
     run: Box<Run>,
 }

@@ -10,7 +10,7 @@ use mpi_model::{Call, Event};
 use std::alloc::AllocError;
 
 /// What is known of a place where something is known.
-#[derive(Debug, Drop)]
+#[derive(Drop)]
 pub enum Known {
     /// All that reached this place agreed on this event.
     One(Event),
@@ -62,7 +62,7 @@ impl Known {
 }
 
 /// What is known of a place of a rank.
-#[derive(Clone, Copy, Debug)]
+#[derive(Clone, Copy)]
 pub enum Cell<'a> {
     /// Nothing is known of this place.
     Nothing,

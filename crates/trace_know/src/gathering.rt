@@ -22,7 +22,7 @@ const LONG_PIECE: usize = 1_024;
 /// would move pointers for each new run. Long pieces are joined once a hundred thousand events are held.
 ///
 /// In a contract it is the view of all that was read.
-#[derive(Debug, Drop)]
+#[derive(Drop)]
 pub struct Gathering {
     alloc: Global,
     know: Knowledge,

@@ -45,7 +45,7 @@ fn only_run(runs: &RunList) -> Option<&BoxedRun>
 }
 
 /// What is known of each place of each rank. Empty knowledge takes no memory; a copy takes its own.
-#[derive(Debug, Drop)]
+#[derive(Drop)]
 pub struct Knowledge {
     alloc: Global,
     runs: RunList,

@@ -24,7 +24,7 @@ fn cell_at<'a>(front: &'a [Known], back: &'a [Known], i: usize) -> &'a Known
 }
 
 /// The readable events of a rank, in order. They stay where they stand, and it takes no memory.
-#[derive(Debug, Drop)]
+#[derive(Drop)]
 pub struct Readable<'a> {
     /// The cells of the rank from place 0 on, which may stand in two pieces.
     front: &'a [Known],

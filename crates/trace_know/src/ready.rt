@@ -22,7 +22,7 @@ use std::marker::Model;
 /// reading thread does the work, and the joining thread has less to do.
 ///
 /// In a contract it is the segment.
-#[derive(Debug, Drop)]
+#[derive(Drop)]
 pub struct ReadySegment {
     piece: BoxedRun,
 }
@@ -126,7 +126,7 @@ impl ReadySegment {
 /// or a [`ReadyPiece`] without a move.
 ///
 /// In a contract they are their list.
-#[derive(Debug, Drop)]
+#[derive(Drop)]
 pub struct ReadyEvents {
     cells: Vec<Known>,
     /// How many cells stand before the first at which a readable prefix ends.

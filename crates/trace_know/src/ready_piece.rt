@@ -13,7 +13,7 @@ use std::marker::Model;
 /// has at most [`MOST_EVENTS`](crate::MOST_EVENTS) of them, a piece any number.
 ///
 /// In a contract it is its events, with their rank and their first place.
-#[derive(Debug, Drop)]
+#[derive(Drop)]
 pub struct ReadyPiece {
     run: BoxedRun,
 }

@@ -18,7 +18,7 @@ use std::collections::VecDeque;
 
 /// Cells of a rank from a place on, how many of them stand before the first at which a readable
 /// prefix ends, and how many are contradictions.
-#[derive(Debug, Drop)]
+#[derive(Drop)]
 pub(crate) struct Run {
     pub(crate) rank: u32,
     pub(crate) first: u64,

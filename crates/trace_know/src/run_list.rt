@@ -13,7 +13,7 @@ use std::collections::VecDeque;
 use std::marker::Model;
 
 /// Runs in a list. Empty it takes no memory.
-#[derive(Debug, Drop)]
+#[derive(Drop)]
 pub(crate) struct RunList {
     chunks: Vec<VecDeque<BoxedRun>>,
     /// How many runs there are.

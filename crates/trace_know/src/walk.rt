@@ -11,7 +11,7 @@ use std::marker::Model;
 
 /// The cells that a walk has left, in rising order of rank and place: the rank, the place, and what is known there.
 /// Each step takes constant time and no memory.
-#[derive(Debug, Drop)]
+#[derive(Drop)]
 pub struct Walk<'a> {
     runs: &'a RunList,
     /// The index of the run that has the next cell.

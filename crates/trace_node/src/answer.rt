@@ -21,7 +21,7 @@ pub(crate) use gather::{answer_of, reading_of, waiting_call, wall_of, walls_of};
 pub(crate) use parts::Reading;
 
 /// The answer to what is known of the run of a layout: all that the report prints.
-#[derive(Debug, Drop)]
+#[derive(Drop)]
 pub struct Answer {
     ranks: u32,
     sends: Sends,

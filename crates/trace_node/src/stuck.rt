@@ -7,7 +7,7 @@ use std::alloc::{AllocError, Global};
 use trace_stuck::Condition;
 
 /// A stuck rank: whatever the ranks do next, its call can't return.
-#[derive(Debug, Drop)]
+#[derive(Drop)]
 pub struct Stuck {
     pub rank: u32,
     /// The number of the call in which it waits.

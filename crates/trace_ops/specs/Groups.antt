@@ -9,7 +9,7 @@ use Rattle.trace_ops.specs.Foreign.{Group, group_named}
 
 -- a group that is lent, as plain data
 abbrev pub plain : Lent → Group
-plain g = record { comm = g.comm; members = g.members.now }
+plain g = record { comm = g.comm; members = g.members.now; inter = g.inter }
 
 -- the same, where there is one
 abbrev pub plain_group : Option Lent → Option Group

@@ -15,7 +15,7 @@ use std::marker::Model;
 use trace_know::Readable;
 
 /// A call that was entered, with its outcome, where it has returned.
-#[derive(Clone, Copy, Debug)]
+#[derive(Clone, Copy)]
 pub(crate) struct Called<'a> {
     pub call: &'a Call,
     pub outs: Option<&'a Outs>,

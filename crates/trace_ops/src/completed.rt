@@ -11,7 +11,7 @@ use mpi_model::{Call, Element, NULL_REQUEST, Outs, Told};
 use std::alloc::AllocError;
 
 /// A request that an outcome completes, and what the outcome says of its source.
-#[derive(Clone, Copy, Debug, PartialEq, Eq)]
+#[derive(Clone, Copy)]
 pub struct Completed {
     /// The trace's number of the request.
     pub request: i64,

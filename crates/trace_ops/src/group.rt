@@ -1,17 +1,20 @@
 //! The objects that calls name, communicators, windows and files, and the calls that the layout doesn't know.
 
 ghost use Rattle.std.specs.Prelude.{◌≡◌};
-ghost use Rattle.trace_ops.specs.Foreign.{are_within, group_named, group_of, is_foreign, is_foreign_in, is_root_within, is_within, peer_rank};
-ghost use Rattle.trace_ops.specs.Groups.{IsWorldOf, plain_group};
+ghost use Rattle.trace_ops.specs.Foreign.{are_within, group_named, group_of, is_collective_within, is_foreign, is_foreign_in, is_merge, is_root_within, is_within, peer_rank};
+ghost use Rattle.trace_ops.specs.Groups.{IsWorldOf, plain, plain_group};
 
-use mpi_model::{Call, Collective, CommRef, Layout, Object, Peer};
+use mpi_model::{Call, Collective, CommRef, Kind, Layout, Object, Peer};
 
-/// The group of an object: ranks of the trace, in the order of their ranks in the group (MPI 4.0, 7.2.1).
-#[derive(Clone, Copy, Debug)]
+/// The group of an object as a rank sees it: ranks of the trace, in the order of their ranks in the group (MPI 4.0,
+/// 7.2.1). Of an intercommunicator it is the group in which the rank isn't (7.6).
+#[derive(Clone, Copy)]
 pub(crate) struct Group<'a> {
     /// The object's id in the layout.
     pub comm: u32,
     pub members: &'a [u32],
+    /// Whether the object is an intercommunicator.
+    pub inter: bool,
 }
 
 /// The group of the object of this sort that call `n` of the rank names; `None` if the layout has no such object.
@@ -25,9 +28,13 @@ pub(crate) fn group_named<'a>(
 ) -> Option<Group<'a>>
     ensures { plain_group result ≡ group_named layout.now rank n object comm }
 {
-    let comm = layout.named(rank, n, object, comm)?;
-    let members = layout.members(comm)?;
-    Some(Group { comm, members })
+    let id = layout.named(rank, n, object, comm)?;
+    let named = layout.comm(id)?;
+    Some(Group {
+        comm: id,
+        members: named.peers(rank),
+        inter: named.is_inter(),
+    })
 }
 
 /// The rank in the group that a peer names.
@@ -50,18 +57,35 @@ fn is_within(members: &[u32], other: Option<u32>) -> bool
     }
 }
 
-/// Whether the root is a rank in the group, where the kind of the call has one.
-fn is_root_within(members: &[u32], c: Collective) -> bool
-    ensures { result ≡ is_root_within members.now c }
+/// Whether the root is a rank in the group, where the kind of the call has one. On an
+/// intercommunicator a call may name none in it (MPI 4.0, 6.2.3).
+fn is_root_within(group: Group<'_>, c: Collective) -> bool
+    ensures { result ≡ is_root_within (plain group.entry) c }
 {
-    is_within(members, c.root()) && (c.root().is_some() || !c.kind().has_root())
+    is_within(group.members, c.root())
+        && (c.root().is_some() || !c.kind().has_root() || group.inter)
+}
+
+/// Whether it is the kind of a MPI_Intercomm_merge.
+fn is_merge(kind: Kind) -> bool
+    ensures { result ≡ is_merge kind }
+{
+    matches!(kind, Kind::IntercommMerge)
+}
+
+/// Whether the root is within, and a call that merges names an intercommunicator (MPI 4.0, 7.6.2).
+fn is_collective_within(group: Group<'_>, c: Collective) -> bool
+    ensures { result ≡ is_collective_within (plain group.entry) c }
+{
+    is_root_within(group, c) && (group.inter || !is_merge(c.kind()))
 }
 
 /// Whether the ranks that a call names, its peers or its root, are ranks in the group.
 #[inline(always)]
-fn are_within(members: &[u32], call: &Call) -> bool
-    ensures { result ≡ are_within members.now call.now }
+fn are_within(group: Group<'_>, call: &Call) -> bool
+    ensures { result ≡ are_within (plain group.entry) call.now }
 {
+    let members = group.members;
     match call {
         Call::Send(_, e) | Call::Isend(_, e) | Call::SendInit(_, e) => {
             is_within(members, peer_rank(e.envelope().peer))
@@ -73,8 +97,8 @@ fn are_within(members: &[u32], call: &Call) -> bool
             is_within(members, peer_rank(both.send().peer))
                 && is_within(members, peer_rank(both.receive().peer))
         }
-        Call::Collective(c) => is_root_within(members, *c),
-        Call::Icollective(c) => is_root_within(members, c.call()),
+        Call::Collective(c) => is_collective_within(group, *c),
+        Call::Icollective(c) => is_collective_within(group, c.call()),
         Call::Probe(e) | Call::Mprobe(e) | Call::Improbe(e) | Call::Iprobe(e) => {
             is_within(members, peer_rank(e.source()))
         }
@@ -122,7 +146,7 @@ pub(crate) fn group_given_world<'a>(
     ensures { plain_group result ≡ group_of layout.now rank n call.now }
 {
     let group = named_given_world(layout, rank, n, call.object(), call.comm()?, world)?;
-    if are_within(group.members, call) {
+    if are_within(group, call) {
         Some(group)
     } else {
         None

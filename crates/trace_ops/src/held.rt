@@ -18,7 +18,7 @@ use mpi_model::Call;
 use std::alloc::{AllocError, Global};
 
 /// An init that has returned: its call, with its number.
-#[derive(Clone, Copy, Debug)]
+#[derive(Clone, Copy)]
 pub(crate) struct Init<'a> {
     pub number: u64,
     pub call: &'a Call,
@@ -150,7 +150,7 @@ fn push_held<'a>(
 }
 
 /// A part of a Start or Startall: its place, the number that it starts, and the init that holds it.
-#[derive(Clone, Copy, Debug)]
+#[derive(Clone, Copy)]
 pub(crate) struct Part<'a> {
     pub part: u32,
     pub request: i64,

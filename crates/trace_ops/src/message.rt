@@ -4,7 +4,7 @@ ghost use Rattle.std.specs.Prelude.{◌≡◌, true, false};
 ghost use Rattle.trace_ops.specs.Fate.{OfPost};
 ghost use Rattle.trace_ops.specs.Groups.{plain, plain_group};
 ghost use Rattle.trace_ops.specs.Message.{message_in, message_to, sent_by, sent_with, tag_of};
-ghost use Rattle.trace_ops.specs.Round.{entered_by, entered_in, entry_of};
+ghost use Rattle.trace_ops.specs.Round.{entered_by, entered_in, entry_of, root_in};
 ghost use Rattle.trace_ops.specs.Steps.{starting};
 
 use crate::entered::Entered;
@@ -95,14 +95,22 @@ pub(crate) fn message_in(
     sent_by(group?, name, call, fate)
 }
 
+/// The root of a round: none on an intercommunicator, where each member names another.
+fn root_in(group: Group<'_>, c: Collective) -> Option<u32>
+    ensures { result ≡ root_in (plain group.entry) c }
+{
+    if group.inter { None } else { c.root() }
+}
+
 /// The entry of a blocking collective call into a round of its object.
 fn entry_of_blocking(group: Group<'_>, n: u64, c: Collective) -> Entered
     ensures { result ≡ entry_of (plain group.entry) n c false }
 {
     Entered {
         comm: group.comm,
+        inter: group.inter,
         function: c.function(),
-        root: c.root(),
+        root: root_in(group, c),
         call: n,
     }
 }
@@ -113,8 +121,9 @@ fn entry_of_nonblocking(group: Group<'_>, n: u64, c: NonblockingCollective) -> E
 {
     Entered {
         comm: group.comm,
+        inter: group.inter,
         function: c.function(),
-        root: c.call().root(),
+        root: root_in(group, c.call()),
         call: n,
     }
 }

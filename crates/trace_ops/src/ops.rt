@@ -14,7 +14,7 @@ mod gather;
 pub use gather::{all_ops, ops_of};
 
 /// What a rank did, as its readable events tell it.
-#[derive(Debug, Drop)]
+#[derive(Drop)]
 pub struct RankOps {
     sends: Vec<Message>,
     receives: Vec<Receive>,

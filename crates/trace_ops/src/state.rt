@@ -1,7 +1,7 @@
 //! How a rank stands at the end of its readable events.
 
 /// How a rank stands.
-#[derive(Clone, Copy, Debug, PartialEq, Eq)]
+#[derive(Clone, Copy, PartialEq, Eq)]
 pub enum State {
     /// It isn't seen to wait, or something is known past its readable events.
     Free,

@@ -14,7 +14,7 @@ use mpi_model::{Call, Told};
 use std::alloc::AllocError;
 
 /// The first call that touches a request number, and what it tells of the request.
-#[derive(Clone, Copy, Debug)]
+#[derive(Clone, Copy)]
 pub(crate) struct End {
     pub call: usize,
     /// The first of its completions that may tell the source, or else their number.
@@ -24,7 +24,7 @@ pub(crate) struct End {
 }
 
 /// What the calls behind do with a request number.
-#[derive(Clone, Copy, Debug)]
+#[derive(Clone, Copy)]
 pub(crate) struct Touch {
     pub end: Option<End>,
     /// Whether a Cancel names the number before it is touched.

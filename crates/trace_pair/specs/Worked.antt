@@ -118,7 +118,7 @@ did ms qs rounds = record no_ops { sends = ms; receives = qs; rounds = rounds; c
 
 -- an entry into a collective call
 abbrev enters : ℕ → Kind → Bool → ℕ → Entered
-enters comm kind nonblocking call = record { comm = comm; function = record { kind = kind; nonblocking = nonblocking }; root = None; call = call }
+enters comm kind nonblocking call = record { comm = comm; inter = false; function = record { kind = kind; nonblocking = nonblocking }; root = None; call = call }
 
 -- into a Barrier on communicator 2
 abbrev barrier : ℕ → Entered

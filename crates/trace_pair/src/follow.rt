@@ -207,7 +207,7 @@ fn last_common(a: &[Entered], b: &[Entered]) -> u64
 
 /// How many messages and receives stay when a rank's ops change: those of the common front, as long as it is unchanged
 /// which messages come after which receives.
-#[derive(Clone, Copy, Debug)]
+#[derive(Clone, Copy)]
 pub(crate) struct Fronts {
     pub(crate) sends: usize,
     pub(crate) receives: usize,

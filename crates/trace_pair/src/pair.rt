@@ -6,7 +6,7 @@ ghost use Rattle.trace_pair.specs.Table.{pair_of};
 use mpi_model::{Message, OpName, Receive};
 
 /// The operations of a message and of the receive that takes it.
-#[derive(Clone, Copy, Debug, PartialEq, Eq)]
+#[derive(Clone, Copy, PartialEq, Eq)]
 pub struct Pair {
     pub message: OpName,
     pub receive: OpName,
@@ -15,14 +15,14 @@ pub struct Pair {
 }
 
 /// A message and the receive that takes it.
-#[derive(Clone, Copy, Debug, PartialEq, Eq)]
+#[derive(Clone, Copy)]
 pub(crate) struct Couple {
     pub(crate) message: Message,
     pub(crate) receive: Receive,
 }
 
 /// What a receive has beside what the message that it takes already says.
-#[derive(Clone, Copy, Debug, PartialEq, Eq)]
+#[derive(Clone, Copy)]
 pub(crate) struct Taker {
     pub(crate) call: u64,
     pub(crate) part: u32,

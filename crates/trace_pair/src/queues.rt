@@ -102,7 +102,7 @@ impl Messages {
 
 /// The kinds of receives that a set ever had: by whether the source is told, and a tag. A kind that it didn't have
 /// needs no probe.
-#[derive(Clone, Copy, Debug, PartialEq, Eq)]
+#[derive(Clone, Copy)]
 pub(crate) struct Kinds {
     pub(crate) told: bool,
     pub(crate) told_any_tag: bool,

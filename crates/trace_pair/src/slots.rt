@@ -12,7 +12,7 @@ use mpi_model::OpName;
 use std::alloc::{AllocError, Global};
 
 /// A call of a rank, and the part of it: in order of the call, and then of the part.
-#[derive(Clone, Copy, Debug, PartialEq, Eq, PartialOrd, Ord)]
+#[derive(Clone, Copy, PartialEq, Eq, PartialOrd, Ord)]
 pub(crate) struct At {
     pub(crate) call: u64,
     pub(crate) part: u32,

@@ -1,7 +1,8 @@
 -- A sink that holds texts back, over one that holds none.
-use Rattle.std.proofs.Common.{◌≡◌, ℕ, List, [], ◌++◌, sym, ◌∙◌, ap, append-nil, subst}
-use Rattle.trace_report.specs.Page.{Page, Prints}
-use Rattle.trace_report.proofs.Printing.{then, reads}
+use Rattle.std.proofs.Common.{◌≡◌, ◌+◌, ℕ, List, [], ◌++◌, refl, sym, ◌∙◌, ap, append-nil, arith, subst}
+use Rattle.std.proofs.KnownBytes.{Appends-nil}
+use Rattle.trace_report.specs.Page.{Page, Prints, capped}
+use Rattle.trace_report.proofs.Printing.{left_alone, then, reads}
 
 abbrev with_pending : Page → List ℕ → Page
 with_pending s held = record { lent = s.lent; device = s.device; pending = held; count = s.count; failed = s.failed }
@@ -44,3 +45,23 @@ passed s t u p q x text e f d a b h k =
       beside = k.beside;
       lent = k.lent;
     }
+
+-- the text is held behind what is held
+pub held : (s : Page) (x text : List ℕ) → x ≡ s.pending ++ text → Prints s (with_pending s x) text
+held s x text e = record {
+  sent = [];
+  rest = s.pending ++ text;
+  whole = refl;
+  out = Appends-nil s.device.bytes;
+  count = ap (λ (n : ℕ). capped n) (let z : s.count ≡ s.count + 0 = omega arith in z);
+  fine = λ h. (h, sym e, refl);
+  first = λ h k. absurd (cc (h, k));
+  stays = λ h. (refl, h, refl);
+  later = omega arith;
+  beside = left_alone s.device.other;
+  lent = refl;
+}
+
+-- what was held was handed on, and the text is held
+pub held_anew : (s t : Page) (p q x text : List ℕ) → s.pending ≡ [] → t.pending ≡ [] → q ≡ p → x ≡ text → Prints s t q → Prints (with_pending s p) (with_pending t x) text
+held_anew s t p q x text e f a b h = then (flushed s t p e f (reads h a)) (held (with_pending t []) x text b)

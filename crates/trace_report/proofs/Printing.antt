@@ -5,7 +5,7 @@ use Rattle.mpi_model.specs.Failures.{one_more}
 use Rattle.mpi_model.specs.Side.{LeavesSide, Side}
 use Rattle.trace_report.specs.Page.{Page, Prints, capped}
 
-left_alone : (a : Side) → LeavesSide a a
+pub left_alone : (a : Side) → LeavesSide a a
 left_alone a = record { bytes = Keeps-refl a.bytes; failures = refl }
 
 -- two calls in turn leave the other side as it was

@@ -11,7 +11,6 @@ use mpi_model::OpName;
 use trace_pair::Pair;
 
 /// A line for each place of which two pieces say different things.
-#[tactic(auto, using(crate::proofs::Printing::nothing))]
 pub(crate) fn put_conflicts<S: Sink>(out: &mut S, places: &[(u32, u64)])
     ensures { Prints (S.page out.old) (S.page out.new) (flat_map conflict_line places.now) }
 {
@@ -47,7 +46,6 @@ fn prepend_name(line: &mut Line, name: &OpName)
 }
 
 /// A line for each pair of a message and a receive.
-#[tactic(auto, using(crate::proofs::Printing::nothing))]
 pub(crate) fn put_pairs<S: Sink>(out: &mut S, pairs: &[Pair])
     ensures { Prints (S.page out.old) (S.page out.new) (flat_map pair_line pairs.now) }
 {
@@ -70,7 +68,6 @@ fn put_pair<S: Sink>(out: &mut S, pair: &Pair)
 }
 
 /// A line for each message that is postponed.
-#[tactic(auto, using(crate::proofs::Printing::nothing))]
 pub(crate) fn put_all_postponed<S: Sink>(out: &mut S, names: &[OpName])
     ensures { Prints (S.page out.old) (S.page out.new) (flat_map postponed_line names.now) }
 {

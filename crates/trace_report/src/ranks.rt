@@ -22,7 +22,6 @@ pub(crate) fn put_head<S: Sink>(out: &mut S, answer: &Answer)
 }
 
 /// The lines of the ranks, in rising order.
-#[tactic(auto, using(crate::proofs::Printing::nothing))]
 pub(crate) fn put_ranks<S: Sink>(out: &mut S, answer: &Answer)
     ensures { Prints (S.page out.old) (S.page out.new) (rank_lines answer.now answer.now.ranks) }
 {

@@ -11,7 +11,6 @@ use mpi_model::CollectiveFunction;
 use trace_wait::{Round, Standing};
 
 /// A line for each round of collective calls.
-#[tactic(auto, using(crate::proofs::Printing::nothing))]
 pub(crate) fn put_rounds<S: Sink>(out: &mut S, rounds: &[Round])
     ensures { Prints (S.page out.old) (S.page out.new) (flat_map round_line rounds.now) }
 {

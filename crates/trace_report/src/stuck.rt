@@ -25,7 +25,6 @@ pub(crate) fn put_all_stuck<S: Sink>(out: &mut S, ranks: &[Stuck])
 }
 
 /// The line of each stuck rank.
-#[tactic(auto, using(crate::proofs::Printing::nothing))]
 fn put_each_stuck<S: Sink>(out: &mut S, ranks: &[Stuck])
     ensures { Prints (S.page out.old) (S.page out.new) (flat_map stuck_line (map stopped ranks.now)) }
 {

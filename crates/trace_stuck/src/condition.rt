@@ -8,7 +8,7 @@ use std::sync::Arc;
 
 /// A round of an object, which is a communicator, a window or a file: the k-th collective call on it of each of its
 /// members, from 0 (MPI 4.0, 6.1).
-#[derive(Clone, Copy, Debug, PartialEq, Eq)]
+#[derive(Clone, Copy, PartialEq, Eq)]
 pub struct RoundName {
     /// The object's id in the layout.
     pub object: u32,
@@ -19,7 +19,7 @@ pub struct RoundName {
 /// What a waiting rank needs before it can go on. Ranks are trace ranks.
 ///
 /// In a contract two conditions are compared by their `shape`, the plain tree of their parts.
-#[derive(Debug, Drop)]
+#[derive(Drop)]
 pub enum Condition {
     /// It needs nothing: it can go on.
     Yes,

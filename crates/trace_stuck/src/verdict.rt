@@ -18,7 +18,7 @@ use std::alloc::{AllocError, Global};
 use trace_ops::State;
 
 /// The stuck ranks, and the other waiting ranks.
-#[derive(Debug, Drop)]
+#[derive(Drop)]
 pub struct Verdict {
     /// The stuck ranks, in rising order.
     pub stuck: Vec<u32>,

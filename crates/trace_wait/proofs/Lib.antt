@@ -11,3 +11,4 @@ pub mod Posted
 pub mod Made
 pub mod Waits
 pub mod InRow
+pub mod Peers

@@ -17,7 +17,8 @@ use Rattle.trace_wait.specs.declared.round.Standing.{Standing}
 use Rattle.trace_wait.specs.declared.round.Standing.TheVariants.{Mismatched, Complete, Partial}
 use Rattle.trace_ops.specs.Ops.{Ops}
 use Rattle.trace_wait.specs.Ranks.{ops_of}
-use Rattle.trace_wait.specs.Parts.{Run, members}
+use Rattle.trace_ops.specs.Round.{is_barrier_kind}
+use Rattle.trace_wait.specs.Parts.{Run, members, peers_on}
 
 -- the rank has entered round k of communicator c
 abbrev pub has_entered : Run → ℕ → ℕ → ℕ → Bool
@@ -125,9 +126,26 @@ abbrev pub may_be_owed_nothing : Sends → Kind → Bool
 may_be_owed_nothing sends.Wait kind = false
 may_be_owed_nothing sends.Buffer kind = (row kind).may_be_owed_nothing
 
--- what a call waits for, which is nothing where the rank may be owed nothing
+-- The peers that have not entered, where the call is a barrier.
+abbrev pub peers_first : Run → ℕ → Entered → ℕ → waits.Wait
+peers_first s r e k = if is_barrier_kind e.function.kind then absent_of s e.comm k (peers_on s e.comm r) else OnNothing
+
+-- What a call on an intercommunicator waits for. Under `wait` the absent members of both groups; under `buffer` a
+-- barrier waits for the other group (MPI 4.0, 6.3), and any other call for nothing.
+abbrev pub across : Run → ℕ → Entered → ℕ → waits.Wait
+across s r e k = by s.layout.sends
+  where
+    by : Sends → waits.Wait
+    by sends.Wait = absent s e.comm k
+    by sends.Buffer = peers_first s r e k
+
+-- what a call within one group waits for, which is nothing where the rank may be owed nothing
+abbrev pub within : Run → ℕ → Entered → ℕ → waits.Wait
+within s r e k = if may_be_owed_nothing s.layout.sends e.function.kind then OnNothing else by_category s r e k
+
+-- what a call waits for whose round isn't mismatched
 abbrev pub by_kind : Run → ℕ → Entered → ℕ → waits.Wait
-by_kind s r e k = if may_be_owed_nothing s.layout.sends e.function.kind then OnNothing else by_category s r e k
+by_kind s r e k = if e.inter then across s r e k else within s r e k
 
 -- the number of the round that a call of the rank entered: so many calls of it on the communicator came before
 abbrev pub round_number : Ops → Entered → ℕ

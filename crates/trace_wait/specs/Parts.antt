@@ -2,7 +2,7 @@
 use Rattle.std.specs.Prelude.{ℕ, Bool, true, false, ◌==◌, ◌&&◌, ◌||◌, Option, Some, None, is_some, List, [], map, unwrap_or, if◌then◌else◌}
 use Rattle.std.specs.List.{list_any, find}
 use Rattle.mpi_model.specs.Layouts.{Parts}
-use Rattle.mpi_model.specs.Communicators.{members_of}
+use Rattle.mpi_model.specs.Communicators.{members_of, peers_of}
 use Rattle.mpi_model.specs.declared.layout.Sends.{Sends}
 use Rattle.mpi_model.specs.declared.layout.Sends.TheVariants as sends
 use Rattle.mpi_model.specs.declared.envelope.Mode.{Mode}
@@ -25,9 +25,13 @@ pub record Run : Type 0 where
   pub pairs : List Pair
   pub rounds : List Round
 
--- the members of a communicator, as trace ranks in group order
+-- the members of a communicator, as trace ranks in group order; of an intercommunicator those of both groups
 abbrev pub members : Run → ℕ → List ℕ
 members s c = unwrap_or (members_of s.layout.comms c) []
+
+-- those whose ranks a rank names there: all members, or on an intercommunicator the other group (MPI 4.0, 7.6)
+abbrev pub peers_on : Run → ℕ → ℕ → List ℕ
+peers_on s c r = unwrap_or (peers_of s.layout.comms c r) []
 
 -- the send is buffered, or it is standard or ready where sends are buffered
 abbrev pub is_buffered : Sends → Mode → Bool
@@ -47,13 +51,13 @@ may_send s m = is_buffered s.layout.sends m.mode || is_some (taken_by s.pairs m.
 abbrev pub send_part : Run → Message → Wait
 send_part s m = if may_send s m then OnNothing else OnRank m.to
 
--- the source that a receive waits for: the told one, or one of all members
+-- the source that a receive waits for: the told one, or one of all whom its rank may name
 abbrev pub source_part : Run → Receive → Wait
 source_part s q = from q.source
   where
     from : Option ℕ → Wait
     from (Some r) = OnRank r
-    from None = OnOne (waits_of (map OnRank (members s q.comm)))
+    from None = OnOne (waits_of (map OnRank (peers_on s q.comm q.at)))
 
 -- A receive may go on where it is paired, or an unpaired message fits it; else it waits for its source.
 abbrev pub may_receive : Run → Receive → Bool

@@ -1,10 +1,11 @@
 //! The conditions of collective calls, a function for each row of their table.
 
 ghost use Rattle.std.specs.Prelude.{Some, IfSome, take, length, ◌≤◌, option_map, ◌≡◌, ◌++◌, ◌∷◌, [], if◌then◌else◌, slice_get, IfOk, OnOk};
-ghost use Rattle.trace_wait.specs.Parts.{members};
+ghost use Rattle.trace_ops.specs.Round.{is_barrier_kind};
+ghost use Rattle.trace_wait.specs.Parts.{members, peers_on};
 ghost use Rattle.trace_stuck.specs.Shape.{shape};
 ghost use Rattle.trace_wait.specs.Ranks.{IsOfRank};
-ghost use Rattle.trace_wait.specs.Collectives.{has_entered, missing, absent, absent_of, lower, other_side, scanned, root_first, root_rank, from_root, to_root, by_category, may_be_owed_nothing, by_kind, round_part, collective_of_call};
+ghost use Rattle.trace_wait.specs.Collectives.{has_entered, missing, absent, absent_of, lower, other_side, scanned, root_first, root_rank, from_root, to_root, by_category, may_be_owed_nothing, peers_first, across, within, by_kind, round_part, collective_of_call};
 
 use crate::counts::has_more;
 use crate::entries::entered_at;
@@ -210,7 +211,105 @@ fn may_be_owed_nothing(sends: Sends, kind: Kind) -> bool
     }
 }
 
-/// What a call waits for, which is nothing where the rank may be owed nothing.
+/// Whether the rank has entered the round, by its own calls.
+fn has_entered(run: &Overview, comm: u32, k: u64, r: u32) -> bool
+    ensures { result ≡ has_entered run.now comm k r }
+{
+    k < run.calls_of(comm, r) as u64
+}
+
+/// Those of the ranks that have not entered, by the calls of each.
+fn missing_among(
+    alloc: Global,
+    run: &Overview,
+    comm: u32,
+    k: u64,
+    ranks: &[u32],
+) -> Result<Vec<u32>, AllocError>
+    ensures { IfOk result (λ found. found.items ≡ missing run.now comm k ranks.now) }
+{
+    let mut found = Vec::new(alloc);
+    for rank in ranks {
+        if !has_entered(run, comm, k, *rank) {
+            found.push(*rank)?;
+        }
+    }
+    Ok(found)
+}
+
+/// All peers of the rank that have not entered.
+fn absent_peers(
+    alloc: Global,
+    run: &Overview,
+    r: u32,
+    comm: u32,
+    k: u64,
+) -> Result<Condition, AllocError>
+    ensures { IfOk result (λ c. shape c ≡ absent_of run.now comm k (peers_on run.now comm r)) }
+{
+    let found = missing_among(alloc, run, comm, k, run.peers(comm, r))?;
+    Ok(Condition::all_ranks(Arc::new(alloc, found)?))
+}
+
+/// Whether it is the kind of a barrier.
+fn is_barrier_kind(kind: Kind) -> bool
+    ensures { result ≡ is_barrier_kind kind }
+{
+    matches!(kind, Kind::Barrier)
+}
+
+/// The peers that have not entered, where the call is a barrier.
+fn peers_first(
+    alloc: Global,
+    run: &Overview,
+    r: u32,
+    entered: &Entered,
+    k: u64,
+) -> Result<Condition, AllocError>
+    ensures { IfOk result (λ c. shape c ≡ peers_first run.now r entered.now k) }
+{
+    if is_barrier_kind(entered.function.kind()) {
+        absent_peers(alloc, run, r, entered.comm, k)
+    } else {
+        Ok(Condition::yes())
+    }
+}
+
+/// What a call on an intercommunicator waits for: the members of both groups under `wait`; under
+/// `buffer` a barrier waits for the other group (MPI 4.0, 6.3), and any other call for nothing.
+fn across(
+    alloc: Global,
+    run: &Overview,
+    r: u32,
+    entered: &Entered,
+    k: u64,
+) -> Result<Condition, AllocError>
+    ensures { IfOk result (λ c. shape c ≡ across run.now r entered.now k) }
+{
+    match run.layout.sends() {
+        Sends::Wait => absent(alloc, run, entered.comm, k),
+        Sends::Buffer => peers_first(alloc, run, r, entered, k),
+    }
+}
+
+/// What a call within one group waits for, which is nothing where the rank may be owed nothing.
+fn within(
+    alloc: Global,
+    run: &Overview,
+    r: u32,
+    entered: &Entered,
+    k: u64,
+) -> Result<Condition, AllocError>
+    ensures { IfOk result (λ c. shape c ≡ within run.now r entered.now k) }
+{
+    if may_be_owed_nothing(run.layout.sends(), entered.function.kind()) {
+        Ok(Condition::yes())
+    } else {
+        by_category(alloc, run, r, entered, k)
+    }
+}
+
+/// What a call waits for whose round isn't mismatched.
 fn by_kind(
     alloc: Global,
     run: &Overview,
@@ -220,10 +319,10 @@ fn by_kind(
 ) -> Result<Condition, AllocError>
     ensures { IfOk result (λ c. shape c ≡ by_kind run.now r entered.now k) }
 {
-    if may_be_owed_nothing(run.layout.sends(), entered.function.kind()) {
-        Ok(Condition::yes())
+    if entered.inter {
+        across(alloc, run, r, entered, k)
     } else {
-        by_category(alloc, run, r, entered, k)
+        within(alloc, run, r, entered, k)
     }
 }
 

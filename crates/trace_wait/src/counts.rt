@@ -11,7 +11,7 @@ use std::alloc::{AllocError, Global};
 use std::marker::Model;
 
 /// The calls on a communicator, by member.
-#[derive(Debug, Drop)]
+#[derive(Drop)]
 pub(crate) struct CommCalls {
     comm: u32,
     calls: Vec<u64>,
@@ -40,7 +40,7 @@ impl CommCalls {
 }
 
 /// How many calls of the rank are on the communicator.
-fn calls_on(entries: &Entries, r: u32, comm: u32) -> usize
+pub(crate) fn calls_on(entries: &Entries, r: u32, comm: u32) -> usize
     ensures { result ≡ calls_of entries.now comm r }
 {
     entries.on(r, comm).len()

@@ -13,7 +13,7 @@ use std::sync::Arc;
 pub(crate) type Group = (u32, Arc<Vec<u32>>);
 
 /// A list of ranks that parts may share.
-fn shared(alloc: Global, ranks: &[u32]) -> Result<Arc<Vec<u32>>, AllocError>
+pub(crate) fn shared(alloc: Global, ranks: &[u32]) -> Result<Arc<Vec<u32>>, AllocError>
     ensures { IfOk result (λ list. list.value.items ≡ ranks.now) }
 {
     let mut list = Vec::new(alloc);

@@ -6,16 +6,16 @@ ghost use Rattle.mpi_model.specs.Fit.{envelopes_fit, fits};
 ghost use Rattle.trace_pair.specs.Table.{taken_by, given_by};
 ghost use Rattle.trace_ops.specs.Order.{AreEntered};
 ghost use Rattle.trace_wait.specs.Matching.{may_take, unpaired_messages, unpaired_receives};
-ghost use Rattle.trace_wait.specs.Parts.{members};
+ghost use Rattle.trace_wait.specs.Parts.{members, peers_on};
 ghost use Rattle.trace_wait.specs.Patterns.{offers, pattern_of};
-ghost use Rattle.trace_wait.specs.Calls.{counts};
+ghost use Rattle.trace_wait.specs.Calls.{calls_of, counts};
 ghost use Rattle.trace_wait.specs.Collectives.{is_mismatched, mismatched_part, round_number};
 ghost use Rattle.trace_stuck.specs.Shape.{shape};
 ghost use Rattle.trace_wait.specs.Ranks.{ops_of};
 
-use crate::counts::{CommCalls, row_of};
+use crate::counts::{CommCalls, calls_on, row_of};
 use crate::entries::Entries;
-use crate::groups::{Group, shared_members};
+use crate::groups::{Group, shared, shared_members};
 use crate::mismatch::Mismatches;
 use crate::round::Round;
 use crate::unpaired::Pattern;
@@ -87,12 +87,40 @@ impl<'a> Overview<'a> {
         }
     }
 
+    /// Those whose ranks the rank names on the communicator: all members, or on an intercommunicator the other group
+    /// (MPI 4.0, 7.6).
+    pub fn peers(&self, comm: u32, rank: u32) -> &[u32]
+        ensures { result.now ≡ peers_on self.now comm rank }
+    {
+        match self.layout.peers(comm, rank) {
+            Some(peers) => peers,
+            None => &[],
+        }
+    }
+
     /// The members of a communicator, in a list that all conditions share. Fails with `AllocError` when memory is
     /// refused.
-    pub fn shared_members(&self, alloc: Global, comm: u32) -> Result<Arc<Vec<u32>>, AllocError>
+    fn shared_members(&self, alloc: Global, comm: u32) -> Result<Arc<Vec<u32>>, AllocError>
         ensures { IfOk result (λ list. list.value.items ≡ members self.now comm) }
     {
         shared_members(alloc, self.layout, self.groups, comm)
+    }
+
+    /// Those whose ranks the rank names on the communicator, in a list that all conditions share, or on
+    /// an intercommunicator in one of this condition's own.
+    pub fn shared_peers(
+        &self,
+        alloc: Global,
+        comm: u32,
+        rank: u32,
+    ) -> Result<Arc<Vec<u32>>, AllocError>
+        ensures { IfOk result (λ list. list.value.items ≡ peers_on self.now comm rank) }
+    {
+        if self.layout.is_intercomm(comm) {
+            shared(alloc, self.peers(comm, rank))
+        } else {
+            self.shared_members(alloc, comm)
+        }
     }
 
     /// How many calls on the communicator each of its members has entered.
@@ -100,6 +128,13 @@ impl<'a> Overview<'a> {
         ensures { result.now ≡ counts self.now.layout.comms self.now.ops comm }
     {
         row_of(self.calls, comm)
+    }
+
+    /// How many calls on the communicator the rank has entered.
+    pub fn calls_of(&self, comm: u32, r: u32) -> usize
+        ensures { result ≡ calls_of self.now.ops comm r }
+    {
+        calls_on(self.entries, r, comm)
     }
 
     /// Whether the message is in a pair.

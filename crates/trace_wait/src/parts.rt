@@ -3,7 +3,7 @@
 ghost use Rattle.std.specs.Prelude.{◌≡◌, map, IfOk};
 ghost use Rattle.trace_ops.specs.Order.{AreInOrder, ArePosted};
 ghost use Rattle.trace_stuck.specs.Shape.{shape, waits_of, OnRank, OnOne};
-ghost use Rattle.trace_wait.specs.Parts.{members, is_buffered, may_send, send_part, source_part, may_receive, receive_part, probe_part, named, send_of_call, receive_of_call};
+ghost use Rattle.trace_wait.specs.Parts.{peers_on, is_buffered, may_send, send_part, source_part, may_receive, receive_part, probe_part, named, send_of_call, receive_of_call};
 
 use crate::overview::Overview;
 use crate::posts::{receive_of, send_of};
@@ -49,20 +49,20 @@ pub(crate) fn send_part(run: &Overview, m: &Message) -> Condition
     }
 }
 
-/// One of the members of the communicator.
-fn one_of(alloc: Global, run: &Overview, comm: u32) -> Result<Condition, AllocError>
-    ensures { IfOk result (λ c. shape c ≡ OnOne (waits_of (map OnRank (members run.now comm)))) }
+/// One of those whose ranks the rank names on the communicator.
+fn one_of(alloc: Global, run: &Overview, comm: u32, r: u32) -> Result<Condition, AllocError>
+    ensures { IfOk result (λ c. shape c ≡ OnOne (waits_of (map OnRank (peers_on run.now comm r)))) }
 {
-    Ok(Condition::one_rank(run.shared_members(alloc, comm)?))
+    Ok(Condition::one_rank(run.shared_peers(alloc, comm, r)?))
 }
 
-/// The source that a receive waits for: the told one, or one of all members.
+/// The source that a receive waits for: the told one, or one of all whom its rank may name.
 fn source_part(alloc: Global, run: &Overview, q: &Receive) -> Result<Condition, AllocError>
     ensures { IfOk result (λ c. shape c ≡ source_part run.now q.now) }
 {
     match q.source {
         Some(r) => Ok(Condition::rank(r)),
-        None => one_of(alloc, run, q.comm),
+        None => one_of(alloc, run, q.comm, q.at),
     }
 }
 

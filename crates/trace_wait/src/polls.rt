@@ -17,7 +17,7 @@ use trace_stuck::Condition;
 
 /// A poll: a call that asks whether something is done and doesn't wait for it, which is a Test, Testall, Testany,
 /// Testsome, Iprobe or Improbe.
-#[derive(Clone, Copy, Debug)]
+#[derive(Clone, Copy)]
 pub struct Poll<'a> {
     pub rank: u32,
     /// The number of the call in its rank.

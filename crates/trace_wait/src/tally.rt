@@ -11,7 +11,7 @@ use std::alloc::{AllocError, Global};
 use trace_ops::{Entered, RankOps};
 
 /// What is known of a round while its calls come in.
-#[derive(Clone, Copy, Debug)]
+#[derive(Clone, Copy)]
 struct RoundTally {
     function: CollectiveFunction,
     root: Option<u32>,

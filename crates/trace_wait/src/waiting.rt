@@ -131,7 +131,7 @@ fn conditions_in(
 }
 
 /// The conditions of ranks, and of what they ask for.
-#[derive(Debug, Drop)]
+#[derive(Drop)]
 pub struct RunConditions {
     /// The condition of each rank; `None` if it isn't waiting.
     pub of_ranks: Vec<Option<Condition>>,

@@ -256,6 +256,7 @@ kind_place kinds.FileWriteOrderedEnd = refl
 kind_place kinds.CommSetInfo = refl
 kind_place kinds.WinSetInfo = refl
 kind_place kinds.FileSetInfo = refl
+kind_place kinds.IntercommMerge = refl
 
 -- the numbers of these kinds are first, first + 1, and so on
 abbrev counts : ℕ → List Kind → Bool
@@ -287,7 +288,7 @@ kind_again : (m : Kind) → kind_of (kind_number m) ≡ Some m
 unfolding kind_of
 kind_again m = kind_place m
 
-kind_below : (m : Kind) → kind_number m < 74
+kind_below : (m : Kind) → kind_number m < 75
 unfolding all_kinds
 kind_below m = slice_get_within all_kinds (kind_number m) m (kind_place m)
 

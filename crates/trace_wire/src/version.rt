@@ -5,7 +5,7 @@ ghost use Rattle.trace_wire.specs.FirstFault.{version_of};
 ghost use Rattle.trace_wire.specs.Frames.{longest_of, version_number};
 
 /// The version of a frame. Each knowledge has one frame of each version, within that version's limit.
-#[derive(Clone, Copy, Debug, PartialEq, Eq)]
+#[derive(Clone, Copy, PartialEq, Eq)]
 pub enum Version {
     /// Cell by cell, each with its rank and place; a payload of at most 16,777,216 bytes.
     One,

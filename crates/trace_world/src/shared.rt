@@ -9,7 +9,7 @@ use trace_know::Segment;
 
 /// A segment, by one or more owners: the steps that post it, and the inboxes where it waits. In a
 /// contract it is the segment.
-#[derive(Debug, Drop)]
+#[derive(Drop)]
 pub struct SharedSegment {
     segment: Arc<Segment>,
 }

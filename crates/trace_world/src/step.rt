@@ -8,7 +8,7 @@ use crate::shared::SharedSegment;
 use thiserror::Error;
 
 /// One step of a schedule. Nodes and mails are numbered from 0.
-#[derive(Debug, Drop)]
+#[derive(Drop)]
 pub enum Step {
     /// A worker adds a segment to the back of a node's inbox.
     Post {

@@ -13,10 +13,14 @@ returns c =
     let texts_local = c.in_ok-texts.ensures.globals ∙ ap₂ (λ a b. a || b) c.bare_init.ensures.local c.several_argument-named.ensures.local in
     let sends_local = c.in_ok-sends.ensures.globals ∙ ap₂ (λ a b. a || b) texts_local c.sends_argument.ensures.local in
     let layout_local = c.in_ok-layout.ensures.globals ∙ ap₂ (λ a b. a || b) sends_local c.layout_argument.ensures.local in
+    let force = c.in_ok-force.ensures.shape c.force_argument.ensures.local ∙ ap₂ with_rule manifest c.force_argument.ensures.rule in
     let manifest_local = c.in_ok-manifest.ensures.globals ∙ ap₂ (λ a b. a || b) layout_local c.manifest_argument.ensures.local in
+    let force_local = c.in_ok-force.ensures.globals ∙ ap₂ (λ a b. a || b) manifest_local c.force_argument.ensures.local in
+    let quiet = c.in_ok-quiet.ensures.shape c.quiet_argument.ensures.local ∙ ap₂ with_rule force c.quiet_argument.ensures.rule in
+    let quiet_local = c.in_ok-quiet.ensures.globals ∙ ap₂ (λ a b. a || b) force_local c.quiet_argument.ensures.local in
     record {
-      shape = IfOk-weaker c.arg-5.result _ _ (λ r h.
-          h.shape c.force_argument.ensures.local ∙ ap₂ with_rule manifest c.force_argument.ensures.rule) c.arg-5.ensures;
-      local = IfOk-weaker c.arg-5.result _ _ (λ r h.
-          h.globals ∙ ap₂ (λ a b. a || b) manifest_local c.force_argument.ensures.local) c.arg-5.ensures;
+      shape = IfOk-weaker c.arg-7.result _ _ (λ r h.
+          h.shape c.json_argument.ensures.local ∙ ap₂ with_rule quiet c.json_argument.ensures.rule) c.arg-7.ensures;
+      local = IfOk-weaker c.arg-7.result _ _ (λ r h.
+          h.globals ∙ ap₂ (λ a b. a || b) quiet_local c.json_argument.ensures.local) c.arg-7.ensures;
     }

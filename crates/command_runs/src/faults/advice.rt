@@ -23,7 +23,7 @@ use text_notes::Start;
 
 /// The advice below a fault line, for a person: what was found and what to do. It is nothing, or lines that begin with
 /// two spaces.
-#[derive(Clone, Copy, Debug)]
+#[derive(Clone, Copy)]
 pub struct Advice<'a> {
     fault: &'a RunFault,
     found: &'a Found,
@@ -167,7 +167,9 @@ pub fn is_in_words(verb: Verb) -> bool
     match verb {
         Verb::Explain(_) | Verb::ExplainRank(_) => true,
         Verb::ExplainJson | Verb::Graph(_) | Verb::Page => false,
-        Verb::Report | Verb::ReportJson | Verb::Replay | Verb::Check | Verb::Pack => false,
+        Verb::Calls(_) | Verb::Timeline(_) => false,
+        Verb::Report | Verb::ReportJson | Verb::Replay | Verb::Pack => false,
+        Verb::Check | Verb::CheckJson => false,
     }
 }
 

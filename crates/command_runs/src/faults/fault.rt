@@ -15,7 +15,7 @@ use trace_world::WorldFault;
 
 /// Why a run is refused: the first cause in the order in which files are read and checked. Each names its file as the
 /// command line or the manifest spells it; lines count from 1.
-#[derive(Debug, Drop)]
+#[derive(Drop)]
 pub enum RunFault {
     /// Memory was refused.
     Memory,

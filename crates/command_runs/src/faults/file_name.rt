@@ -7,7 +7,7 @@ use std::fmt;
 
 /// A file's name as a line shows it: unchanged, except that control characters are escaped as in Rust. So a name stays
 /// on one line and can't control a terminal.
-#[derive(Clone, Copy, Debug)]
+#[derive(Clone, Copy)]
 pub struct FileName<'a> {
     name: &'a str,
 }

@@ -16,7 +16,7 @@ use std::alloc::Global;
 use text_notes::Start;
 
 /// What a look at a refused file tells.
-#[derive(Debug, Drop)]
+#[derive(Drop)]
 pub struct Found {
     /// Why the file can't be read, where the system says it.
     pub reason: Option<Reason>,

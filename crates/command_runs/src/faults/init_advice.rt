@@ -2,7 +2,7 @@
 
 ghost use Rattle.std.specs.Prelude.{◌≡◌, ◌++◌, IfOk, string_bytes};
 ghost use Rattle.std.specs.Fmt.{WritesOnOk};
-ghost use Rattle.command_runs.specs.InitAdvice.{IsInitFound, IsInitShown, init_advice_text};
+ghost use Rattle.command_runs.specs.InitAdvice.{IsInitFound, IsInitShown, init_advice_text, ranks_there_text};
 ghost use Rattle.command_runs.specs.InitFaults.{init_fault_line_of};
 
 use crate::faults::advice::{Advice, is_in_words};
@@ -48,7 +48,20 @@ fn put_advice<W: fmt::Write>(
         }
         InitFault::NoCall { .. } => f.write_str(begun_text(found.start)),
         InitFault::Made(MadeFault::Layout(fault)) => f.write_str(layout_text(*fault)),
+        InitFault::Outside { ranks } => put_ranks_there(f, *ranks),
         _ => Ok(()),
+    }
+}
+
+/// Which ranks there are.
+fn put_ranks_there<W: fmt::Write>(f: &mut fmt::Formatter<W>, ranks: u32) -> fmt::Result
+    ensures { WritesOnOk W.write_str_gives f.old result (ranks_there_text ranks) f.new }
+{
+    let last = ranks.saturating_sub(1);
+    if last == 0 {
+        f.write_str("  there is rank 0 alone\n")
+    } else {
+        write!(f, "  there are ranks 0 to {last}\n")
     }
 }
 

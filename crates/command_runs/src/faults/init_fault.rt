@@ -2,15 +2,17 @@
 
 ghost use Rattle.std.specs.Prelude.{◌≡◌, ◌++◌, IfOk, codes, decimal, string_bytes};
 ghost use Rattle.std.specs.Fmt.{WritesOnOk};
-ghost use Rattle.command_runs.specs.InitFaults.{IsPutFault, init_fault_line_of, made_fault_text, name_of, ranks_text, size_text};
+ghost use Rattle.command_runs.specs.InitFaults.{IsPutFault, init_fault_line_of, made_fault_text, name_of, ranks_noun, ranks_text, size_text};
 ghost use Rattle.command_runs.specs.FileNames.{shown_name};
 
 use crate::faults::fault::{RunFault, name_of_layout};
 use crate::faults::file_name::FileName;
+use crate::faults::sentences::strange_text;
 use run_files::{PutFault, Which};
 use std::alloc::{AllocError, AllocFailed, Global};
 use std::fmt;
 use text_layouts::MadeFault;
+use text_notes::Start;
 
 /// Why no layout is made of the texts of all ranks, or why it isn't written. Each fault names its files as the command
 /// line spells them.
@@ -23,6 +25,10 @@ pub(crate) enum InitFault {
     NoCall { path: String },
     /// The text can't be read twice, as a verb over texts needs to.
     Piped { path: String },
+    /// The file has to be unpacked or written anew before it can be read as a text.
+    Strange { path: String, start: Start },
+    /// The folder has no file whose name is that of a text.
+    NoTexts { path: String },
     /// More texts than a layout can have ranks.
     TooMany,
     /// A text before this one is of the same rank, by the digits at the ends of their names.
@@ -37,6 +43,8 @@ pub(crate) enum InitFault {
     NotWritten { path: String },
     /// The file couldn't be written, and what was written of the other couldn't be taken away.
     Half { path: String },
+    /// A rank is asked for that isn't among so many.
+    Outside { ranks: u32 },
     /// The layout and the manifest have one name, or one that the other needs while it is written.
     OneName,
     /// The output couldn't be written.
@@ -69,6 +77,8 @@ const NO_CALL: &str = " has lines and no MPI call: it is no trace text";
 
 const PIPED: &str = " is a pipe or a device, and each text is read twice: keep it in a file";
 
+const NO_TEXTS: &str = " is a folder without a file whose name ends in .txt";
+
 const TWICE: &str = " is of the rank of a text before it, by the digits of its name";
 
 const THERE: &str = " is there already: --force writes over it";
@@ -80,7 +90,7 @@ const NOT_WRITTEN: &str = " can not be written";
 
 const HALF: &str = " can not be written, and a part of what was written is left";
 
-const NOT_EACH_TEXT: &str = " ranks of MPI_COMM_WORLD, and there is not one text for each";
+const NOT_EACH_TEXT: &str = " of MPI_COMM_WORLD, and there is not one text for each";
 
 const NOT_ONE_RUN: &str = " have two numbers for MPI_COMM_WORLD: their texts are not of one run";
 
@@ -113,6 +123,13 @@ fn put_made<W: fmt::Write>(f: &mut fmt::Formatter<W>, fault: &MadeFault) -> fmt:
     }
 }
 
+/// One rank, or several.
+fn ranks_noun(count: u32) -> &'static str
+    ensures { result.now ≡ ranks_noun count }
+{
+    if count == 1 { " rank" } else { " ranks" }
+}
+
 /// A rank, the size of the world that it tells, and what is said of it.
 fn put_size<W: fmt::Write>(
     f: &mut fmt::Formatter<W>,
@@ -122,7 +139,8 @@ fn put_size<W: fmt::Write>(
 ) -> fmt::Result
     ensures { WritesOnOk W.write_str_gives f.old result (size_text rank size text.now) f.new }
 {
-    write!(f, "rank {rank} tells {size}{text}")
+    let noun = ranks_noun(size);
+    write!(f, "rank {rank} tells {size}{noun}{text}")
 }
 
 /// A file's name and what is said of it.
@@ -144,6 +162,8 @@ impl fmt::Display for InitFault {
             InitFault::Text(fault) => write!(f, "{fault}"),
             InitFault::NoCall { path } => put_file(f, path, NO_CALL),
             InitFault::Piped { path } => put_file(f, path, PIPED),
+            InitFault::Strange { path, start } => put_file(f, path, strange_text(*start)),
+            InitFault::NoTexts { path } => put_file(f, path, NO_TEXTS),
             InitFault::TooMany => write!(
                 f,
                 "more than 1024 texts, which are more ranks than a layout can have"
@@ -155,6 +175,7 @@ impl fmt::Display for InitFault {
             InitFault::NotWritten { path } => put_file(f, path, NOT_WRITTEN),
             InitFault::Half { path } => put_file(f, path, HALF),
             InitFault::OneName => write!(f, "the layout and the manifest need names of their own"),
+            InitFault::Outside { .. } => write!(f, "N1 Rank"),
             InitFault::Write => write!(f, "R1 Write"),
         }
     }

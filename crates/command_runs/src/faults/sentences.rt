@@ -1,7 +1,7 @@
 //! The sentences that are said below the line of a fault, each on a line of its own behind two spaces.
 
 ghost use Rattle.std.specs.Prelude.{◌≡◌};
-ghost use Rattle.command_runs.specs.Sentences.{begun_text, field_text, folder_text, is_absolute, layout_text, line_text, packed_text, plain_text, wanted_text, wire_text};
+ghost use Rattle.command_runs.specs.Sentences.{begun_text, field_text, folder_text, is_absolute, layout_text, line_text, packed_text, plain_text, strange_text, wanted_text, wire_text};
 
 use crate::faults::fault::RunFault;
 use dumpi_calls::Parameter;
@@ -61,7 +61,7 @@ pub(crate) fn plain_text(fault: &RunFault) -> &'static str
 }
 
 /// Whether a name says where the file is from the top of the system's folders.
-fn is_absolute(path: &str) -> bool
+pub(crate) fn is_absolute(path: &str) -> bool
     ensures { result ≡ is_absolute path.now }
 {
     match path.as_bytes() {
@@ -77,7 +77,7 @@ pub(crate) fn folder_text(path: &str) -> &'static str
     if is_absolute(path) {
         ""
     } else {
-        "  names of files are looked up from the folder in which mpimatch was started\n"
+        "  names of files are looked up from the folder in which mpimatch was started, and those of a manifest also beside it\n"
     }
 }
 
@@ -88,13 +88,34 @@ pub fn begun_text(start: Option<Start>) -> &'static str
     match start {
         None => "",
         Some(Start::Empty) => "  it is empty\n",
-        Some(Start::Gzip) => "  it begins as what gzip packed: unpack it\n",
-        Some(Start::Utf16) => "  it begins as UTF-16: write it as UTF-8\n",
+        Some(Start::Gzip) => "  it is packed by gzip: gunzip unpacks it\n",
+        Some(Start::Bzip2) => "  it is packed by bzip2: bunzip2 unpacks it\n",
+        Some(Start::Xz) => "  it is packed by xz: unxz unpacks it\n",
+        Some(Start::Zstd) => "  it is packed by zstd: unzstd unpacks it\n",
+        Some(Start::Utf16) =>
+            "  it is written in UTF-16: iconv -f UTF-16 -t UTF-8 writes it as UTF-8\n",
+        Some(Start::Binary) =>
+            "  it is a binary file, by a byte 0 near its start: if it is of SST DUMPI, dumpi2ascii prints it\n",
         Some(Start::Mark) => {
             "  it begins with a byte order mark: remove its first three bytes\n"
         }
-        Some(Start::Binary) => "  there is a byte 0 near its start, as in a binary file\n",
         Some(Start::Lines) => "",
+    }
+}
+
+/// What is said of a file that has to be unpacked or written anew, behind its name.
+pub fn strange_text(start: Start) -> &'static str
+    ensures { result.now ≡ strange_text start }
+{
+    match start {
+        Start::Gzip => " is packed by gzip: gunzip unpacks it",
+        Start::Bzip2 => " is packed by bzip2: bunzip2 unpacks it",
+        Start::Xz => " is packed by xz: unxz unpacks it",
+        Start::Zstd => " is packed by zstd: unzstd unpacks it",
+        Start::Utf16 => " is written in UTF-16: iconv -f UTF-16 -t UTF-8 writes it as UTF-8",
+        Start::Binary =>
+            " is a binary file, by a byte 0 near its start: if it is of SST DUMPI, dumpi2ascii prints it",
+        Start::Empty | Start::Mark | Start::Lines => " is no trace text",
     }
 }
 
@@ -214,7 +235,11 @@ pub(crate) fn wanted_text(parameter: Parameter) -> &'static str
             "a number from 0 to 2147483647, and of a receive also -1 or (MPI_ANY_TAG)"
         }
         Parameter::RecvTag => "a number from 0 to 2147483647, or -1 or (MPI_ANY_TAG)",
-        Parameter::Comm | Parameter::OldComm | Parameter::CommOld | Parameter::LocalComm => {
+        Parameter::Comm
+        | Parameter::OldComm
+        | Parameter::CommOld
+        | Parameter::LocalComm
+        | Parameter::Intercomm => {
             "a number from 0 to 2147483647, or (MPI_COMM_WORLD) behind a number"
         }
         Parameter::Requests => "a list of numbers, as [2] {4, 5}",

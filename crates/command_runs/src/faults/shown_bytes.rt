@@ -14,7 +14,7 @@ const CUT_OFF: &str = ", cut off: the value has ";
 
 /// Bytes as a line shows them: ASCII as it stands, but for control characters, which are written as in a file's name,
 /// and any other byte by its number, as Rust escapes it. So they stay on one line and can't control a terminal.
-#[derive(Clone, Copy, Debug)]
+#[derive(Clone, Copy)]
 pub(crate) struct ShownBytes<'a> {
     bytes: &'a [u8],
 }

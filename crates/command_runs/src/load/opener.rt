@@ -1,15 +1,16 @@
 //! Where the files of a run come from.
 
-ghost use Rattle.std.specs.Prelude.{◌≡◌, ℕ, IfOk, IfSome, List, None, Option};
+ghost use Rattle.std.specs.Prelude.{◌≡◌, ℕ, Err, IfOk, IfSome, List, None, Option};
 ghost use Rattle.command_runs.specs.Files.{IsLength, StandsAtFirst};
 
 use crate::load::reason::Reason;
 use mpi_model::{Device, Read};
+use std::alloc::{Alloc, AllocError, AllocFailed, Global};
 use std::fs::Files;
 use std::io;
 
 /// Why a file couldn't be opened.
-#[derive(Clone, Copy, Debug, PartialEq, Eq)]
+#[derive(Clone, Copy)]
 pub enum OpenFault {
     /// The file can't be opened.
     File,
@@ -41,6 +42,16 @@ pub trait Opener: Drop {
         ensures some { IfSome result (IsLength (file self.now path.now)) }
         ensures none { result ≡ None → file self.now path.now ≡ None };
 
+    /// The names of what is in a folder, in their order; `None` where no folder has the name, and so for who has none.
+    fn entries(&self, alloc: Global, path: &str) -> Result<Option<Vec<String>>, OpenFault>
+        ensures folder { IfOk result (λ listed. IfSome listed (λ _. file self.now path.now ≡ None)) }
+        ensures unread { result ≡ Err OpenFault.File → file self.now path.now ≡ None }
+    {
+        let _ = alloc;
+        let _ = path.is_empty();
+        Ok(None)
+    }
+
     /// Why no file of a name can be read now; `None` if the system doesn't say it. It is shown to a person who reads
     /// why a run was refused; no other output of a run depends on it.
     fn reason(&self, _path: &str) -> Option<Reason> {
@@ -54,6 +65,57 @@ pub struct Disk<'a, F: Files> {
     rt: &'a F,
 }
 
+impl From<AllocError> for OpenFault {
+    ghost use Rattle.std.specs.Prelude.{◌≡◌};
+    ghost use Rattle.command_runs.specs.declared.load.opener.OpenFault.TheVariants.{Memory};
+
+    ghost from_gives = { λ _ e. e ≡ Memory };
+
+    fn from(_error: AllocError) -> OpenFault {
+        OpenFault::Memory
+    }
+}
+
+impl<T: Drop> From<AllocFailed<T>> for OpenFault {
+    ghost use Rattle.std.specs.Prelude.{◌≡◌};
+    ghost use Rattle.command_runs.specs.declared.load.opener.OpenFault.TheVariants.{Memory};
+
+    ghost from_gives = { λ _ e. e ≡ Memory };
+
+    fn from(_failed: AllocFailed<T>) -> OpenFault {
+        OpenFault::Memory
+    }
+}
+
+/// Why the system gives no file.
+fn fault_of(error: &io::Error) -> OpenFault {
+    match error.kind() {
+        io::ErrorKind::OutOfMemory => OpenFault::Memory,
+        _ => OpenFault::File,
+    }
+}
+
+/// The names of what is in a folder, in their order.
+fn entries_of<F: Files + Alloc + Clone + Drop>(
+    rt: &F,
+    alloc: Global,
+    path: &str,
+) -> Result<Vec<String>, OpenFault> {
+    let listing = match std::fs::read_dir(rt, path) {
+        Ok(listing) => listing,
+        Err(error) => return Err(fault_of(&error)),
+    };
+    let mut names = Vec::new(alloc);
+    for entry in listing {
+        match entry {
+            Ok(entry) => names.push(entry.file_name().to_string(alloc)?)?,
+            Err(error) => return Err(fault_of(&error)),
+        }
+    }
+    names.sort()?;
+    Ok(names)
+}
+
 impl<'a, F: Files> Disk<'a, F> {
     /// The files of the system.
     pub fn new(rt: &'a F) -> Self {
@@ -61,14 +123,20 @@ impl<'a, F: Files> Disk<'a, F> {
     }
 }
 
-impl<'a, F: Files> Opener for Disk<'a, F> {
+impl<'a, F: Files + Alloc + Clone + Drop> Opener for Disk<'a, F> {
     type R = Device<F::File>;
 
     fn open(&self, path: &str) -> Result<Device<F::File>, OpenFault> {
         match std::fs::open(self.rt, path) {
             Ok(file) => Ok(Device::new(file)),
-            Err(error) if error.kind() == io::ErrorKind::OutOfMemory => Err(OpenFault::Memory),
-            Err(_) => Err(OpenFault::File),
+            Err(error) => Err(fault_of(&error)),
+        }
+    }
+
+    fn entries(&self, alloc: Global, path: &str) -> Result<Option<Vec<String>>, OpenFault> {
+        match std::fs::metadata(self.rt, path) {
+            Ok(metadata) if metadata.is_dir() => Ok(Some(entries_of(self.rt, alloc, path)?)),
+            _ => Ok(None),
         }
     }
 
@@ -83,7 +151,12 @@ impl<'a, F: Files> Opener for Disk<'a, F> {
 
     fn reason(&self, path: &str) -> Option<Reason> {
         match std::fs::metadata(self.rt, path) {
-            Ok(metadata) if metadata.is_dir() => Some(Reason::Folder),
+            Ok(metadata) if metadata.is_dir() => match std::fs::read_dir(self.rt, path) {
+                Err(error) if error.kind() == io::ErrorKind::PermissionDenied => {
+                    Some(Reason::Denied)
+                }
+                _ => Some(Reason::Folder),
+            },
             // (a pipe that is opened would wait for its writer)
             Ok(metadata) if metadata.is_file() => match std::fs::open(self.rt, path) {
                 Ok(_) => None,

@@ -1,7 +1,7 @@
 //! Why the system gives no file.
 
 /// What the system says of a name under which it gives no file that can be read.
-#[derive(Clone, Copy, Debug, PartialEq, Eq)]
+#[derive(Clone, Copy, PartialEq, Eq)]
 pub enum Reason {
     /// No file has the name.
     Absent,

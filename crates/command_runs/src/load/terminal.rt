@@ -75,6 +75,10 @@ impl<'a, R: Eprint + Clock> Terminal<'a, R> {
 }
 
 impl<'a, R: Eprint + Clock> Watcher for Terminal<'a, R> {
+    fn hush(&mut self) {
+        self.is_terminal = false;
+    }
+
     fn is_watching(&self) -> bool {
         self.is_terminal
     }

@@ -1,7 +1,8 @@
 //! The texts of all ranks, as what their calls say of communicators.
 
-ghost use Rattle.std.specs.Prelude.{◌≡◌, ◌-◌, ◌^◌, IfErr, IfOk, map, min, string_bytes, ℕ};
-ghost use Rattle.command_runs.specs.TextCalls.{AllSay, RefusesOne, RefusesText, Says, is_no_text};
+ghost use Rattle.std.specs.Prelude.{◌≡◌, ◌-◌, ◌^◌, IfErr, IfOk, min, option_map, string_bytes, ℕ};
+ghost use Rattle.text_layouts.specs.Seats.{kept};
+ghost use Rattle.command_runs.specs.TextCalls.{AllSay, RefusesAt, RefusesOne, RefusesText, Says, SaysAt, SaysNothing, is_no_text};
 
 use crate::faults::fault::RunFault;
 use crate::faults::init_fault::InitFault;
@@ -53,20 +54,50 @@ fn calls_of<O: Opener>(alloc: Global, path: &str, files: &O) -> Result<(RankCall
     }
 }
 
-/// What these texts say, each of the rank of its place.
+/// A rank without a text says nothing.
+fn nothing_said(alloc: Global) -> RankCalls
+    ensures { SaysNothing result }
+{
+    RankCalls {
+        world: None,
+        own: None,
+        size: None,
+        calls: Vec::new(alloc),
+        uses: Vec::new(alloc),
+        windows: Vec::new(alloc),
+        files: Vec::new(alloc),
+    }
+}
+
+/// What the text of a rank says, where it has one.
+fn calls_of_seat<O: Opener>(
+    alloc: Global,
+    seat: &Option<String>,
+    files: &O,
+) -> Result<(RankCalls, u64), InitFault>
+    ensures ok { IfOk result (λ read. SaysAt (O.file files.now) (option_map string_bytes seat.now) read.0 read.1) }
+    ensures err { IfErr result (RefusesAt (O.file files.now) (option_map string_bytes seat.now)) }
+{
+    match seat {
+        Some(path) => calls_of(alloc, path.as_str(), files),
+        None => Ok((nothing_said(alloc), 0)),
+    }
+}
+
+/// What the texts of all ranks say, where each has one.
 pub(crate) fn calls_of_all<O: Opener>(
     alloc: Global,
-    texts: &[String],
+    seats: &[Option<String>],
     files: &O,
 ) -> Result<AllCalls, InitFault>
-    ensures ok { IfOk result (λ all. (calls : ℕ) × AllSay (O.file files.now) (map string_bytes texts.now) all.ranks.items calls
+    ensures ok { IfOk result (λ all. (calls : ℕ) × AllSay (O.file files.now) (kept seats.now) all.ranks.items calls
         × (all.calls ≡ min calls (2 ^ 64 - 1))) }
-    ensures err { IfErr result (RefusesOne (O.file files.now) (map string_bytes texts.now)) }
+    ensures err { IfErr result (RefusesOne (O.file files.now) (kept seats.now)) }
 {
     let mut ranks = Vec::new(alloc);
     let mut calls: u64 = 0;
-    for path in texts {
-        let (of_rank, count) = calls_of(alloc, path.as_str(), files)?;
+    for seat in seats {
+        let (of_rank, count) = calls_of_seat(alloc, seat, files)?;
         ranks.push(of_rank)?;
         calls = calls.saturating_add(count);
     }

@@ -6,6 +6,9 @@ use run_files::Piece;
 
 /// Observes how far the reading of a run's pieces has come. No output of a run depends on it.
 pub trait Watcher: Drop {
+    /// Shows nothing from here on.
+    fn hush(&mut self);
+
     /// Whether anything is shown to anyone. If not, the files' lengths are not added up before they are read.
     fn is_watching(&self) -> bool;
 
@@ -23,10 +26,12 @@ pub trait Watcher: Drop {
 }
 
 /// A watcher that does nothing.
-#[derive(Debug, Drop)]
+#[derive(Drop)]
 pub struct Unwatched;
 
 impl Watcher for Unwatched {
+    fn hush(&mut self) {}
+
     fn is_watching(&self) -> bool {
         false
     }

@@ -11,7 +11,7 @@ use std::alloc::{AllocError, AllocFailed, Global};
 pub const LONGEST_PIECE: usize = 1_073_741_824;
 
 /// Why a file is not read whole.
-#[derive(Clone, Copy, Debug, PartialEq, Eq)]
+#[derive(Clone, Copy)]
 pub enum WholeFault {
     /// Memory was refused.
     Memory,

@@ -30,7 +30,7 @@ pub(crate) fn can_go_by_rank<O: Opener>(pieces: &[Piece], files: &O) -> bool {
 }
 
 /// Whether each file tells its length. A pipe doesn't, and can't be read twice.
-fn have_lengths<O: Opener>(pieces: &[Piece], files: &O) -> bool {
+pub(crate) fn have_lengths<O: Opener>(pieces: &[Piece], files: &O) -> bool {
     for piece in pieces {
         if files.length(piece.file()).is_none() {
             return false;

@@ -37,7 +37,7 @@ pub(crate) fn check<O: Opener, V: Watcher, W: Write>(
 }
 
 /// What a check comes to.
-fn outcome_of(held: bool) -> Outcome
+pub(crate) fn outcome_of(held: bool) -> Outcome
     ensures { held ≡ true → result ≡ Outcome.Good }
 {
     if held {
@@ -49,7 +49,7 @@ fn outcome_of(held: bool) -> Outcome
 
 /// The checker of the layout that holds all that the pieces tell. Its index follows the texts, and is made once more
 /// where there are packed files too.
-fn checker_of<'a, O: Opener, V: Watcher>(
+pub(crate) fn checker_of<'a, O: Opener, V: Watcher>(
     run: &Run<'a, O>,
     watcher: &mut V,
 ) -> Result<Checker<'a>, RunFault>

@@ -34,7 +34,7 @@ use trace_know::Knowledge;
 use trace_node::{Answer, Node};
 
 /// How a diagnosis is printed.
-#[derive(Clone, Copy, Debug, PartialEq, Eq)]
+#[derive(Clone, Copy)]
 pub(crate) enum Printing {
     Words(Extent),
     Json,

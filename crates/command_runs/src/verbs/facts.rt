@@ -56,8 +56,8 @@ fn looked<O: Opener>(
     }
 }
 
-/// What the texts tell of the calls that the diagnosis names, and of the last ones of the rank that is asked for; and what all
-/// collective calls tell of their arguments.
+/// What the texts tell of the calls that the diagnosis names, and of the last ones of the rank that is asked for; and
+/// what all collective calls tell of their arguments.
 pub(crate) fn facts_of<O: Opener>(
     alloc: Global,
     diagnosis: &Diagnosis,

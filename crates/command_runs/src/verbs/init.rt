@@ -1,15 +1,16 @@
 //! `init`: the layout and the manifest of texts, as two files.
 
-ghost use Rattle.std.specs.Prelude.{◌≡◌, ◌≢◌, IfErr, IfOk, OnOk, map, string_bytes};
+ghost use Rattle.std.specs.Prelude.{◌≡◌, ◌≢◌, IfErr, IfOk, OnOk, string_bytes};
 ghost use Rattle.mpi_model.specs.Failures.{HasFailed};
 ghost use Rattle.run_files.specs.Stores.{Goes, LeavesNothing, Same};
 ghost use Rattle.command_line.specs.Program.{texts_of, wish_of};
-ghost use Rattle.command_runs.specs.Inits.{AreFilesOf, PutsBoth, RanInit, RefusesFiles, RefusesPutting, file_with};
+ghost use Rattle.command_runs.specs.Inits.{AreFilesOf, PutsBoth, RanInit, RefusesFiles, RefusesPutting, file_with, wished_form};
+ghost use Rattle.command_runs.specs.Prepared.{form_of};
 ghost use Rattle.command_runs.specs.declared.faults.init_fault.InitFault.TheVariants.{Memory};
 
 use crate::faults::init_fault::{InitFault, put_fault};
 use crate::load::opener::Opener;
-use crate::load::prepared::{Prepared, prepare};
+use crate::load::prepared::{Prepared, Saying, prepare};
 use command_line::Wanted;
 use mpi_model::{Write, write_all};
 use run_files::{NewFile, PutFault, Store, add_both, replace_both};
@@ -26,14 +27,14 @@ struct BothFiles {
 /// The bytes of both files of what was made of texts, where neither is too long.
 #[tactic(auto, using(crate::proofs::Ended::layout_too_long, crate::proofs::Ended::manifest_too_long))]
 fn files_of(alloc: Global, prepared: &Prepared) -> Result<BothFiles, InitFault>
-    ensures ok { IfOk result (λ both. AreFilesOf prepared.now.made (map string_bytes prepared.now.texts.items) both.layout.items both.manifest.items) }
-    ensures err { IfErr result (RefusesFiles prepared.now.made (map string_bytes prepared.now.texts.items)) }
+    ensures ok { IfOk result (λ both. AreFilesOf prepared.now.made both.layout.items both.manifest.items) }
+    ensures err { IfErr result (RefusesFiles prepared.now.made) }
 {
     let layout = match layout_file_of(alloc, &prepared.made) {
         Ok(layout) => layout,
         Err(fault) => return Err(InitFault::Made(fault)),
     };
-    let manifest = match manifest_file_of(alloc, &prepared.texts) {
+    let manifest = match manifest_file_of(alloc, &prepared.made) {
         Ok(manifest) => manifest,
         Err(fault) => return Err(InitFault::Made(fault)),
     };
@@ -79,6 +80,20 @@ fn names_of(alloc: Global, wanted: Wanted<'_>) -> Result<(String, String), InitF
     Ok((layout, manifest))
 }
 
+/// How what was found is to be said.
+fn saying_of<'a>(wanted: Wanted<'a>) -> Saying<'a>
+    ensures { form_of result ≡ wished_form (wish_of wanted.entry) }
+{
+    if wanted.json {
+        Saying::Json {
+            layout: wanted.layout,
+            manifest: wanted.manifest,
+        }
+    } else {
+        Saying::Words
+    }
+}
+
 /// Makes both files of the texts, keeps them, and prints what was found.
 pub(crate) fn init<O: Opener, S: Store, W: Write>(
     alloc: Global,
@@ -91,7 +106,8 @@ pub(crate) fn init<O: Opener, S: Store, W: Write>(
     ensures { RanInit (O.file files.now) (texts_of texts.now) (wish_of wanted.entry) (S.files store.old) (S.files store.new)
         (HasFailed (S.failures store.old) (S.failures store.new)) result W.written W.failures out.old out.new }
 {
-    let prepared = prepare(alloc, wanted.sends, texts, files)?;
+    let saying = saying_of(wanted);
+    let prepared = prepare(alloc, saying, wanted.sends, texts, files)?;
     let both = files_of(alloc, &prepared)?;
     // (what a fault names, before anything is kept)
     let (layout, manifest) = names_of(alloc, wanted)?;

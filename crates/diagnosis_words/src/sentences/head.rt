@@ -5,7 +5,7 @@ use std::alloc::AllocError;
 use trace_diagnosis::{Root, RootKind, Stand};
 
 /// What the first line says.
-#[derive(Clone, Copy, Debug, PartialEq, Eq)]
+#[derive(Clone, Copy)]
 pub(crate) enum Headline {
     Stuck(usize),
     Mismatch(usize),
@@ -21,7 +21,7 @@ pub(crate) enum Headline {
 }
 
 /// Which roots a headline is of.
-#[derive(Clone, Copy, Debug, PartialEq, Eq)]
+#[derive(Clone, Copy, PartialEq, Eq)]
 enum Sort {
     Mismatched,
     GivingNoSign,

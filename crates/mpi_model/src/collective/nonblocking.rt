@@ -10,7 +10,7 @@ use crate::kind::{CollectiveFunction, Kind};
 use std::marker::Model;
 
 /// A collective call of a kind that has a nonblocking function.
-#[derive(Clone, Copy, Debug, PartialEq, Eq)]
+#[derive(Clone, Copy)]
 pub struct NonblockingCollective {
     call: Collective,
 }

@@ -10,7 +10,7 @@ use std::alloc::{AllocError, Global};
 use std::marker::Model;
 
 /// Two envelopes of one communicator.
-#[derive(Clone, Copy, Debug, PartialEq, Eq)]
+#[derive(Clone, Copy)]
 struct Both {
     send: Packed,
     receive: Packed,
@@ -30,7 +30,7 @@ impl Model for Both {
 
 /// The two envelopes of an `MPI_Sendrecv`, which name one communicator (MPI 4.0, 3.10). They stand in memory of their
 /// own, since no other call is as long.
-#[derive(Debug, Drop)]
+#[derive(Drop)]
 pub struct Exchange {
     both: Box<Both>,
 }

@@ -8,7 +8,7 @@ use std::marker::Model;
 
 /// The envelope that a probe looks for (MPI 4.0, 3.8.1): it names source and tag as a receive does,
 /// and no number is above 2^31 - 1.
-#[derive(Clone, Copy, Debug, PartialEq, Eq)]
+#[derive(Clone, Copy)]
 pub struct ProbeEnvelope {
     source: Peer,
     tag: Option<u32>,

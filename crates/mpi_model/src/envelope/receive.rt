@@ -9,7 +9,7 @@ use crate::envelope::{CommRef, Envelope, Peer};
 use std::marker::Model;
 
 /// The envelope of a receive: it may name any source and any tag, and no number is above 2^31 - 1.
-#[derive(Clone, Copy, Debug, PartialEq, Eq)]
+#[derive(Clone, Copy, Debug)]
 pub struct ReceiveEnvelope {
     inner: Packed,
 }

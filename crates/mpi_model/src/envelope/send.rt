@@ -9,7 +9,7 @@ use crate::envelope::{CommRef, Envelope, Peer};
 use std::marker::Model;
 
 /// The envelope of a send: it names its peer and its tag, and no number is above 2^31 - 1.
-#[derive(Clone, Copy, Debug, PartialEq, Eq)]
+#[derive(Clone, Copy)]
 pub struct SendEnvelope {
     inner: Packed,
 }

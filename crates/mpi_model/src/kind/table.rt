@@ -80,6 +80,8 @@ const OF_COMM_OLD: KindRow = other!(Communicator, CommOld, true, false);
 
 const OF_LOCAL_COMM: KindRow = other!(Communicator, LocalComm, true, false);
 
+const OF_INTERCOMM: KindRow = other!(Communicator, Intercomm, true, false);
+
 const OF_COMM_WITH_LONG_FORM: KindRow = other!(Communicator, Comm, true, true);
 
 const OF_WINDOW: KindRow = other!(Window, Win, true, true);
@@ -87,7 +89,7 @@ const OF_WINDOW: KindRow = other!(Window, Win, true, true);
 const OF_FILE: KindRow = other!(File, File, true, true);
 
 /// The rows of all kinds, in the order of their numbers.
-pub(super) static ROWS: [KindRow; 74] = [
+pub(super) static ROWS: [KindRow; 75] = [
     row!(b"MPI_Barrier", b"MPI_Ibarrier", ALL_TO_ALL),
     row!(b"MPI_Bcast", b"MPI_Ibcast", ONE_TO_ALL),
     row!(b"MPI_Scatter", b"MPI_Iscatter", ONE_TO_ALL),
@@ -194,10 +196,11 @@ pub(super) static ROWS: [KindRow; 74] = [
     row!(b"MPI_Comm_set_info", OF_COMM),
     row!(b"MPI_Win_set_info", OF_WINDOW),
     row!(b"MPI_File_set_info", OF_FILE),
+    row!(b"MPI_Intercomm_merge", OF_INTERCOMM),
 ];
 
 /// All kinds, in the order of their numbers.
-pub(super) static KINDS: [Kind; 74] = [
+pub(super) static KINDS: [Kind; 75] = [
     Kind::Barrier,
     Kind::Bcast,
     Kind::Scatter,
@@ -272,4 +275,5 @@ pub(super) static KINDS: [Kind; 74] = [
     Kind::CommSetInfo,
     Kind::WinSetInfo,
     Kind::FileSetInfo,
+    Kind::IntercommMerge,
 ];

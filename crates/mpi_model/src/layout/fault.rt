@@ -18,7 +18,7 @@ pub enum LayoutFault {
     /// Two of them have one id.
     #[error("L3 DoubleComm")]
     DoubleComm,
-    /// One of them has no member.
+    /// One of them has no member, or an intercommunicator has none in its first group.
     #[error("L4 EmptyComm")]
     EmptyComm,
     /// A member is no rank of the run.
@@ -27,8 +27,8 @@ pub enum LayoutFault {
     /// A rank stands twice in one of them.
     #[error("L6 DoubleMember")]
     DoubleMember,
-    /// The world is absent or no communicator, or its members are not all ranks in their order (MPI
-    /// 4.0, 11.2).
+    /// The world is absent or no communicator of one group, or its members are not all ranks in their
+    /// order (MPI 4.0, 11.2).
     #[error("L7 World")]
     World,
     /// The numbers of one of them are neither absent nor one for each member; or a stretch ends

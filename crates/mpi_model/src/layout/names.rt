@@ -12,7 +12,7 @@ use crate::object::Object;
 use std::alloc::{AllocError, Global};
 
 /// A rank names an object by a number over a stretch of its calls.
-#[derive(Clone, Copy, Debug)]
+#[derive(Clone, Copy)]
 pub(crate) struct Name {
     rank: u32,
     comm: u32,

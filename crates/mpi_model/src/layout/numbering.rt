@@ -9,7 +9,7 @@ use crate::layout::names::{Name, names_copied, numbered_in, starts_copied, start
 use std::alloc::{AllocError, Global};
 
 /// The names that ranks give to the objects of one sort, by rank, then number, then first call.
-#[derive(Debug, Drop)]
+#[derive(Drop)]
 pub(crate) struct Numbering {
     pub(crate) names: Vec<Name>,
     // where the names of each rank begin

@@ -8,7 +8,7 @@ ghost use Rattle.mpi_model.specs.Layouts.{comm_fault, ends_before, has_double_me
 ghost use Rattle.mpi_model.specs.Names.{AreOrdered, has_clash, has_clash_of, names_of};
 ghost use Rattle.mpi_model.specs.declared.object.Object.TheVariants.{Communicator, Window, File};
 
-use crate::layout::comm::{Comm, Stretch, members_among, object_among};
+use crate::layout::comm::{Comm, Stretch, is_intercomm_among, members_among, object_among};
 use crate::layout::fault::LayoutFault;
 use crate::layout::names::{Name, has_clash};
 use crate::object::Object;
@@ -176,12 +176,12 @@ fn two_neighbours(numbers: &[u32]) -> bool
     false
 }
 
-/// Whether some communicator has no member.
+/// Whether some communicator has no member in its first group.
 fn some_empty(comms: &[Comm]) -> bool
     ensures { result ≡ list_any is_empty_group comms.now }
 {
     for comm in comms {
-        if comm.members().is_empty() {
+        if comm.members().len() <= comm.remote_size() {
             return true;
         }
     }
@@ -262,11 +262,12 @@ fn are_whole(members: Option<&[u32]>, ranks: u32) -> bool
     }
 }
 
-/// Whether the world is there, is a communicator, and has all ranks in order.
+/// Whether the world is there, is a communicator of one group, and has all ranks in order.
 fn world_is_there(comms: &[Comm], ranks: u32, world: u32) -> bool
     ensures { result ≡ has_world ranks world comms.now }
 {
-    is_communicator(object_among(comms, world)) && are_whole(members_among(comms, world), ranks)
+    is_communicator(object_among(comms, world))
+        && (!is_intercomm_among(comms, world) && are_whole(members_among(comms, world), ranks))
 }
 
 /// Whether the members are the ranks of the run, in order.

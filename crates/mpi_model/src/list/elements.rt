@@ -9,7 +9,7 @@ use std::marker::Model;
 
 /// A request that an `MPI_Waitsome` or `MPI_Testsome` completed: its position in the call's list,
 /// from 0, and what its status tells.
-#[derive(Clone, Copy, Debug, PartialEq, Eq)]
+#[derive(Clone, Copy, PartialEq, Eq)]
 pub struct Element {
     pub position: u32,
     pub told: Told,
@@ -25,7 +25,7 @@ impl Element {
 }
 
 /// The requests that an `MPI_Waitsome` or `MPI_Testsome` completed, in the order of its `indices`.
-#[derive(Debug, Drop)]
+#[derive(Drop)]
 pub struct Elements {
     items: Vec<Element>,
 }

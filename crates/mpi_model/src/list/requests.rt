@@ -10,7 +10,7 @@ use std::marker::Model;
 pub const NULL_REQUEST: i64 = i64::MIN;
 
 /// The request numbers that a call names, in its order.
-#[derive(Debug, Drop)]
+#[derive(Drop)]
 pub struct Requests {
     items: Vec<i64>,
 }

@@ -8,7 +8,7 @@ use std::alloc::AllocError;
 use std::marker::Model;
 
 /// What the statuses of an `MPI_Waitall` or `MPI_Testall` tell, one entry for each request of the call.
-#[derive(Debug, Drop)]
+#[derive(Drop)]
 pub struct Sources {
     items: Vec<Told>,
 }

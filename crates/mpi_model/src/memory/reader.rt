@@ -9,7 +9,7 @@ ghost use Rattle.mpi_model.specs.Side.{LeavesSide, untold};
 use crate::device::{Failed, Read};
 
 /// A reader of bytes in memory, which a contract knows.
-#[derive(Debug, Drop)]
+#[derive(Drop)]
 pub struct MemoryReader<'a> {
     bytes: &'a [u8],
     most: usize,
@@ -90,7 +90,7 @@ impl<'a> Read for MemoryReader<'a> {
 }
 
 /// A reader that gives one byte for ever. No contract knows its bytes.
-#[derive(Debug, Drop)]
+#[derive(Drop)]
 pub struct EndlessReader {
     byte: u8,
 }

@@ -10,7 +10,7 @@ use std::alloc::Global;
 use std::io;
 
 /// A writer into memory. A contract knows what it took. It fails if memory is refused.
-#[derive(Debug, Drop)]
+#[derive(Drop)]
 pub struct MemoryWriter {
     bytes: Vec<u8>,
     most: usize,

@@ -1,9 +1,10 @@
 //! The layout of a run, as its file tells it.
 
 ghost use Rattle.std.specs.Prelude.{◌≡◌, IfErr, IfOk, codes, option_and_then, option_map};
-ghost use Rattle.serde_json.specs.Find.{as_str, get};
+ghost use Rattle.serde_json.specs.Find.{as_array, as_str, get};
 ghost use Rattle.serde_json.specs.View.{items_view, view};
-ghost use Rattle.run_files.specs.Layouts.{IsLayoutOf, RefusesLayout, communicator_in, communicators_in, object_in, object_named, parts_in, sends_named, unreadable_field};
+ghost use Rattle.run_files.specs.Fields.{u32s_in};
+ghost use Rattle.run_files.specs.Layouts.{IsLayoutOf, RefusesLayout, alone, communicator_in, communicators_in, groups_in, joined, object_in, object_named, parts_in, plain, sends_named, unreadable_field, with_second};
 
 use crate::fault::{Field, InputFault};
 use crate::read::fields::{list_at, str_at, u32_at, u32s_of, value_of};
@@ -33,7 +34,7 @@ pub fn layout_of(alloc: Global, text: &[u8]) -> Result<Layout, InputFault>
 }
 
 /// The fields of a layout, its communicators in the order of the file.
-#[derive(Debug, Drop)]
+#[derive(Drop)]
 struct Given {
     ranks: u32,
     world: u32,
@@ -145,7 +146,84 @@ fn object_at(value: &Value) -> Option<Object>
     }
 }
 
-/// A communicator, a window or a file: its id, its sort, its members, and by which numbers these name it.
+/// The members of an object, and how many of these, the last ones, are the second group of an
+/// intercommunicator.
+#[derive(Debug, Drop)]
+struct Groups {
+    members: Vec<u32>,
+    remote_size: usize,
+}
+
+/// The groups of an object that has one alone.
+fn alone(members: Vec<u32>) -> Groups
+    ensures { plain result ≡ alone members.items }
+{
+    Groups {
+        members,
+        remote_size: 0,
+    }
+}
+
+/// Two groups, one behind the other. Where the second is told and has no rank, no member is left, so
+/// that [`LayoutFault::EmptyComm`] is the first rule of groups that is broken.
+fn joined(alloc: Global, members: Vec<u32>, remote: &[u32]) -> Result<Groups, AllocError>
+    ensures { IfOk result (λ g. plain g ≡ joined members.items remote.now) }
+{
+    if remote.is_empty() {
+        return Ok(alone(Vec::new(alloc)));
+    }
+    let mut members = members;
+    members.extend_from_slice(remote)?;
+    Ok(Groups {
+        members,
+        remote_size: remote.len(),
+    })
+}
+
+/// The ranks that an array lists.
+fn ranks_of(alloc: Global, value: &Value) -> Result<Option<Vec<u32>>, AllocError>
+    ensures { IfOk result (λ o. option_map (λ v. v.items) o ≡ option_and_then u32s_in (as_array (view value.now))) }
+{
+    match value.as_array() {
+        Some(values) => u32s_of(alloc, values),
+        None => Ok(None),
+    }
+}
+
+/// The groups of a communicator whose second one this value is.
+fn with_second(
+    alloc: Global,
+    members: Vec<u32>,
+    value: &Value,
+) -> Result<Option<Groups>, AllocError>
+    ensures { IfOk result (λ o. option_map plain o ≡ option_map (joined members.items) (option_and_then u32s_in (as_array (view value.now)))) }
+{
+    match ranks_of(alloc, value)? {
+        Some(remote) => Ok(Some(joined(alloc, members, &remote)?)),
+        None => Ok(None),
+    }
+}
+
+/// The groups of an object of these members. Only a communicator has a second one.
+fn groups_of(
+    alloc: Global,
+    object: Object,
+    members: Vec<u32>,
+    value: &Value,
+) -> Result<Option<Groups>, AllocError>
+    ensures { IfOk result (λ o. option_map plain o ≡ groups_in object members.items (get (codes "remote") (view value.now))) }
+{
+    let Some(remote) = value.get("remote") else {
+        return Ok(Some(alone(members)));
+    };
+    match object {
+        Object::Communicator => with_second(alloc, members, remote),
+        Object::Window | Object::File => Ok(None),
+    }
+}
+
+/// A communicator, a window or a file: its id, its sort, its members, the other group of an
+/// intercommunicator, and by which numbers all of these name it.
 fn communicator_of(alloc: Global, value: &Value) -> Result<Option<Comm>, AllocError>
     ensures { IfOk result (λ o. o ≡ communicator_in (view value.now)) }
 {
@@ -161,11 +239,15 @@ fn communicator_of(alloc: Global, value: &Value) -> Result<Option<Comm>, AllocEr
     let Some(members) = u32s_of(alloc, members)? else {
         return Ok(None);
     };
+    let Some(groups) = groups_of(alloc, object, members, value)? else {
+        return Ok(None);
+    };
     match numbers_at(alloc, value)? {
         Some(numbers) => Ok(Some(Comm {
             id,
             object,
-            members,
+            members: groups.members,
+            remote_size: groups.remote_size,
             numbers,
         })),
         None => Ok(None),

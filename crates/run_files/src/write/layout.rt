@@ -3,7 +3,7 @@
 ghost use Rattle.std.specs.Prelude.{◌≡◌, ◌∷◌, IfOk};
 ghost use Rattle.json.specs.Token.{begin_array};
 ghost use Rattle.json.specs.Tree.{items_tokens, json_tokens, members_tokens};
-ghost use Rattle.run_files.specs.Values.{Puts, communicator_value, items_of, layout_value, line_of, numbers_field, object_tokens, parts_of, sends_word};
+ghost use Rattle.run_files.specs.Values.{Puts, communicator_value, items_of, layout_value, line_of, numbers_field, object_tokens, parts_of, remote_tokens, sends_word};
 
 use crate::write::numbers::put_entries;
 use crate::write::values::{line_of, put_number_field, put_numbers, put_string_field};
@@ -69,7 +69,8 @@ fn put_comms(out: &mut Writer, comms: &[Comm]) -> Result<(), AllocError>
     out.end_array()
 }
 
-/// Puts a communicator, a window or a file: its id, its sort, its members, and their entries where it has some.
+/// Puts a communicator, a window or a file: its id, its sort, its members, the second group of an intercommunicator
+/// apart, and their entries where it has some.
 fn put_comm(out: &mut Writer, comm: &Comm) -> Result<(), AllocError>
     ensures { Puts result out.old out.new (json_tokens (communicator_value comm.now)) }
 {
@@ -77,8 +78,20 @@ fn put_comm(out: &mut Writer, comm: &Comm) -> Result<(), AllocError>
     put_number_field(out, "id", comm.id as u64)?;
     put_object(out, comm.object)?;
     out.key("members")?;
-    put_numbers(out, &comm.members)?;
+    put_numbers(out, comm.first_group())?;
+    put_remote(out, comm)?;
     put_field(out, comm)
+}
+
+/// The field of the second group, where there is one.
+fn put_remote(out: &mut Writer, comm: &Comm) -> Result<(), AllocError>
+    ensures { Puts result out.old out.new (remote_tokens comm.now) }
+{
+    if !comm.is_inter() {
+        return Ok(());
+    }
+    out.key("remote")?;
+    put_numbers(out, comm.second_group())
 }
 
 /// The field of an object's sort, where it is no communicator.

@@ -51,9 +51,9 @@ fn put_entry(out: &mut Writer, entry: Option<Stretch>) -> Result<(), AllocError>
     }
 }
 
-/// Puts the array of the members' entries.
+/// Puts the array of the members' entries, as a layout's file has it. Fails with `AllocError` when memory is refused.
 #[tactic(auto, using(crate::proofs::Putting::next_tokens, crate::proofs::Putting::array_tokens))]
-pub(crate) fn put_entries(out: &mut Writer, entries: &[Option<Stretch>]) -> Result<(), AllocError>
+pub fn put_entries(out: &mut Writer, entries: &[Option<Stretch>]) -> Result<(), AllocError>
     ensures { Puts result out.old out.new (begin_array ∷ items_tokens (items_of entry_value entries.now)) }
 {
     out.begin_array()?;

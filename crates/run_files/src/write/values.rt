@@ -16,9 +16,9 @@ pub(crate) fn put_number(out: &mut Writer, n: u64) -> Result<(), AllocError>
     out.u64(n)
 }
 
-/// Puts an array of numbers.
+/// Puts an array of numbers. Fails with `AllocError` when memory is refused.
 #[tactic(auto, using(crate::proofs::Putting::next_tokens, crate::proofs::Putting::array_tokens))]
-pub(crate) fn put_numbers(out: &mut Writer, numbers: &[u32]) -> Result<(), AllocError>
+pub fn put_numbers(out: &mut Writer, numbers: &[u32]) -> Result<(), AllocError>
     ensures { Puts result out.old out.new (begin_array ∷ items_tokens (items_of number_of numbers.now)) }
 {
     out.begin_array()?;
@@ -28,24 +28,24 @@ pub(crate) fn put_numbers(out: &mut Writer, numbers: &[u32]) -> Result<(), Alloc
     out.end_array()
 }
 
-/// Puts a field that is a number.
-pub(crate) fn put_number_field(out: &mut Writer, name: &str, n: u64) -> Result<(), AllocError>
+/// Puts a field that is a number. Fails with `AllocError` when memory is refused.
+pub fn put_number_field(out: &mut Writer, name: &str, n: u64) -> Result<(), AllocError>
     ensures { Puts result out.old out.new (key name.now ∷ json_tokens (number_of n)) }
 {
     out.key(name)?;
     put_number(out, n)
 }
 
-/// Puts a field that is a string.
-pub(crate) fn put_string_field(out: &mut Writer, name: &str, text: &str) -> Result<(), AllocError>
+/// Puts a field that is a string. Fails with `AllocError` when memory is refused.
+pub fn put_string_field(out: &mut Writer, name: &str, text: &str) -> Result<(), AllocError>
     ensures { Puts result out.old out.new (key name.now ∷ string text.now ∷ []) }
 {
     out.key(name)?;
     out.string(text)
 }
 
-/// The text of what was put, and a line feed.
-pub(crate) fn line_of(out: Writer) -> Result<Vec<u8>, AllocError>
+/// The text of what was put, and a line feed. Fails with `AllocError` when memory is refused.
+pub fn line_of(out: Writer) -> Result<Vec<u8>, AllocError>
     ensures { IfOk result (λ text. text.items ≡ (out.before ++ print out.tokens) ++ 10 ∷ []) }
 {
     let mut text = out.into_inner();

@@ -10,7 +10,7 @@ pub enum Worker {
 }
 
 /// What is posted: a segment, or that its worker posts no more.
-#[derive(Debug, Drop)]
+#[derive(Drop)]
 pub enum Post {
     /// The next segment of the worker's texts.
     Segment(ReadySegment),
@@ -19,7 +19,7 @@ pub enum Post {
 }
 
 /// What lies in a queue: a post, and the worker that it is of.
-#[derive(Debug, Drop)]
+#[derive(Drop)]
 pub struct WorkerPost {
     pub from: Worker,
     pub post: Post,

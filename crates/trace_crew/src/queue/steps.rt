@@ -24,7 +24,7 @@ use std::sync::Wait;
 pub const MOST_ITEMS: usize = 8;
 
 /// The owner has left the queue, so nothing is taken any more.
-#[derive(Clone, Copy, Debug, PartialEq, Eq)]
+#[derive(Clone, Copy)]
 pub struct Closed;
 
 /// An empty queue, with the owner's seat. No worker is made yet. Fails with `AllocError` when memory is refused.

@@ -17,7 +17,7 @@ use trace_pair::Pair;
 use trace_wait::Round;
 
 /// How far the ranks can be read, and where they are contradicted.
-#[derive(Debug, Drop)]
+#[derive(Drop)]
 pub(crate) struct Reading {
     pub prefixes: Vec<u64>,
     pub beyond: Vec<bool>,
@@ -74,7 +74,7 @@ impl Reading {
 }
 
 /// Which messages were received, and which may still be.
-#[derive(Debug, Drop)]
+#[derive(Drop)]
 pub(crate) struct Matching {
     pub pairs: Vec<Pair>,
     pub postponed: Vec<OpName>,
@@ -94,7 +94,7 @@ impl Matching {
 }
 
 /// The rounds of collective calls, how each rank stands, and which ranks wait for ever.
-#[derive(Debug, Drop)]
+#[derive(Drop)]
 pub(crate) struct Waiting {
     pub rounds: Vec<Round>,
     pub states: Vec<State>,

@@ -12,7 +12,6 @@ use trace_node::Answer;
 use trace_ops::State;
 
 /// The objects of the ranks, in rising order, with commas between them.
-#[tactic(auto, using(crate::proofs::Printing::nothing))]
 pub(crate) fn put_ranks<S: Sink>(out: &mut S, answer: &Answer)
     ensures { Prints (S.page out.old) (S.page out.new) (rank_objects answer.now answer.now.ranks) }
 {

@@ -9,7 +9,7 @@ use std::marker::Model;
 use trace_know::{Knowledge, join_laws};
 
 /// The join of so many parts.
-#[derive(Debug, Drop)]
+#[derive(Drop)]
 struct Level {
     know: Knowledge,
     parts: u64,
@@ -33,7 +33,7 @@ impl Level {
 /// often as the logarithm of their number at most, however the parts lie.
 ///
 /// In a contract it is the view of all that came.
-#[derive(Debug, Drop)]
+#[derive(Drop)]
 pub struct Joining {
     alloc: Global,
     levels: Vec<Level>,

@@ -15,7 +15,7 @@ use trace_know::{Knowledge, listing_laws};
 const RUN_HEAD: u64 = 16;
 
 /// The size of a part and of its frame.
-#[derive(Clone, Copy, Debug)]
+#[derive(Clone, Copy)]
 pub(crate) struct PartSize {
     pub cells: usize,
     pub runs: u32,

@@ -12,7 +12,7 @@ use mpi_model::{CommRef, Kind, Mode, Peer, Stamp, Told};
 use std::alloc::{AllocError, AllocFailed, Global};
 
 /// Why a field could not be read.
-#[derive(Clone, Copy, Debug, PartialEq, Eq)]
+#[derive(Clone, Copy)]
 pub(crate) enum FieldFault {
     Memory,
     /// It runs past the end, or has a value outside its range.

@@ -3,7 +3,7 @@
 use crate::fault::WireFault;
 
 /// Whether the device or the bytes of a payload are the cause, and the fault.
-#[derive(Clone, Copy, Debug, PartialEq, Eq)]
+#[derive(Clone, Copy)]
 pub(crate) enum Unread {
     /// The device failed or ended, or there was no memory for its bytes.
     Device(WireFault),

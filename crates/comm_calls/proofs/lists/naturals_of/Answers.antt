@@ -1,4 +1,5 @@
 use Rattle.std.proofs.Common.{◌≡◌, ◌∙◌, ℤ, pos, sym, get_or, arith, rules, w32, w64, to_z, of_z}
+use Rattle.std.proofs.lemmas.Grind.{common_steps}
 use Rattle.std.proofs.lemmas.Int.{ints, to_z-of_z}
 use Rattle.comm_calls.proofs.Firsts.{naturals_more}
 use Rattle.comm_calls.proofs.lists.naturals_of.Goals as goal
@@ -12,3 +13,12 @@ loop-int-preserved c =
     rw c.in_ok-push.ensures.items
     (naturals_more c.args.ints.now c.loop-int.int-index (pos 0) c.loop-int-test.true c.loop-int.naturals.items c.in-Some.natural (sym is)
     ∙ c.loop-int.invariant)
+
+pub loop-int-init : goal.loop-int-init
+loop-int-init c = grind (arith, common_steps)
+
+pub returns-in_default : goal.returns-in_default
+returns-in_default c = grind (arith, common_steps)
+
+pub returns : goal.returns
+returns c = grind (arith, common_steps)

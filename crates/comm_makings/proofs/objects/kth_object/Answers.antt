@@ -1,4 +1,4 @@
-use Rattle.std.proofs.Common.{◌≡◌, ◌∙◌, List, Option, None, ap, map, subst}
+use Rattle.std.proofs.Common.{◌∙◌, List, Option, None, ap, map, subst}
 use Rattle.comm_makings.specs.ObjectMakings.{IsOneMaking, IsOneMakingOf, object_here}
 use Rattle.comm_makings.specs.declared.objects.ObjectHere.{ObjectHere}
 use Rattle.comm_makings.proofs.objects.kth_object.Goals as goal

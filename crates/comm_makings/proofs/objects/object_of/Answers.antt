@@ -10,5 +10,6 @@ returns c = record {
   members = c.in_ok-members.ensures ∙ ap (map (made_member c.args.ranks.now c.args.views.now c.args.object c.args.k)) c.deref.ensures.value;
   same_ranks = c.in_ok-same_ranks.ensures ∙ c.deref-2.ensures.value;
   no_dims = refl;
+  one_group = refl;
   order = refl;
 }

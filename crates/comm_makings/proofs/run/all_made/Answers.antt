@@ -8,4 +8,4 @@ loop-part-preserved c =
     rw c.in_ok-push.ensures.items
     (made_more c.args.members.now c.args.all.now c.args.parts.now c.loop-part.made.items c.loop-part.part-index c.part-item.result c.in_ok-made_of.field-0
     (slice_get-get_or c.args.parts.now c.loop-part.part-index c.part-item.result c.loop-part-test.true ∙ ap Some (sym c.part-item.is))
-    c.in_ok-made_of.ensures.members c.in_ok-made_of.ensures.ranks c.in_ok-made_of.ensures.dims c.in_ok-made_of.ensures.order c.loop-part.invariant)
+    c.in_ok-made_of.ensures.members c.in_ok-made_of.ensures.ranks c.in_ok-made_of.ensures.dims c.in_ok-made_of.ensures.order c.in_ok-made_of.ensures.one_group c.loop-part.invariant)

@@ -8,4 +8,5 @@ invariant-loop-at l = record {
   values : NoneListedAt l.run.values.items;
   comms : l.run.comms ≡ l.initial.run.comms;
   next : l.run.next ≡ l.initial.run.next;
+  inters : l.run.inters ≡ l.initial.run.inters;
 }

@@ -1,4 +1,3 @@
-use Rattle.std.proofs.Common.{◌∙◌, ap, sym}
 use Rattle.comm_makings.proofs.Firsts.{first_more}
 use Rattle.comm_makings.proofs.run.first_returned.Goals as goal
 

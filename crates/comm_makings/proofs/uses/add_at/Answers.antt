@@ -1,4 +1,4 @@
-use Rattle.std.proofs.Common.{rules, arith}
+use Rattle.std.proofs.Common.{rules}
 use Rattle.comm_makings.proofs.Holders.{added_at, added_nowhere}
 use Rattle.comm_makings.proofs.uses.add_at.Goals as goal
 

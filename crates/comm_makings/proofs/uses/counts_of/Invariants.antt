@@ -1,5 +1,4 @@
-use Rattle.std.proofs.Common.{◌≡◌, ◌-◌, ◌^◌, length, min, take}
-use Rattle.std.specs.List.{sum_by}
+use Rattle.std.proofs.Common.{◌≡◌, length, take}
 use Rattle.comm_makings.specs.Each.{EachIs}
 use Rattle.comm_makings.specs.Uses.{count_of}
 use Rattle.comm_makings.proofs.uses.counts_of.Given as goal

@@ -1,4 +1,4 @@
-use Rattle.std.proofs.Common.{arith, sym, ◌∙◌, length}
+use Rattle.std.proofs.Common.{sym, ◌∙◌}
 use Rattle.std.proofs.lemmas.Option.{slice_get-get_or}
 use Rattle.comm_makings.proofs.Holders.{holder_is, not_within, past}
 use Rattle.comm_makings.proofs.uses.holder.Goals as goal

@@ -10,14 +10,14 @@ returns-in-Err g c = IfOk-weaker c.shown.result _ _ (λ e h. inr (c.in-Err.fault
 pub returns-in-Pair : goal.returns-in-Pair
 returns-in-Pair g c =
     let words : List Text = map (λ w. w.now) c.args.words.now in
-    let asked : request_in (subcommand_of program words) ≡ Some (pair c.in-Pair.verb c.in-Pair.layout.now c.in-Pair.manifest.now) = search rules in
+    let asked : request_in (subcommand_of program words) ≡ Some (pair c.in-Pair.verb c.in-Pair.verbosity c.in-Pair.layout.now c.in-Pair.manifest.now) = search rules in
     IfOk-weaker c.over_pair.result _ _ (λ e h. inl (_, asked, (h, refl))) c.over_pair.ensures
 
 pub returns-in-Files : goal.returns-in-Files
 returns-in-Files g c =
     let words : List Text = map (λ w. w.now) c.args.words.now in
-    let asked : request_in (subcommand_of program words) ≡ Some (files c.in-Files.verb (map (λ n. n.now) c.in-Files.names.items)) = search rules in
-    IfOk-weaker c.over_files.result _ _ (λ e h. inl (_, asked, (rw c.as_slice.ensures.value at h, refl))) c.over_files.ensures
+    let asked : request_in (subcommand_of program words) ≡ Some (files c.in-Files.verb c.in-Files.verbosity (map (λ n. n.now) c.in-Files.names.items)) = search rules in
+    IfOk-weaker c.over_named.result _ _ (λ e h. inl (_, asked, (rw c.as_slice.ensures.value at h, refl))) c.over_named.ensures
 
 pub returns-in-Cluster : goal.returns-in-Cluster
 returns-in-Cluster g c =
@@ -29,4 +29,4 @@ pub returns-in-Init : goal.returns-in-Init
 returns-in-Init g c =
     let words : List Text = map (λ w. w.now) c.args.words.now in
     let asked : request_in (subcommand_of program words) ≡ Some (init (map (λ n. n.now) c.in-Init.texts.items) (wish_of c.in-Init.wanted)) = search rules in
-    IfOk-weaker c.over_init.result _ _ (λ e h. inl (_, asked, rw c.as_slice-in-Init.ensures.value at h)) c.over_init.ensures
+    IfOk-weaker c.init_named.result _ _ (λ e h. inl (_, asked, rw c.as_slice-in-Init.ensures.value at h)) c.init_named.ensures

@@ -1,21 +1,20 @@
-use Rattle.std.proofs.Common.{ap, false, inl, inr, refl}
+use Rattle.std.proofs.Common.{◌≡◌, ℕ, List, Option, ap, false, inl, inr, refl, subst}
 use Rattle.std.proofs.lemmas.Result.{IfOk-weaker}
-use Rattle.command_runs.proofs.Endings.{cluster_ran, if_both, shown_so}
+use Rattle.dumpi_text.specs.Failing.{Fails}
+use Rattle.command_runs.specs.Endings.{EndsClusterRun}
+use Rattle.command_runs.proofs.Endings.{if_both, shown_so}
 use Rattle.command_runs.proofs.ending.over_cluster.Goals as goal
 
 pub returns-in-Ok : goal.returns-in-Ok
 returns-in-Ok g c =
     let file = g.O.Opener.file c.args.files.now in
-    IfOk-weaker c.ending_after.result _ _ (λ e ended. inl (
+    IfOk-weaker c.cluster_over.result _ _ (λ e h. inl (
       c.in-Ok.input.layout,
       c.in-Ok.input.manifest,
       c.in-Ok.ensures.ok,
-      c.cluster-ran.result,
-      cluster_ran _ file (g.O.Opener.file c.new.result.files.now) c.in-Ok.input.layout c.new.result.layout.now c.in-Ok.input.manifest c.new.result.manifest.now c.cluster-ran.result
-          g.W.Write.written g.W.Write.failures c.args.out.now c.cluster-ran.new.out (ap g.O.Opener.file c.new.ensures.files) c.new.ensures.layout c.new.ensures.manifest c.cluster-ran.ensures.ran,
-      c.cluster-ran.ensures.failed,
-      ended,
-    )) c.ending_after.ensures
+      subst (λ (f : List ℕ → Option (List ℕ)). EndsClusterRun (Fails g.O.R.Read.failures) f c.in-Ok.input.layout c.in-Ok.input.manifest g.W.Write.written g.W.Write.failures c.args.out.now c.cluster_over.new.out e)
+          (ap g.O.Opener.file c.new-beside.ensures) h,
+    )) c.cluster_over.ensures
 
 pub returns-in-Err : goal.returns-in-Err
 returns-in-Err g c =

@@ -1,6 +1,5 @@
 use Rattle.std.proofs.Common.{inl, inr, refl}
 use Rattle.std.proofs.lemmas.Result.{IfOk-weaker}
-use Rattle.command_runs.proofs.Endings.{if_both}
 use Rattle.command_runs.proofs.ending.over_files.Goals as goal
 
 pub returns-then-are_texts : goal.returns-then-are_texts
@@ -11,5 +10,4 @@ returns-in-Some g c = IfOk-weaker c.over_pair.result _ _ (λ e h. inr (inl (_, _
 
 pub returns-in-None : goal.returns-in-None
 returns-in-None g c =
-    if_both c.strange_files.result _ _ _ (λ e status errors. inr (inr (c.two_of.ensures.other c.in-None.is, refl, status, errors)))
-    c.strange_files.ensures.status c.strange_files.ensures.errors
+    IfOk-weaker c.over_no_texts.result _ _ (λ e h. inr (inr (c.two_of.ensures.other c.in-None.is, refl, h))) c.over_no_texts.ensures

@@ -37,6 +37,18 @@ pub returns-in-Check-clause-ran : goal.returns-in-Check-clause-ran
 returns-in-Check-clause-ran g c =
     ran_as (g.O.Opener.file c.args.run.now.files.now) c.args.verb _ c.args.run.now.layout.now c.args.run.now.manifest.now c.check.result g.W.Write.written g.W.Write.failures c.args.out.now c.check.new.out c.in-Check.is c.check.ensures.ran
 
+pub returns-in-CheckJson-clause-ran : goal.returns-in-CheckJson-clause-ran
+returns-in-CheckJson-clause-ran g c =
+    ran_as (g.O.Opener.file c.args.run.now.files.now) c.args.verb _ c.args.run.now.layout.now c.args.run.now.manifest.now c.check_as_json.result g.W.Write.written g.W.Write.failures c.args.out.now c.check_as_json.new.out c.in-CheckJson.is c.check_as_json.ensures.ran
+
 pub returns-in-Pack-clause-ran : goal.returns-in-Pack-clause-ran
 returns-in-Pack-clause-ran g c =
     ran_as (g.O.Opener.file c.args.run.now.files.now) c.args.verb _ c.args.run.now.layout.now c.args.run.now.manifest.now c.pack.result g.W.Write.written g.W.Write.failures c.args.out.now c.pack.new.out c.in-Pack.is c.pack.ensures.ran
+
+pub returns-in-Calls-clause-ran : goal.returns-in-Calls-clause-ran
+returns-in-Calls-clause-ran g c =
+    ran_as (g.O.Opener.file c.args.run.now.files.now) c.args.verb _ c.args.run.now.layout.now c.args.run.now.manifest.now c.calls.result g.W.Write.written g.W.Write.failures c.args.out.now c.calls.new.out c.in-Calls.is c.calls.ensures.ran
+
+pub returns-in-Timeline-clause-ran : goal.returns-in-Timeline-clause-ran
+returns-in-Timeline-clause-ran g c =
+    ran_as (g.O.Opener.file c.args.run.now.files.now) c.args.verb _ c.args.run.now.layout.now c.args.run.now.manifest.now c.timeline.result g.W.Write.written g.W.Write.failures c.args.out.now c.timeline.new.out c.in-Timeline.is c.timeline.ensures.ran

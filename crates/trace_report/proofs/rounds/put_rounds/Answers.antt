@@ -2,9 +2,12 @@ use Rattle.std.proofs.Common.{◌∙◌, ◌++◌, ap, sym, take}
 use Rattle.std.specs.List.{flat_map}
 use Rattle.trace_wait.specs.declared.round.Round.{Round}
 use Rattle.trace_report.specs.Report.{round_line}
-use Rattle.trace_report.proofs.Printing.{then, reads}
+use Rattle.trace_report.proofs.Printing.{nothing, reads, then}
 use Rattle.trace_report.proofs.Each.{lines_next}
 use Rattle.trace_report.proofs.rounds.put_rounds.Goals as goal
+
+pub loop-round-init : goal.loop-round-init
+loop-round-init g c = nothing (g.S.Sink.page c.args.out.now)
 
 pub loop-round-preserved : goal.loop-round-preserved
 loop-round-preserved g c =

@@ -1,5 +1,4 @@
-use Rattle.std.proofs.Common.{◌≡◌, ◌∙◌, ◌<◌, None, Some, length, get_or, ap, sym, arith}
-use Rattle.std.specs.List.{slice_get}
+use Rattle.std.proofs.Common.{◌∙◌, ◌<◌, None, Some, length, ap, sym, arith}
 use Rattle.std.proofs.lemmas.Option.{slice_get-get_or}
 use Rattle.comm_makings.proofs.OfferLemmas.{wanted_more}
 use Rattle.comm_makings.proofs.creates.Offers.add_all.Goals as goal

@@ -8,4 +8,4 @@ returns-clause-right c =
     let names = rw count at (rw c.deref.ensures.value at c.bind.ensures) in
     rw (c.in_ok-push.ensures.items, c.in_ok-push-2.ensures.items)
     (right_added c.args.ranks.now c.args.views.now c.args.self.now.standings.items c.bind.new.standings.items c.args.self.now.values.items c.args.self.now.comms.items
-    c.args.self.now.next.items c.args.comm c.requires.right names c.requires.comm)
+    c.args.self.now.next.items c.args.self.now.inters.items c.args.comm c.requires.right names c.requires.comm)

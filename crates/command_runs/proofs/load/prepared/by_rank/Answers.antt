@@ -4,8 +4,8 @@ use Rattle.text_layouts.specs.declared.order.Order.{Order}
 use Rattle.command_runs.proofs.Ordered.{placed}
 use Rattle.command_runs.proofs.load.prepared.by_rank.Goals as goal
 
-pub in_order-requires : goal.in_order-requires
-in_order-requires c =
+pub placed-requires : goal.placed-requires
+placed-requires c =
     let names = c.in_ok-names.names.items in
     let order : IsOrder (numbers_of (map string_bytes names)) c.in_ok-order_of.field-0 =
     subst (λ (ns : List (String Global)). IsOrder (numbers_of (map string_bytes ns)) c.in_ok-order_of.field-0) c.deref.ensures.value c.in_ok-order_of.ensures in

@@ -1,8 +1,9 @@
-use Rattle.std.proofs.Common.{◌≡◌, ◌-◌, ◌^◌, ℕ, map, min, take, string_bytes}
+use Rattle.std.proofs.Common.{◌≡◌, ◌-◌, ◌^◌, ℕ, min, take}
+use Rattle.text_layouts.specs.Seats.{kept}
 use Rattle.command_runs.specs.TextCalls.{AllSay}
 use Rattle.command_runs.proofs.load.texts.calls_of_all.Given as goal
 
-abbrev pub invariant-loop-path : goal.invariant-loop-path
-invariant-loop-path g l = record {
-  say : (calls : ℕ) × AllSay (g.O.Opener.file l.files) (map string_bytes (take l.path-index l.texts)) l.ranks.items calls × (l.calls ≡ min calls (2 ^ 64 - 1));
+abbrev pub invariant-loop-seat : goal.invariant-loop-seat
+invariant-loop-seat g l = record {
+  say : (calls : ℕ) × AllSay (g.O.Opener.file l.files) (kept (take l.seat-index l.seats)) l.ranks.items calls × (l.calls ≡ min calls (2 ^ 64 - 1));
 }

@@ -1,10 +1,10 @@
-use Rattle.std.proofs.Common.{◌≡◌, ◌∙◌, ℕ, List, IsErrAnd, arith, inl, inr, refl, string_bytes, subst, sym}
+use Rattle.std.proofs.Common.{◌≡◌, ◌∙◌, ℕ, List, IsErrAnd, ap, arith, inl, inr, refl, string_bytes, subst, sym}
 use Rattle.std.proofs.KnownBytes.{Keeps-refl}
 use Rattle.std.specs.Io.KnownBytes.{Appends}
 use Rattle.command_line.specs.Program.{wish_of}
 use Rattle.command_runs.specs.InitFaults.{IsPutFault}
-use Rattle.command_runs.specs.Inits.{AreFilesOf, RefusesFiles}
-use Rattle.command_runs.specs.Prepared.{notes_of}
+use Rattle.command_runs.specs.Inits.{AreFilesOf, RefusesFiles, wished_form}
+use Rattle.command_runs.specs.Prepared.{Form, notes_of}
 use Rattle.command_runs.specs.Writing.{AppendsFront}
 use Rattle.command_runs.specs.declared.faults.init_fault.InitFault.{InitFault}
 use Rattle.command_runs.specs.declared.faults.init_fault.InitFault.TheVariants.{Memory}
@@ -18,7 +18,7 @@ pub returns-in_err-both : goal.returns-in_err-both
 returns-in_err-both g c =
     let made = c.in_ok-prepared.prepared.made in
     let of = c.in_ok-prepared.ensures.made in
-    let refuses : RefusesFiles made of.0.names c.in_err-both.field-0.0 = subst (λ (ns : List (List ℕ)). RefusesFiles made ns c.in_err-both.field-0.0) (sym of.1) c.in_err-both.ensures.err in
+    let refuses : RefusesFiles made c.in_err-both.field-0.0 = c.in_err-both.ensures.err in
     made_refused _ _ (wish_of c.args.wanted) _ _ c.from_residual-in_err-both.result c.in_err-both.field-0.0 g.W.Write.written g.W.Write.failures c.args.out.now made of.0 c.from_residual-in_err-both.ensures.1 refuses
 
 pub returns-in_err-layout : goal.returns-in_err-layout
@@ -42,10 +42,11 @@ returns-in-Ok g c =
     let made = c.in_ok-prepared.prepared.made in
     let of = c.in_ok-prepared.ensures.made in
     let both = c.in_ok-both.both in
-    let are : AreFilesOf made of.0.names both.layout.items both.manifest.items =
-    subst (λ (ns : List (List ℕ)). AreFilesOf made ns both.layout.items both.manifest.items) (sym of.1) c.in_ok-both.ensures.ok in
-    let wrote : Appends (g.W.Write.written c.args.out.now) (g.W.Write.written c.write_all.new.writer) (notes_of made of.0) =
-    subst (λ (t : List ℕ). Appends (g.W.Write.written c.args.out.now) (g.W.Write.written c.write_all.new.writer) t) (c.deref.ensures.value ∙ of.2) c.in-Ok.ensures.ok in
+    let form = wished_form (wish_of c.args.wanted) in
+    let said : c.in_ok-prepared.prepared.notes.items ≡ notes_of form made of.0 = of.1 ∙ ap (λ (f : Form). notes_of f made of.0) c.saying_of-saying.ensures in
+    let are : AreFilesOf made both.layout.items both.manifest.items = c.in_ok-both.ensures.ok in
+    let wrote : Appends (g.W.Write.written c.args.out.now) (g.W.Write.written c.write_all.new.writer) (notes_of form made of.0) =
+    subst (λ (t : List ℕ). Appends (g.W.Write.written c.args.out.now) (g.W.Write.written c.write_all.new.writer) t) (c.deref.ensures.value ∙ said) c.in-Ok.ensures.ok in
     (made, of.0, record { layout = both.layout.items; manifest = both.manifest.items; are = are; kept = c.in_default.ensures.ok }, wrote)
 
 pub returns : goal.returns
@@ -53,10 +54,11 @@ returns g c =
     let made = c.in_ok-prepared.prepared.made in
     let of = c.in_ok-prepared.ensures.made in
     let both = c.in_ok-both.both in
-    let are : AreFilesOf made of.0.names both.layout.items both.manifest.items =
-    subst (λ (ns : List (List ℕ)). AreFilesOf made ns both.layout.items both.manifest.items) (sym of.1) c.in_ok-both.ensures.ok in
-    let front : AppendsFront (g.W.Write.written c.args.out.now) (g.W.Write.written c.write_all.new.writer) (notes_of made of.0) =
-    subst (λ (t : List ℕ). AppendsFront (g.W.Write.written c.args.out.now) (g.W.Write.written c.write_all.new.writer) t) (c.deref.ensures.value ∙ of.2)
+    let form = wished_form (wish_of c.args.wanted) in
+    let said : c.in_ok-prepared.prepared.notes.items ≡ notes_of form made of.0 = of.1 ∙ ap (λ (f : Form). notes_of f made of.0) c.saying_of-saying.ensures in
+    let are : AreFilesOf made both.layout.items both.manifest.items = c.in_ok-both.ensures.ok in
+    let front : AppendsFront (g.W.Write.written c.args.out.now) (g.W.Write.written c.write_all.new.writer) (notes_of form made of.0) =
+    subst (λ (t : List ℕ). AppendsFront (g.W.Write.written c.args.out.now) (g.W.Write.written c.write_all.new.writer) t) (c.deref.ensures.value ∙ said)
     (c.in-Err-write_all.field-0.written, c.in-Err-write_all.ensures.part, c.in-Err-write_all.ensures.err) in
     inr (inr (
       refl,
@@ -64,6 +66,6 @@ returns g c =
         made,
         of.0,
         record { layout = both.layout.items; manifest = both.manifest.items; are = are; kept = c.in_default.ensures.ok },
-        ((notes_of made of.0, refl, front), grind (arith, c.in-Err-write_all.ensures.failures.1)),
+        ((notes_of form made of.0, refl, front), grind (arith, c.in-Err-write_all.ensures.failures.1)),
       ),
     ))

@@ -1,14 +1,6 @@
-use Rattle.std.proofs.Common.{◌++◌, ◌∙◌, List, ap}
-use Rattle.std.specs.Prelude.{string_bytes}
-use Rattle.json.specs.Token.{Token}
-use Rattle.run_files.proofs.Putting.{all_pieces, one, piece_more, reads, so_far, then}
+use Rattle.run_files.specs.Values.{piece_value}
+use Rattle.run_files.proofs.Putting.{one, reads, so_far, then, whole_array}
 use Rattle.run_files.proofs.write.manifest.put_pieces.Goals as goal
 
-pub loop-rank-preserved : goal.loop-rank-preserved
-loop-rank-preserved c =
-    let both = then {old = c.args.out.now} {mid = c.loop-rank.out} {new = c.put_piece.new.out} (so_far {old = c.args.out.now} {new = c.loop-rank.out} c.loop-rank.invariant.before c.loop-rank.invariant.put) c.in_ok-put_piece.ensures in
-    let more = piece_more string_bytes c.args.files.now c.loop-rank.rank c.index-files-rank.result c.as_str.result.now c.loop-rank-test.true c.index-files-rank.is c.as_str.ensures.value in
-    record { before = both.before; put = both.put ∙ ap (λ (ts : List Token). c.args.out.now.tokens ++ ts) more }
-
 pub returns : goal.returns
-returns c = reads (then (so_far c.loop-rank.invariant.before c.loop-rank.invariant.put) (one c.end_array.ensures)) (all_pieces string_bytes c.args.files.now c.loop-rank.rank c.loop-rank-test.false)
+returns c = reads (then (so_far c.loop-text.invariant.before c.loop-text.invariant.put) (one c.end_array.ensures)) (whole_array piece_value c.args.texts.now c.loop-text.text-index c.loop-text-test.false)

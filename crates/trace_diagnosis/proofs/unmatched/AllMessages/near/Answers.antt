@@ -8,5 +8,5 @@ pub returns : goal.returns
 returns c =
     let is = IsNearMessage c.args.q.now in
     let nothing = subst (λ (l : List NearMessage). All is l) (sym c.new-near.ensures.items) (All-nil is) in
-    c.in_ok-push_messages-5.ensures (c.in_ok-push_taken-2.ensures (c.in_ok-push_taken.ensures
-    (c.in_ok-push_messages-4.ensures (c.in_ok-push_messages-3.ensures (c.in_ok-push_messages-2.ensures (c.in_ok-push_messages.ensures nothing))))))
+    c.in_ok-push_messages.ensures (c.in_ok-push_postponed.ensures (c.in_ok-push_taken.ensures (c.in_ok-push_near_messages-4.ensures
+    (c.in_ok-push_near_messages-3.ensures (c.in_ok-push_near_messages-2.ensures (c.in_ok-push_near_messages.ensures nothing))))))

@@ -8,4 +8,5 @@ pub returns : goal.returns
 returns c =
     let is = IsNearReceive c.args.m.now in
     let nothing = subst (λ (l : List NearReceive). All is l) (sym c.new-near.ensures.items) (All-nil is) in
-    c.in_ok-push_receives-5.ensures (c.in_ok-push_receives-4.ensures (c.in_ok-push_receives-3.ensures (c.in_ok-push_receives-2.ensures (c.in_ok-push_receives.ensures nothing))))
+    c.in_ok-push_idle.ensures (c.in_ok-push_near_receives-4.ensures (c.in_ok-push_near_receives-3.ensures
+    (c.in_ok-push_near_receives-2.ensures (c.in_ok-push_near_receives.ensures nothing))))

@@ -1,4 +1,4 @@
-use Rattle.std.proofs.Common.{◌≡◌, ◌∙◌, ap, List, count_by, nat_lt, subst, sym}
+use Rattle.std.proofs.Common.{◌∙◌, ap, List, count_by, nat_lt, subst, sym}
 use Rattle.std.specs.List.Sorted.{IsNonDecreasingBy}
 use Rattle.std.proofs.lemmas.List.Kept.{IsNonDecreasingBy-filter}
 use Rattle.std.specs.Prelude.{◌==◌}

@@ -1,0 +1,4 @@
+pub mod BothEnds
+pub mod Ordered
+pub mod Own
+pub mod TwoRows

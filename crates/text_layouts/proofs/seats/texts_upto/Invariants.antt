@@ -1,0 +1,9 @@
+use Rattle.std.proofs.Common.{◌≡◌, length, map, string_bytes}
+use Rattle.text_layouts.specs.Seats.{kept, texts_upto}
+use Rattle.text_layouts.proofs.seats.texts_upto.Given as goal
+
+abbrev pub invariant-loop-rank : goal.invariant-loop-rank
+invariant-loop-rank l = record {
+  texts : kept l.seats.items ≡ texts_upto l.numbers (map string_bytes l.names) l.rank;
+  count : length l.seats.items ≡ l.rank;
+}
