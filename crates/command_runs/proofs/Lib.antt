@@ -4,7 +4,6 @@ pub mod AnyOrder
 pub mod ByPlace
 pub mod ByRank
 pub mod Ended
-pub mod Endings
 pub mod GivenFacts
 pub mod Looks
 pub mod Nodes

@@ -1,4 +1,4 @@
--- `init`: how it ran, and how the program ends; and texts that are no files.
+-- `init`: how it ran; and texts that are no files.
 use Rattle.std.specs.Prelude.{◌≡◌, ◌⊎◌, ℕ, Bool, true, false, List, [], Option, Result, Ok, Err, string_bytes, Contains, None, if◌then◌else◌}
 use Rattle.std.specs.Io.KnownBytes.{Appends, Keeps}
 use Rattle.command_line.specs.Program.{Wish}
@@ -10,7 +10,6 @@ use Rattle.text_layouts.specs.declared.made.Made.{Made}
 use Rattle.command_runs.specs.InitFaults.{IsPutFault, init_fault_line_of}
 use Rattle.command_runs.specs.Prepared.{Form, IsMadeOf, RefusesWords, as_json, as_words, notes_of}
 use Rattle.command_runs.specs.Writing.{BreaksOff}
-use Rattle.command_runs.specs.declared.ending.Ending.{Ending}
 use Rattle.command_runs.specs.declared.faults.init_fault.InitFault.{InitFault}
 use Rattle.command_runs.specs.declared.faults.init_fault.InitFault.TheVariants as faults
 
@@ -81,13 +80,3 @@ RanInit file words wish old new failed (Err fault) written failures before after
     × Keeps (written before) (written after))
     ⊎ ((fault ≡ faults.Write) × ((made : Made) × (is : IsMadeOf file wish.sends words made) × KeepsMade wish made old new
     × BreaksOff (λ text. text ≡ notes_of (wished_form wish) made is) written failures before after)))
-
--- the ending after such a run of `init`
-abbrev pub IsEndedInit : Result (Unit {0}) InitFault → Ending → Type 0
-IsEndedInit (Ok done) e = (e.status ≡ 0) × (string_bytes e.errors ≡ [])
-IsEndedInit (Err fault) e = (e.status ≡ 1) × (string_bytes e.errors ≡ init_fault_line_of fault)
-
--- `init` ends so.
-abbrev pub EndsInit : {W : Type 0} → (List ℕ → Option (List ℕ)) → List (List ℕ) → Wish → Option Files → Option Files → Type 0 → (W → Option (List ℕ)) → (W → ℕ) → W → W → Ending → Type 0
-EndsInit file words wish old new failed written failures before after e = (ran : Result (Unit {0}) InitFault) × IsEndedInit ran e
-    × RanInit file words wish old new failed ran written failures before after

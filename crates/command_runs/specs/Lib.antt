@@ -1,7 +1,6 @@
 pub mod Advice
 pub mod CheckJson
 pub mod Clusters
-pub mod Endings
 pub mod Explains
 pub mod FaultLines
 pub mod FileNames

@@ -1,16 +1,19 @@
-//! From the words of the command line to what mpimatch prints and how it ends.
+//! What each verb does over a layout, a manifest and the files of its pieces, up to the diagnosis.
 //!
 //! The input of a run is loaded once, in one place: a layout and a manifest, from their files or made of the texts of
 //! all ranks. A verb is a function of a [`Run`], which has both and the files of the manifest's pieces, and of the
-//! output. `report` reads the pieces, joins them into one knowledge, and writes its answer; `check` makes it once more
-//! straight from the rules (`trace_check`), `calls` and `timeline` print every call with its partner (`call_table`),
-//! `explain`, `graph` and `page` tell what holds up the run (`trace_diagnosis`) in words, as JSON and as a picture
-//! (`diagnosis_words`), and as a page (`page_words`); `pack` writes what the pieces tell as bytes. `replay` runs the
-//! manifest's schedule over nodes that exchange what they know (`trace_world`), and `cluster` lets two nodes read their
-//! pieces and exchange what they know over a socket (`trace_cluster`). `init` writes the layout and the manifest that
-//! are made of texts. Nothing is written before the whole run is good; `calls` and `timeline`, whose output may be
-//! longer than what is known, write it while they read the pieces a second time. Files come from an [`Opener`], so that
-//! a run can be proved and tested over files in memory; the program opens those of the system.
+//! output. [`report`] reads the pieces, joins them into one knowledge, and writes its answer; [`check`] makes it once
+//! more straight from the rules (`trace_check`), [`calls`] and [`timeline`] print every call with its partner
+//! (`call_table`); [`pack`] writes what the pieces tell as bytes. [`replay`] runs the manifest's schedule over nodes
+//! that exchange what they know (`trace_world`), and [`cluster`] lets two nodes read their pieces and exchange what
+//! they know over a socket (`trace_cluster`). [`init`] writes the layout and the manifest that are made of texts.
+//! Nothing is written before the whole run is good; `calls` and `timeline`, whose output may be longer than what is
+//! known, write it while they read the pieces a second time. Files come from an [`Opener`], so that a run can be proved
+//! and tested over files in memory; the program opens those of the system.
+//!
+//! `explain`, `graph` and `page`, which tell what holds up a run, stand above this crate, in `program_runs`, beside
+//! what the words of the command line ask for and how the program ends. Here is the node that they begin with
+//! ([`noted_node`]), and in `specs/Verbs.antt` what they print.
 //!
 //! The work is linear in the texts, but for the joins of their pieces (`trace_know`) and the answer
 //! (`trace_node`). Memory holds what is known and the events of one piece; that of a replay also all
@@ -18,15 +21,14 @@
 //! texts, what packed files tell, and a copy of each node.
 //!
 //! ```text
-//! ending_of ─▶ input_at ─────────▶ a layout and a manifest ─▶ run_with ─▶ a verb ─▶ pieces ─▶ texts, packed files
-//!   words      files, or texts                                             │
-//!                                                                          ▼ output, or a fault
+//! input_at ─────────▶ a layout and a manifest ─▶ a verb ─▶ pieces ─▶ texts, packed files
+//! files, or texts                                  │
+//!                                                  ▼ output, or a fault
 //! ```
 //!
 //! To change something, open:
 //!
-//! - how the program ends: its status, what it shows: `src/ending.rt`, `specs/Endings.antt`
-//! - what a verb prints, and why it is refused: `specs/Verbs.antt`; [`run`], and the verb's file in [`verbs`]
+//! - what a verb prints, and why it is refused: `specs/Verbs.antt`; the verb's file in [`verbs`]
 //! - where the input comes from: files ([`load::input`]), or texts ([`load::prepared`], [`load::texts`]):
 //!   `specs/Inputs.antt`, `Prepared.antt`, `TextCalls.antt`
 //! - when files are texts ([`load::first_look`]), and what is looked at twice ([`load::second_look`]):
@@ -49,8 +51,6 @@
 //!
 //! # Choices
 //!
-//! - A run first asks for a block of 31 MB and gives it back (`keep_freed_memory`), so the C library keeps freed lists
-//!   of up to that size, where each fresh page is a fault. No contract and no test but the clock shows it.
 //! - A report of texts reads rank by rank: an answer needs what ranks did, so events go before the next rank is read.
 //!   In another order a refused run may read twice, and with a pipe all is joined first.
 //! - The value below C2 comes from a second look, so no fault on the way of each call owns text. N1 keeps the first
@@ -66,19 +66,40 @@
 //! `crates/command_runs_tests` has what only files in memory show.
 #![tactic(auto)]
 
-mod ending;
 mod faults;
 mod load;
 mod pieces;
 mod run;
 mod verbs;
 
-pub use ending::{Ending, ending_of, ending_without_words};
+pub use faults::advice::{is_in_words, shown_fault};
 pub use faults::fault::{RunFault, fault_line};
-pub use load::input::input_at;
+pub use faults::file_name::FileName;
+pub use faults::init_advice::shown_init_fault;
+pub use faults::init_fault::{InitFault, init_fault_line};
+pub use load::beside::Beside;
+pub use load::first_look::begins_as_text;
+pub use load::folders::{borrowed, with_folders};
+pub use load::input::{has_rank, input_at};
+pub use load::no_text::no_text_of;
 pub use load::opener::{Disk, OpenFault, Opener};
+pub use load::prepared::{Prepared, Saying, prepare};
 pub use load::reason::Reason;
+pub use load::second_look::reopened;
+pub use load::telling::tell;
 pub use load::terminal::Terminal;
 pub use load::watch::{Unwatched, Watcher};
 pub use pieces::laws::packed_laws;
-pub use run::{Outcome, Run, run_with};
+pub use run::{Outcome, Run};
+pub use verbs::answerer::Answerer;
+pub use verbs::calls::calls;
+pub use verbs::check::check;
+pub use verbs::check_json::check_as_json;
+pub use verbs::cluster::cluster;
+pub use verbs::init::init;
+pub use verbs::node::noted_node;
+pub use verbs::pack::pack;
+pub use verbs::replay::replay;
+pub use verbs::report::{report, report_as_json};
+pub use verbs::timeline::timeline;
+pub use verbs::writing::write_text;

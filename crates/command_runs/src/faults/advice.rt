@@ -183,7 +183,7 @@ fn advised(alloc: Global, fault: &RunFault, found: &Found) -> Result<String, All
 }
 
 /// What is shown of a fault: its line, and where that is to be in words, what was found of the file that it names.
-pub(crate) fn shown_fault<O: Opener>(
+pub fn shown_fault<O: Opener>(
     alloc: Global,
     in_words: bool,
     fault: &RunFault,

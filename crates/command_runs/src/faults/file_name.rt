@@ -9,7 +9,8 @@ use std::fmt;
 /// on one line and can't control a terminal.
 #[derive(Clone, Copy)]
 pub struct FileName<'a> {
-    name: &'a str,
+    /// As the command line or a manifest spells it.
+    pub name: &'a str,
 }
 
 impl<'a> FileName<'a> {

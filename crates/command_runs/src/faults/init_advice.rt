@@ -87,7 +87,7 @@ fn in_words(alloc: Global, fault: &InitFault, found: &Found) -> Result<String, A
 
 /// What a verb shows of a fault of texts: its line, and in words, where the verb answers so, what was found of the text
 /// that it names.
-pub(crate) fn shown_init_fault<O: Opener>(
+pub fn shown_init_fault<O: Opener>(
     alloc: Global,
     verb: Verb,
     fault: &InitFault,

@@ -17,7 +17,7 @@ use text_notes::Start;
 /// Why no layout is made of the texts of all ranks, or why it isn't written. Each fault names its files as the command
 /// line spells them.
 #[derive(Drop)]
-pub(crate) enum InitFault {
+pub enum InitFault {
     Memory,
     /// A text can't be opened or read, or it is refused as `report` refuses it.
     Text(RunFault),
@@ -182,7 +182,7 @@ impl fmt::Display for InitFault {
 }
 
 /// The line for standard error, with its line feed.
-pub(crate) fn init_fault_line(alloc: Global, fault: &InitFault) -> Result<String, AllocError>
+pub fn init_fault_line(alloc: Global, fault: &InitFault) -> Result<String, AllocError>
     ensures { IfOk result (λ line. string_bytes line ≡ init_fault_line_of fault.now) }
 {
     format!(in alloc; "mpimatch: {fault}\n")

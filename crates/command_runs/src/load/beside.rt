@@ -11,9 +11,10 @@ use std::alloc::{AllocError, Global};
 /// The files that a manifest names: a name that no file has from the folder in which mpimatch runs is looked for beside
 /// the manifest. Of those that are found there nothing tells the bytes.
 #[derive(Drop)]
-pub(crate) struct Beside<'f, 'n, O: Opener> {
+pub struct Beside<'f, 'n, O: Opener> {
     alloc: Global,
-    files: &'f O,
+    /// The files, by their names as they stand.
+    pub files: &'f O,
     manifest: &'n str,
 }
 
@@ -22,7 +23,7 @@ impl<'f, 'n, O: Opener> Beside<'f, 'n, O> {
     ghost use Rattle.command_runs.specs.Files.{IsLength, StandsAtFirst};
 
     /// These files, and those beside a manifest of this name.
-    pub(crate) fn new(alloc: Global, files: &'f O, manifest: &'n str) -> Self
+    pub fn new(alloc: Global, files: &'f O, manifest: &'n str) -> Self
         ensures { result.files.now ≡ files.now }
     {
         Beside {

@@ -48,7 +48,7 @@ fn look_at<R: Read>(reader: R) -> Result<bool, Failed>
 /// Whether the file begins as the text of a trace, where that can be looked at: what comes through a
 /// pipe would be gone.
 #[tactic(auto, using(crate::proofs::Looks::begins_told))]
-pub(crate) fn begins_as_text<O: Opener>(path: &str, files: &O) -> bool
+pub fn begins_as_text<O: Opener>(path: &str, files: &O) -> bool
     ensures told { IsTrue result → BeginsAsText (O.file files.now path.now) }
 {
     let Some(reader) = reopened(path, files) else {

@@ -110,7 +110,7 @@ fn add_all(alloc: Global, names: &mut Vec<String>, more: &[String]) -> Result<()
 }
 
 /// The names for which the words stand, in their order: of a folder the texts in it, else the word itself.
-pub(crate) fn with_folders<O: Opener>(
+pub fn with_folders<O: Opener>(
     alloc: Global,
     words: &[&str],
     files: &O,
@@ -127,7 +127,7 @@ pub(crate) fn with_folders<O: Opener>(
 }
 
 /// The names, as words are passed.
-pub(crate) fn borrowed<'a>(alloc: Global, names: &'a [String]) -> Result<Vec<&'a str>, AllocError>
+pub fn borrowed<'a>(alloc: Global, names: &'a [String]) -> Result<Vec<&'a str>, AllocError>
     ensures { IfOk result (λ lent. texts_of lent.items ≡ map string_bytes names.now) }
 {
     let mut lent = Vec::with_capacity(alloc, names.len())?;

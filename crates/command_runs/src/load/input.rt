@@ -35,7 +35,7 @@ pub fn input_at<O: Opener>(
 }
 
 /// Whether the layout has the rank that is asked for, where one is.
-pub(crate) fn has_rank(rank: Option<u32>, layout: &Layout) -> Result<(), RunFault>
+pub fn has_rank(rank: Option<u32>, layout: &Layout) -> Result<(), RunFault>
     ensures ok { OnOk result (HasRank rank layout.now) }
     ensures err { IfErr result (λ fault. (fault ≡ RunFault.Outside) × LacksRank rank layout.now) }
 {

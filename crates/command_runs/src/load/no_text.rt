@@ -68,7 +68,7 @@ fn no_text_at<O: Opener>(
 }
 
 /// Why the first of these files that isn't empty is no text.
-pub(crate) fn no_text_of<O: Opener>(
+pub fn no_text_of<O: Opener>(
     alloc: Global,
     names: &[&str],
     files: &O,

@@ -21,7 +21,7 @@ use text_layouts::{
 
 /// How it is said what was found in texts.
 #[derive(Clone, Copy)]
-pub(crate) enum Saying<'a> {
+pub enum Saying<'a> {
     /// In words for a person.
     Words,
     /// As JSON, with the names of the files for the layout and the manifest.
@@ -30,14 +30,14 @@ pub(crate) enum Saying<'a> {
 
 /// The input of a run that was made of texts.
 #[derive(Drop)]
-pub(crate) struct Prepared {
-    pub(crate) made: Made,
+pub struct Prepared {
+    pub made: Made,
     /// The ranks that have no text.
-    pub(crate) missing: Vec<u32>,
+    pub missing: Vec<u32>,
     /// What was found in the texts and what is left out, as it is to be said.
-    pub(crate) notes: Vec<u8>,
+    pub notes: Vec<u8>,
     /// How many calls the texts have, up to 2^64 - 1.
-    pub(crate) calls: u64,
+    pub calls: u64,
 }
 
 /// Copies of the words, as names that faults may keep.
@@ -158,7 +158,7 @@ fn prepared_by(
 
 /// The input of the run of these texts, rank 0 first, or by the digits at the ends of their names where those are 0 to
 /// n - 1. Each text is read once, and once more where some rank has none: then the digits tell the ranks.
-pub(crate) fn prepare<O: Opener>(
+pub fn prepare<O: Opener>(
     alloc: Global,
     saying: Saying<'_>,
     sends: Sends,

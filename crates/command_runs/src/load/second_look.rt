@@ -10,7 +10,7 @@ use std::alloc::Global;
 use text_notes::{Start, start_of, value_at};
 
 /// A file is opened a second time only where it has a length: what came through a pipe is gone.
-pub(crate) fn reopened<O: Opener>(path: &str, files: &O) -> Option<O::R>
+pub fn reopened<O: Opener>(path: &str, files: &O) -> Option<O::R>
     ensures told { IfSome result (λ reader. StandsAtFirst (O.file files.now path.now) (O.R.left reader)) }
 {
     if files.length(path).is_none() {

@@ -43,7 +43,7 @@ fn told_of(alloc: Global, verbosity: Verbosity, prepared: &Prepared) -> Result<V
 }
 
 /// Shows on standard error what is told of the texts. That it can't be shown changes nothing.
-pub(crate) fn tell<R: Eprint>(
+pub fn tell<R: Eprint>(
     rt: &R,
     alloc: Global,
     verbosity: Verbosity,

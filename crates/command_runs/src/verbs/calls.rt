@@ -168,7 +168,7 @@ fn write_ranks<O: Opener, W: Write>(
 
 /// Writes every call with its partner, by rank and number. A piece that was read before and is refused when it is read
 /// again ends the output where it stands.
-pub(crate) fn calls<O: Opener, V: Watcher, W: Write>(
+pub fn calls<O: Opener, V: Watcher, W: Write>(
     form: TableForm,
     run: &Run<'_, O>,
     watcher: &mut V,

@@ -21,7 +21,7 @@ use trace_check::Checker;
 use trace_know::join_laws;
 
 /// Writes the two lines of a check, and looks whether both say that it held.
-pub(crate) fn check<O: Opener, V: Watcher, W: Write>(
+pub fn check<O: Opener, V: Watcher, W: Write>(
     run: &Run<'_, O>,
     watcher: &mut V,
     out: &mut W,

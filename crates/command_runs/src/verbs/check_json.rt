@@ -109,7 +109,7 @@ fn check_json(alloc: Global, lines: &[u8], held: bool) -> Result<Vec<u8>, AllocE
 }
 
 /// Writes a check as one JSON object.
-pub(crate) fn check_as_json<O: Opener, V: Watcher, W: Write>(
+pub fn check_as_json<O: Opener, V: Watcher, W: Write>(
     run: &Run<'_, O>,
     watcher: &mut V,
     out: &mut W,

@@ -95,7 +95,7 @@ fn saying_of<'a>(wanted: Wanted<'a>) -> Saying<'a>
 }
 
 /// Makes both files of the texts, keeps them, and prints what was found.
-pub(crate) fn init<O: Opener, S: Store, W: Write>(
+pub fn init<O: Opener, S: Store, W: Write>(
     alloc: Global,
     texts: &[&str],
     wanted: Wanted<'_>,

@@ -20,7 +20,7 @@ use trace_know::Knowledge;
 use trace_wire::{WireFault, write_frames};
 
 /// Writes what the pieces tell as frames, which [`read_frames`](trace_wire::read_frames) gives back.
-pub(crate) fn pack<O: Opener, V: Watcher, W: Write>(
+pub fn pack<O: Opener, V: Watcher, W: Write>(
     run: &Run<'_, O>,
     watcher: &mut V,
     out: &mut W,

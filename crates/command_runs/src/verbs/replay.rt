@@ -25,7 +25,7 @@ use trace_report::write_report;
 use trace_world::{Step, World, WorldFault, states_refuse};
 
 /// Writes, for each node that the schedule leaves, its line and its report.
-pub(crate) fn replay<O: Opener, V: Watcher, W: Write>(
+pub fn replay<O: Opener, V: Watcher, W: Write>(
     run: &Run<'_, O>,
     watcher: &mut V,
     out: &mut W,

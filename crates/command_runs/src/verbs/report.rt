@@ -15,7 +15,7 @@ use mpi_model::Write;
 use trace_report::{write_json, write_report};
 
 /// Writes the report.
-pub(crate) fn report<O: Opener, V: Watcher, W: Write>(
+pub fn report<O: Opener, V: Watcher, W: Write>(
     run: &Run<'_, O>,
     watcher: &mut V,
     out: &mut W,
@@ -31,7 +31,7 @@ pub(crate) fn report<O: Opener, V: Watcher, W: Write>(
 }
 
 /// Writes the same report as one JSON object.
-pub(crate) fn report_as_json<O: Opener, V: Watcher, W: Write>(
+pub fn report_as_json<O: Opener, V: Watcher, W: Write>(
     run: &Run<'_, O>,
     watcher: &mut V,
     out: &mut W,

@@ -262,7 +262,7 @@ fn write_events<O: Opener, W: Write>(
 
 /// Writes the calls of all ranks in time, as far as they are shown. A piece that was read before and is refused when it
 /// is read again ends the output where it stands.
-pub(crate) fn timeline<O: Opener, V: Watcher, W: Write>(
+pub fn timeline<O: Opener, V: Watcher, W: Write>(
     cut: command_line::Window,
     run: &Run<'_, O>,
     watcher: &mut V,

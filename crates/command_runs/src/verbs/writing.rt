@@ -22,7 +22,7 @@ pub(crate) fn write_piece<W: Write>(piece: &[u8], out: &mut W) -> Result<(), Fai
 }
 
 /// Writes a text that is the whole output of a run.
-pub(crate) fn write_text<W: Write>(text: &[u8], out: &mut W) -> Result<Outcome, RunFault>
+pub fn write_text<W: Write>(text: &[u8], out: &mut W) -> Result<Outcome, RunFault>
     ensures ok { IfOk result (λ outcome. (outcome ≡ Outcome.Good) × Appends (W.written out.old) (W.written out.new) text.now) }
     ensures err { IfErr result (λ fault. (fault ≡ RunFault.Write) × BreaksOff (λ t. t ≡ text.now) W.written W.failures out.old out.new) }
 {
