@@ -9,7 +9,7 @@ pub mod Looks
 pub mod Nodes
 pub mod Notes
 pub mod OneByOne
-pub mod Prepared
+pub mod Preparing
 pub mod Opening
 pub mod Ordered
 pub mod OwnOps

@@ -2,9 +2,9 @@
 
 use crate::source::Source;
 use call_words::Text;
+use diagnosis_value::{Beyond, Stand, Standing};
 use std::alloc::{AllocError, Global};
 use std::collections::BTreeMap;
-use trace_diagnosis::{Beyond, Stand, Standing};
 
 /// Ranks that stand alike: in or after calls of one function on one object in one round, from one place of the program.
 #[derive(Drop)]

@@ -13,6 +13,7 @@ use crate::facts::{add_places, facts_of};
 use call_words::Text;
 use command_line::Extent;
 use command_runs::{Answerer, Opener, Outcome, Run, RunFault, Watcher, noted_node, write_text};
+use diagnosis_value::Diagnosis;
 use diagnosis_words::{
     TextFacts, answer_doubts, diagnosis_json, diagnosis_picture, diagnosis_words, last_calls,
     rank_words,
@@ -20,7 +21,7 @@ use diagnosis_words::{
 use mpi_model::{Layout, Write};
 use std::alloc::{AllocError, Global};
 use text_notes::{TextNote, put_notes, put_pieceless};
-use trace_diagnosis::{Diagnosis, diagnose};
+use trace_diagnosis::diagnose;
 use trace_know::Knowledge;
 use trace_node::Answer;
 

@@ -2,12 +2,12 @@
 
 use crate::arguments::add_arguments;
 use command_runs::{Opener, reopened};
+use diagnosis_value::Diagnosis;
 use diagnosis_words::{TextFacts, argument_calls, named_calls};
 use std::alloc::{AllocError, Global};
 use std::collections::BTreeSet;
 use text_notes::{Look, TextNote, look_at};
 use trace_arguments::CallsTold;
-use trace_diagnosis::Diagnosis;
 
 /// The numbers, among the calls of a text, of those that are named.
 fn wanted_in(
