@@ -139,9 +139,10 @@ ends_a_cut BadStamp = true
 ends_a_cut Truncated = true
 ends_a_cut _ = false
 
--- a text is refused for such a line
+-- a text is refused for such a line, or for a call that lacks a parameter, as where a text was cut off between two lines
 abbrev pub says_cut : InitFault → Bool
 says_cut (Text (runs.Text (Line fault) path line)) = ends_a_cut fault
+says_cut (Text (runs.Missing parameter path line)) = true
 says_cut _ = false
 
 -- One of these words names a text whose bytes aren't known, because its file can't be read twice.
@@ -149,8 +150,8 @@ abbrev pub NamesPiped : (List ℕ → Option (List ℕ)) → List (List ℕ) →
 NamesPiped file words (Piped path) = Contains words (string_bytes path) × (file (string_bytes path) ≡ None)
 NamesPiped file words _ = ⊥
 
--- Why nothing is made of texts that may have been cut off: of one that is read whole, for no line with which it may
--- have been cut off; or one can't be read again; or of what is kept of them; or one can't be looked at.
+-- Why nothing is made of texts that may have been cut off: of one that is read whole, for nothing with which it may have
+-- been cut off; or one can't be read again; or of what is kept of them; or one can't be looked at.
 abbrev pub RefusesTexts : (List ℕ → Option (List ℕ)) → List (List ℕ) → InitFault → Type 0
 RefusesTexts file words fault = (RefusesWords file words fault × (says_cut fault ≡ false))
     ⊎ (NamesPiped file words fault

@@ -58,7 +58,8 @@ fn ends_a_cut(fault: LineFault) -> bool
     }
 }
 
-/// Whether a text is refused for a line in which it may have been cut off.
+/// Whether a text is refused for a line in which it may have been cut off, or for a call that lacks a parameter: a text
+/// that was cut off between two lines may end in such a call.
 fn says_cut(fault: &InitFault) -> bool
     ensures { result ≡ says_cut fault.now }
 {
@@ -69,6 +70,7 @@ fn says_cut(fault: &InitFault) -> bool
                 ..
             },
         ) => ends_a_cut(*fault),
+        InitFault::Text(RunFault::Missing { .. }) => true,
         _ => false,
     }
 }
