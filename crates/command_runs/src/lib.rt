@@ -80,7 +80,7 @@ pub use faults::file_name::FileName;
 pub use faults::init_advice::shown_init_fault;
 pub use faults::init_fault::{InitFault, init_fault_line};
 pub use load::beside::Beside;
-pub use load::cut_files::CutFiles;
+pub use load::cut_files::{CutFiles, CutText};
 pub use load::first_look::begins_as_text;
 pub use load::folders::{borrowed, with_folders};
 pub use load::front::Front;

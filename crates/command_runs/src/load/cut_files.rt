@@ -12,18 +12,20 @@ use std::alloc::Global;
 #[derive(Drop)]
 pub struct CutText {
     /// The name of its file.
-    pub(crate) file: String,
+    pub file: String,
     /// How many of its bytes are kept: some of its lines.
-    pub(crate) bytes: u64,
+    pub bytes: u64,
     /// Its last line.
-    pub(crate) line: u64,
+    pub line: u64,
 }
 
 /// Opens the files of a run. Of the texts that were cut off it gives what is kept.
 #[derive(Drop)]
 pub struct CutFiles<'a, O: Opener> {
-    pub(crate) files: &'a O,
-    pub(crate) cuts: Vec<CutText>,
+    /// All of them, as they stand.
+    pub files: &'a O,
+    /// The texts among them that were cut off.
+    pub cuts: Vec<CutText>,
 }
 
 /// The text of this name among those that were cut off.

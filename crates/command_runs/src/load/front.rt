@@ -8,8 +8,10 @@ use mpi_model::{Failed, Read};
 /// Gives what the inner reader gives, of so many bytes if there is a limit.
 #[derive(Drop)]
 pub struct Front<R: Read> {
-    inner: R,
-    limit: Option<u64>,
+    /// Gives all bytes.
+    pub inner: R,
+    /// How many of them are still given.
+    pub limit: Option<u64>,
 }
 
 impl<R: Read> Front<R> {
