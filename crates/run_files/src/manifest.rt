@@ -56,9 +56,8 @@ impl Piece {
     pub fn marked(&self, cut: bool) -> Result<Piece, AllocError>
         ensures { IfOk result (λ piece. piece ≡ marked cut self.now) }
     {
-        let mut piece = self.clone()?;
-        piece.cut = cut;
-        Ok(piece)
+        let file = self.file.clone()?;
+        Ok(Piece::new(self.rank, self.first, file, (self.node, self.worker), cut))
     }
 
     /// The rank whose calls they are.
