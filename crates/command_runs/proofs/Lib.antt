@@ -21,6 +21,7 @@ pub mod Reading
 pub mod Replaying
 pub mod Runs
 pub mod Seen
+pub mod SeenTexts
 pub mod Segments
 pub mod Sharing
 pub mod Stops

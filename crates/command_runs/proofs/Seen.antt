@@ -1,29 +1,37 @@
 -- What is kept of texts that may have been cut off.
-use Rattle.std.proofs.Common.{◌≡◌, ◌≢◌, ◌∙◌, ◌<◌, ◌-◌, ◌++◌, ◌⊎◌, ℕ, Bool, true, false, List, [], ◌∷◌, Option, Some, None, Contains, IfSome, inl, inr, ap, arith, cond, map, nat_lt, option_map, refl, string_bytes, subst, sym, take}
+use Rattle.std.proofs.Common.{◌≡◌, ◌≢◌, ◌∙◌, ◌<◌, ◌+◌, ◌-◌, ◌++◌, ◌⊎◌, ℕ, suc, Bool, true, false, Bor, List, [], ◌∷◌, Option, Some, None, Contains, IfSome, inl, inr, ap, arith, cond, drop, drop-cons, get_or, length, map, nat_lt, option_map, refl, string_bytes, subst, sym, take}
+use Rattle.std.proofs.lemmas.List.{take_more}
 use Rattle.std.proofs.lemmas.List.Elements.{Contains-append_left, Contains-push, Contains-push_cases}
 use Rattle.std.proofs.lemmas.Slice.Eq.{bytes_eq-Decides}
 use Rattle.std.specs.List.{AllByRecursion}
 use Rattle.std.specs.Prelude.{option_to_list}
 use Rattle.std.specs.Str.{bytes_eq}
+use Rattle.clap.specs.Words.{Text}
+use Rattle.command_line.specs.Program.{texts_of}
 use Rattle.dumpi_text.specs.Call.{TextCall}
 use Rattle.dumpi_text.specs.Grammar.{Complete, Ending, Meaning, Stopped, text_meaning}
 use Rattle.dumpi_text.specs.declared.fault.LineFault.{LineFault}
 use Rattle.dumpi_text.specs.declared.fault.LineFault.TheVariants as lines
 use Rattle.text_cuts.specs.Cuts.{CutAt, cut_by, cut_of, kept_by, lacking_before, lacking_in, lines_before}
 use Rattle.text_cuts.specs.Ends.{EndsSo}
-use Rattle.text_cuts.specs.Lines.{TellsLines, first_lines, missing_lines}
+use Rattle.text_cuts.specs.Lines.{TellsLines, bytes_of_lines, first_lines, missing_lines}
 use Rattle.text_cuts.specs.declared.end.TextEnd.{TextEnd}
 use Rattle.text_cuts.specs.declared.end.TextEnd.TheVariants.{Whole, Refused}
 use Rattle.text_cuts.specs.declared.lines.FirstLines.{FirstLines}
 use Rattle.command_runs.specs.Files.{IsLength, StandsAtFirst}
-use Rattle.command_runs.specs.Seen.{AreCutsOf, CutsInLine, CutsInStamp, EndsKnown, IsCutAt, KeepsBefore, KeepsLines, Sees, TellsCut, TellsKnown, front_of, kept_known, kept_lines, kept_of, kept_of_end, limit_in, seen_by}
+use Rattle.command_runs.specs.Inputs.{RefusesOpening}
+use Rattle.command_runs.specs.Seen.{AreCutsOf, CutsInLine, CutsInStamp, EndsKnown, IsCutAt, KeepsBefore, KeepsLines, RefusesLook, RefusesLooks, Sees, TellsCut, TellsKnown, front_of, kept_known, kept_lines, kept_of, kept_of_end, limit_in, seen_by}
+use Rattle.command_runs.specs.declared.faults.fault.RunFault.{RunFault}
 use Rattle.command_runs.specs.declared.load.cut_files.CutText.{CutText}
+use Rattle.command_runs.proofs.Folders.{text_at}
+use Rattle.command_runs.proofs.Ordered.{map_push}
 
 -- ---- one look
 
--- a reader at the first byte of a file gives its front
-front_left : (limit : Option ℕ) (bytes : List ℕ) (left : Option (List ℕ)) → left ≡ Some bytes → front_of limit left ≡ front_of limit (Some bytes)
-front_left limit bytes left is = ap (front_of limit) is
+-- a file that can't be opened can't be looked at
+pub look_unopened : (name : List ℕ) (file : Option (List ℕ)) (fault : RunFault) → RefusesOpening name file fault → RefusesLook name fault
+look_unopened name file fault (inl memory) = subst (λ (f : RunFault). RefusesLook name f) (sym memory) tt
+look_unopened name file fault (inr why) = subst (λ (f : RunFault). RefusesLook name f) (sym why.1) why.2
 
 pub ends_known : (dropped : Bool) (limit : Option ℕ) (file left : Option (List ℕ)) (end : TextEnd) → StandsAtFirst file left → EndsSo dropped (front_of limit left) end → EndsKnown dropped (front_of limit file) end
 ends_known dropped None None left end stands so = tt
@@ -49,12 +57,18 @@ kept_by_end : (text : List ℕ) (end : TextEnd) (before : ℕ) → EndsSo true (
 kept_by_end text (Whole lacking line) before so = ap (λ (o : Option ℕ). lines_before o before) (so.3 ∙ sym (lacking_by text so.0 (Complete so.1) so.2))
 kept_by_end text (Refused fault line) before so = ap (λ (o : Option ℕ). lines_before o before) (sym (lacking_by text so.0 (Stopped fault so.1) so.2))
 
-pub before_known : (line : ℕ) (file : Option (List ℕ)) (first : FirstLines) (end : TextEnd) → TellsKnown (line - 1) file first → EndsKnown true (front_of (Some first.bytes) file) end
-    → KeepsBefore line file (kept_of_end end (line - 1))
-before_known line None first end told so = tt
-before_known line (Some text) first end told so =
-    let front : take first.bytes text ≡ first_lines (line - 1) text = ap (λ (n : ℕ). take n text) told.0 in
+kept_in_front : (line : ℕ) (text : List ℕ) (first : FirstLines) (end : TextEnd) → first.bytes ≡ bytes_of_lines (line - 1) text → EndsSo true (Some (take first.bytes text)) end
+    → kept_of_end end (line - 1) ≡ kept_lines line text
+kept_in_front line text first end bytes so =
+    let front : take first.bytes text ≡ first_lines (line - 1) text = ap (λ (n : ℕ). take n text) bytes in
     kept_by_end (first_lines (line - 1) text) end (line - 1) (subst (λ (t : List ℕ). EndsSo true (Some t) end) front so)
+
+pub before_known : (line before kept : ℕ) (file : Option (List ℕ)) (first : FirstLines) (end : TextEnd) → before ≡ line - 1 → TellsKnown before file first → EndsKnown true (front_of (Some first.bytes) file) end
+    → kept ≡ kept_of_end end before → KeepsBefore line file kept
+before_known line before kept None first end less told so is = tt
+before_known line before kept (Some text) first end less told so is =
+    let bytes : first.bytes ≡ bytes_of_lines (line - 1) text = told.0 ∙ ap (λ (n : ℕ). bytes_of_lines n text) less in
+    is ∙ ap (kept_of_end end) less ∙ kept_in_front line text first end bytes so
 
 pub line_cut : (line kept : ℕ) (file : Option (List ℕ)) (cut : CutText) → KeepsBefore line file kept → KeepsLines kept line file cut → CutsInLine line file cut
 line_cut line kept None cut before keeps = tt
@@ -67,11 +81,12 @@ some_missing : (line missing : ℕ) (text : List ℕ) (cut : CutText) → 0 < mi
 some_missing line 0 text cut some keeps = absurd (omega (arith, some))
 some_missing line (suc missing) text cut some keeps = keeps
 
-pub stamp_cut : (line : ℕ) (file : Option (List ℕ)) (first : FirstLines) (cut : CutText) → TellsKnown line file first → first.missing ≢ 0 → KeepsLines (line - 1) line file cut → CutsInStamp line file (Some cut)
-stamp_cut line None first cut told some keeps = tt
-stamp_cut line (Some text) first cut told some keeps =
+pub stamp_cut : (line before : ℕ) (file : Option (List ℕ)) (first : FirstLines) (cut : CutText) → before ≡ line - 1 → TellsKnown line file first → first.missing ≢ 0 → KeepsLines before line file cut
+    → CutsInStamp line file (Some cut)
+stamp_cut line before None first cut less told some keeps = tt
+stamp_cut line before (Some text) first cut less told some keeps =
     let more : 0 < missing_lines line text = let is = told.1 in omega (arith, is, some) in
-    some_missing line (missing_lines line text) text cut more keeps
+    some_missing line (missing_lines line text) text cut more (subst (λ (n : ℕ). KeepsLines n line (Some text) cut) less keeps)
 
 pub no_stamp_cut : (line : ℕ) (file : Option (List ℕ)) (first : FirstLines) → TellsKnown line file first → first.missing ≡ 0 → CutsInStamp line file None
 no_stamp_cut line None first told none = tt
@@ -89,11 +104,12 @@ whole_known (Some text) line so =
     cut_so text so.0 (Complete so.1) None so.2
     (subst (λ (o : Option ℕ). IsCutAt text (option_map (λ call. record { kept = call - 1; last = so.1.line }) o) None) so.3 tt)
 
-pub call_known : (file : Option (List ℕ)) (call line : ℕ) (cut : CutText) → EndsKnown false file (Whole (Some call) line) → KeepsLines (call - 1) line file cut → TellsCut file (Some cut)
-call_known None call line cut so keeps = tt
-call_known (Some text) call line cut so keeps =
+pub call_known : (file : Option (List ℕ)) (call kept line : ℕ) (cut : CutText) → EndsKnown false file (Whole (Some call) line) → kept ≡ call - 1 → KeepsLines kept line file cut → TellsCut file (Some cut)
+call_known None call kept line cut so less keeps = tt
+call_known (Some text) call kept line cut so less keeps =
+    let bytes : cut.bytes ≡ bytes_of_lines (call - 1) text = keeps.0 ∙ ap (λ (n : ℕ). bytes_of_lines n text) less in
     cut_so text so.0 (Complete so.1) (Some cut) so.2
-    (subst (λ (o : Option ℕ). IsCutAt text (option_map (λ n. record { kept = n - 1; last = so.1.line }) o) (Some cut)) so.3 (keeps.0, keeps.1 ∙ so.4))
+    (subst (λ (o : Option ℕ). IsCutAt text (option_map (λ n. record { kept = n - 1; last = so.1.line }) o) (Some cut)) so.3 (bytes, keeps.1 ∙ so.4))
 
 pub line_known : (file : Option (List ℕ)) (line : ℕ) (cut : CutText) → EndsKnown false file (Refused lines.Truncated line) → CutsInLine line file cut → TellsCut file (Some cut)
 line_known None line cut so cuts = tt
@@ -207,6 +223,40 @@ cuts_more file names name cuts cut are named told = record {
   whole = λ other among none. one_whole file names name other cuts cut are named told (Contains-push_cases names name other among) none;
 }
 
+-- ..of the names so far
+pub cuts_more_at : (file : List ℕ → Option (List ℕ)) (names : List (Bor Text)) (i : ℕ) (d : Bor Text) (cuts more : List CutText) (cut : Option CutText) → i < length names
+    → AreCutsOf file (texts_of (take i names)) cuts → IfSome cut (λ c. string_bytes c.file ≡ (get_or names i d).now) → TellsCut (file (get_or names i d).now) cut → more ≡ cuts ++ option_to_list cut
+    → AreCutsOf file (texts_of (take (i + 1) names)) more
+cuts_more_at file names i d cuts more cut below are named told is =
+    let next : texts_of (take (i + 1) names) ≡ texts_of (take i names) ++ (get_or names i d).now ∷ [] =
+    ap texts_of (take_more names i d below) ∙ map_push (λ (n : Bor Text). n.now) (take i names) (get_or names i d) in
+    subst (λ (ns : List (List ℕ)). AreCutsOf file ns more) (sym next)
+    (subst (λ (cs : List CutText). AreCutsOf file (texts_of (take i names) ++ (get_or names i d).now ∷ []) cs) (sym is)
+    (cuts_more file (texts_of (take i names)) (get_or names i d).now cuts cut are named told))
+
+-- one of them can't be looked at
+pub looks_refused : (names : List (Bor Text)) (i : ℕ) (d : Bor Text) (fault : RunFault) → i < length names → RefusesLook (get_or names i d).now fault → RefusesLooks (texts_of names) fault
+looks_refused names i d fault below refuses = inr ((get_or names i d).now, text_at names i d below, refuses)
+
+pub looks_same : (names wanted : List (List ℕ)) (fault : RunFault) → names ≡ wanted → RefusesLooks names fault → RefusesLooks wanted fault
+looks_same names wanted fault same refuses = subst (λ (ns : List (List ℕ)). RefusesLooks ns fault) same refuses
+
+-- ---- the limit of a name, looked for from the front on
+
+pub here_limit : (cuts : List CutText) (i : ℕ) (cut : CutText) (name : List ℕ) → i < length cuts → cut ≡ get_or cuts i cut → bytes_eq (string_bytes cut.file) name ≡ true
+    → limit_in (map kept_of (drop i cuts)) name ≡ limit_in (map kept_of cuts) name → Some cut.bytes ≡ limit_in (map kept_of cuts) name
+here_limit cuts i cut name below is same so =
+    let front : drop i cuts ≡ cut ∷ drop (suc i) cuts = drop-cons cuts i cut below ∙ ap (λ (c : CutText). c ∷ drop (suc i) cuts) (sym is) in
+    sym (ap (λ (b : Bool). cond b (Some cut.bytes) (limit_in (map kept_of (drop (suc i) cuts)) name)) same) ∙ sym (ap (λ (l : List CutText). limit_in (map kept_of l) name) front) ∙ so
+
+pub next_limit : (cuts : List CutText) (i : ℕ) (cut : CutText) (name : List ℕ) → i < length cuts → cut ≡ get_or cuts i cut → bytes_eq (string_bytes cut.file) name ≡ false
+    → limit_in (map kept_of (drop i cuts)) name ≡ limit_in (map kept_of cuts) name → limit_in (map kept_of (drop (i + 1) cuts)) name ≡ limit_in (map kept_of cuts) name
+next_limit cuts i cut name below is other so =
+    let one : suc i ≡ i + 1 = omega arith in
+    let front : drop i cuts ≡ cut ∷ drop (i + 1) cuts =
+    drop-cons cuts i cut below ∙ ap (λ (n : ℕ). get_or cuts i cut ∷ drop n cuts) one ∙ ap (λ (c : CutText). c ∷ drop (i + 1) cuts) (sym is) in
+    sym (ap (λ (b : Bool). cond b (Some cut.bytes) (limit_in (map kept_of (drop (i + 1) cuts)) name)) other) ∙ sym (ap (λ (l : List CutText). limit_in (map kept_of l) name) front) ∙ so
+
 -- ---- the files as they are seen
 
 limit_good : (file : List ℕ → Option (List ℕ)) (names : List (List ℕ)) (cuts : List CutText) (name : List ℕ) (limit : ℕ)
@@ -243,3 +293,9 @@ sees_cuts file names cuts are = record {
   named = λ name among. sees_named file names cuts name (limit_in (map kept_of cuts) name) are among refl;
   other = λ name other. sees_other file names cuts name (limit_in (map kept_of cuts) name) are other refl;
 }
+
+pub sees_kept : (file : List ℕ → Option (List ℕ)) (names wanted : List (List ℕ)) (cuts given : List CutText) → names ≡ wanted → given ≡ cuts → AreCutsOf file names cuts
+    → Sees file wanted (seen_by (map kept_of given) file)
+sees_kept file names wanted cuts given same is are =
+    subst (λ (cs : List CutText). Sees file wanted (seen_by (map kept_of cs) file)) (sym is)
+    (subst (λ (ns : List (List ℕ)). Sees file ns (seen_by (map kept_of cuts) file)) same (sees_cuts file names cuts are))

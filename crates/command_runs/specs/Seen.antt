@@ -1,8 +1,7 @@
 -- The files of a run as it reads them: a text that may have been cut off as far as it is kept.
-use Rattle.std.specs.Prelude.{◌≡◌, ◌-◌, ◌⊎◌, ℕ, Bool, true, false, List, [], ◌∷◌, Option, Some, None, Contains, String, if◌then◌else◌, is_some, map, nat_lt, option_map, string_bytes, take}
+use Rattle.std.specs.Prelude.{◌≡◌, ◌-◌, ◌⊎◌, ℕ, Bool, true, false, List, [], ◌∷◌, Option, Some, None, Contains, filter, if◌then◌else◌, is_some, map, nat_lt, option_map, string_bytes, take}
 use Rattle.std.specs.List.{AllByRecursion}
 use Rattle.std.specs.Str.{bytes_eq}
-use Rattle.std.specs.declared.alloc.Global.{Global}
 use Rattle.dumpi_text.specs.declared.fault.LineFault.{LineFault}
 use Rattle.dumpi_text.specs.declared.fault.LineFault.TheVariants.{BadStamp, Truncated}
 use Rattle.dumpi_text.specs.declared.fault.TextCause.TheVariants.{Line}
@@ -43,8 +42,7 @@ Reads file names seen = (seen ≡ file) ⊎ Sees file names seen
 
 -- the files of the pieces that may have been cut off
 abbrev pub cut_names : List PieceParts → List (List ℕ)
-cut_names [] = []
-cut_names (piece ∷ pieces) = if piece.cut then piece.file ∷ cut_names pieces else cut_names pieces
+cut_names pieces = map (λ p. p.file) (filter (λ p. p.cut) pieces)
 
 -- ---- files that are known to be cut off
 
@@ -127,7 +125,9 @@ kept_of_end (Refused fault line) before = before
 
 -- A file can't be looked at: memory was wanting, or it can't be opened and read once more.
 abbrev pub RefusesLook : List ℕ → RunFault → Type 0
-RefusesLook name fault = (fault ≡ runs.Memory) ⊎ ((path : String Global) × (fault ≡ runs.File path) × IsNamed path name)
+RefusesLook name runs.Memory = Unit {0}
+RefusesLook name (runs.File path) = IsNamed path name
+RefusesLook name _ = ⊥
 
 -- One of these files can't be looked at.
 abbrev pub RefusesLooks : List (List ℕ) → RunFault → Type 0

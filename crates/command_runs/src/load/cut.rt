@@ -19,13 +19,12 @@ use text_cuts::{EndFault, FirstLines, TextEnd, end_of, lines_of};
 fn unread(alloc: Global, path: &str) -> Result<RunFault, AllocError>
     ensures { IfOk result (RefusesLook path.now) }
 {
-    Ok(RunFault::File {
-        path: path.to_string(alloc)?,
-    })
+    let path = path.to_string(alloc)?;
+    Ok(RunFault::File { path })
 }
 
 /// How a text ends of which so many bytes are read, or all.
-#[tactic(auto, using(crate::proofs::Seen::ends_known))]
+#[tactic(auto, using(crate::proofs::Seen::look_unopened, crate::proofs::Seen::ends_known))]
 fn end_at<O: Opener>(
     alloc: Global,
     path: &str,
@@ -45,7 +44,7 @@ fn end_at<O: Opener>(
 }
 
 /// The first lines of a text of so many bytes.
-#[tactic(auto, using(crate::proofs::Seen::lines_known))]
+#[tactic(auto, using(crate::proofs::Seen::look_unopened, crate::proofs::Seen::lines_known))]
 fn lines_at<O: Opener>(
     alloc: Global,
     path: &str,
@@ -198,14 +197,14 @@ pub(crate) fn cut_of<O: Opener>(
 fn push_cut(cut: Option<CutText>, cuts: &mut Vec<CutText>) -> Result<(), AllocError>
     ensures { OnOk result (cuts.new.items ≡ cuts.old.items ++ option_to_list cut) }
 {
-    if let Some(cut) = cut {
-        cuts.push(cut)?;
+    match cut {
+        Some(cut) => Ok(cuts.push(cut)?),
+        None => Ok(()),
     }
-    Ok(())
 }
 
 /// Those of these files that are texts which were cut off.
-#[tactic(auto, using(crate::proofs::Seen::cuts_none, crate::proofs::Seen::cuts_more))]
+#[tactic(auto, using(crate::proofs::Seen::cuts_none))]
 pub(crate) fn cuts_of<O: Opener>(
     alloc: Global,
     names: &[&str],

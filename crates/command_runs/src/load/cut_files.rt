@@ -1,6 +1,7 @@
 //! The files of a run of which some texts were cut off: those are read as far as they are kept.
 
-ghost use Rattle.std.specs.Prelude.{◌≡◌, [], map, option_map};
+ghost use Rattle.std.specs.Prelude.{◌≡◌, [], map, option_map, string_bytes};
+ghost use Rattle.std.specs.Str.{bytes_eq};
 ghost use Rattle.command_runs.specs.Seen.{is_cut, kept_of, limit_in, seen_by};
 
 use crate::load::front::Front;
@@ -28,12 +29,21 @@ pub struct CutFiles<'a, O: Opener> {
     pub cuts: Vec<CutText>,
 }
 
+impl CutText {
+    /// Whether it is the text of this name.
+    fn is_named(&self, path: &str) -> bool
+        ensures { result ≡ bytes_eq (string_bytes self.now.file) path.now }
+    {
+        self.file.as_str().as_bytes() == path.as_bytes()
+    }
+}
+
 /// The text of this name among those that were cut off.
 fn cut_at<'c>(cuts: &'c [CutText], path: &str) -> Option<&'c CutText>
     ensures { option_map (λ cut. cut.now.bytes) result ≡ limit_in (map kept_of cuts.now) path.now }
 {
     for cut in cuts {
-        if cut.file.as_str() == path {
+        if cut.is_named(path) {
             return Some(cut);
         }
     }
@@ -80,7 +90,7 @@ impl<'a, O: Opener> Opener for CutFiles<'a, O> {
 
     ghost file = { λ f. seen_by (map kept_of f.cuts.items) (O.file f.files.now) };
 
-    #[tactic(auto, using(crate::proofs::Fronts::stands_there))]
+    #[tactic(auto, using(crate::proofs::Fronts::stands_there, crate::proofs::Fronts::front_none))]
     fn open(&self, path: &str) -> Result<Front<O::R>, OpenFault> {
         match self.files.open(path) {
             Ok(reader) => Ok(Front::new(reader, self.limit(path))),
@@ -88,7 +98,7 @@ impl<'a, O: Opener> Opener for CutFiles<'a, O> {
         }
     }
 
-    #[tactic(auto, using(crate::proofs::Fronts::front_length, crate::proofs::Fronts::front_none))]
+    #[tactic(auto, using(crate::proofs::Fronts::length_of_front, crate::proofs::Fronts::length_of_all, crate::proofs::Fronts::front_none))]
     fn length(&self, path: &str) -> Option<u64> {
         match self.files.length(path) {
             Some(length) => match self.limit(path) {

@@ -31,7 +31,7 @@ impl<R: Read> Read for Front<R> {
     ghost write_side = { λ f. R.write_side f.inner };
 
     // (what the inner reader gives beyond the limit is not given)
-    #[tactic(auto, using(crate::proofs::Fronts::front_given, crate::proofs::Fronts::front_kept))]
+    #[tactic(auto, using(crate::proofs::Fronts::front_consumes, crate::proofs::Fronts::front_ends, crate::proofs::Fronts::all_consumes, crate::proofs::Fronts::all_ends, crate::proofs::Fronts::front_keeps))]
     fn read(&mut self, buffer: &mut [u8]) -> Result<usize, Failed> {
         let taken = self.inner.read(buffer)?;
         match self.limit {

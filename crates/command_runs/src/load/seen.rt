@@ -31,7 +31,7 @@ fn cut_names(alloc: Global, pieces: &[Piece]) -> Result<Vec<&str>, AllocError>
 }
 
 /// The files of a run with these pieces: of a piece that may have been cut off what is kept of its text.
-#[tactic(auto, using(crate::proofs::Seen::sees_cuts))]
+#[tactic(auto, using(crate::proofs::Seen::sees_kept, crate::proofs::Seen::looks_same))]
 pub fn kept_files<'a, O: Opener>(
     alloc: Global,
     pieces: &[Piece],
@@ -77,6 +77,7 @@ fn says_cut(fault: &InitFault) -> bool
 
 /// What is made of the texts that these words name, and the files as they were read for it. A text that is cut off ends
 /// the first reading, and then each text is looked at for where it was cut off.
+#[tactic(auto, using(crate::proofs::SeenTexts::reads_whole, crate::proofs::SeenTexts::prepared_same, crate::proofs::SeenTexts::refused_whole))]
 pub fn prepared_of<'a, O: Opener>(
     alloc: Global,
     saying: Saying<'_>,
@@ -103,6 +104,7 @@ pub fn prepared_of<'a, O: Opener>(
 }
 
 /// What is made of the texts that these words name, of each as far as it is kept, and the files so.
+#[tactic(auto, using(crate::proofs::SeenTexts::reads_kept, crate::proofs::SeenTexts::prepared_same, crate::proofs::SeenTexts::refused_memory, crate::proofs::SeenTexts::refused_piped, crate::proofs::SeenTexts::refused_look, crate::proofs::SeenTexts::refused_kept))]
 fn prepared_again<'a, O: Opener>(
     alloc: Global,
     saying: Saying<'_>,
