@@ -7,7 +7,7 @@ pub loop-name-preserved : goal.loop-name-preserved
 loop-name-preserved g c =
     let lt : c.loop-name.name-index < length c.args.names.now = c.loop-name-test.true in
     cuts_more_at (g.O.Opener.file c.args.files.now) c.args.names.now c.loop-name.name-index _ c.loop-name.cuts.items c.push_cut.new.cuts.items c.in_ok-cut.cut lt c.loop-name.invariant
-        c.in_ok-cut.ensures.name c.in_ok-cut.ensures.ok c.in_ok-push_cut.ensures
+    c.in_ok-cut.ensures.name c.in_ok-cut.ensures.ok c.in_ok-push_cut.ensures
 
 pub returns-in_err-cut-clause-err : goal.returns-in_err-cut-clause-err
 returns-in_err-cut-clause-err g c =
