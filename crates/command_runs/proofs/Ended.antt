@@ -8,7 +8,7 @@ use Rattle.run_files.specs.Values.{manifest_value}
 use Rattle.text_layouts.specs.Making.{IsFile, RefusesLayoutFile, RefusesManifestFile, made_layout}
 use Rattle.text_layouts.specs.declared.fault.MadeFault.{MadeFault}
 use Rattle.text_layouts.specs.declared.made.Made.{Made}
-use Rattle.command_runs.specs.Inits.{MakesOf, RanInit, RefusesFiles, TellsCuts, all_marked, made_manifest}
+use Rattle.command_runs.specs.Inits.{MakesOf, RanInit, RefusesFiles, TellsCuts, marked_texts}
 use Rattle.command_runs.specs.declared.faults.init_fault.InitFault.{InitFault}
 use Rattle.command_runs.specs.declared.faults.init_fault.InitFault.TheVariants as faults
 use Rattle.command_runs.specs.Seen.{Reads, RefusesTexts, front_of, is_cut, limit_in, seen_by}
@@ -50,10 +50,10 @@ tells_cuts file words cuts reads = record { reads = reads; whole = λ name none.
 pub layout_too_long : (made : Made) (is_cut : List ℕ → Bool) (cause : MadeFault) → RefusesLayoutFile (made_layout made) cause → RefusesFiles made is_cut (faults.Made cause)
 layout_too_long made is_cut cause h = inr (cause, refl, inl h)
 
-pub manifest_too_long : (made : Made) (is_cut : List ℕ → Bool) (texts : List PieceParts) (cause : MadeFault) → texts ≡ all_marked is_cut made.input.manifest.pieces → RefusesManifestFile (manifest_value texts) cause
+pub manifest_too_long : (made : Made) (is_cut : List ℕ → Bool) (texts : List PieceParts) (cause : MadeFault) → texts ≡ marked_texts made is_cut → RefusesManifestFile (manifest_value texts) cause
     → RefusesFiles made is_cut (faults.Made cause)
 manifest_too_long made is_cut texts cause are h = inr (cause, refl, inr (subst (λ (ts : List PieceParts). RefusesManifestFile (manifest_value ts) cause) are h))
 
-pub manifest_marked : (made : Made) (is_cut : List ℕ → Bool) (texts : List PieceParts) (file : List ℕ) → texts ≡ all_marked is_cut made.input.manifest.pieces → IsFile (manifest_value texts) file
-    → IsFile (made_manifest made is_cut) file
+pub manifest_marked : (made : Made) (is_cut : List ℕ → Bool) (texts : List PieceParts) (file : List ℕ) → texts ≡ marked_texts made is_cut → IsFile (manifest_value texts) file
+    → IsFile (manifest_value (marked_texts made is_cut)) file
 manifest_marked made is_cut texts file are h = subst (λ (ts : List PieceParts). IsFile (manifest_value ts) file) are h

@@ -1,7 +1,6 @@
 -- `init`: how it ran.
 use Rattle.std.specs.Prelude.{◌≡◌, ◌⊎◌, ℕ, Bool, true, false, List, [], Option, Result, Ok, Err, map, string_bytes, if◌then◌else◌}
 use Rattle.std.specs.Io.KnownBytes.{Appends, Keeps}
-use Rattle.json.specs.Json.{Json}
 use Rattle.mpi_model.specs.declared.layout.Sends.{Sends}
 use Rattle.command_line.specs.Program.{Wish}
 use Rattle.run_files.specs.Manifests.{PieceParts, marked}
@@ -24,19 +23,19 @@ use Rattle.command_runs.specs.declared.faults.init_fault.InitFault.TheVariants a
 abbrev pub all_marked : (List ℕ → Bool) → List PieceParts → List PieceParts
 all_marked is_cut texts = map (λ p. marked (is_cut p.file) p) texts
 
--- the value of the manifest's file
-abbrev pub made_manifest : Made → (List ℕ → Bool) → Json
-made_manifest made is_cut = manifest_value (all_marked is_cut made.input.manifest.pieces)
+-- the texts of the manifest's file
+abbrev pub marked_texts : Made → (List ℕ → Bool) → List PieceParts
+marked_texts made is_cut = all_marked is_cut made.input.manifest.pieces
 
 -- These are the bytes of both files of what was made of texts of which these were cut off.
 pub record AreFilesOf (made : Made) (is_cut : List ℕ → Bool) (layout manifest : List ℕ) : Type 0 where
   pub layout_is : IsFile (made_layout made) layout
-  pub manifest_is : IsFile (made_manifest made is_cut) manifest
+  pub manifest_is : IsFile (manifest_value (marked_texts made is_cut)) manifest
 
 -- One of the two files would be too long, or memory was wanting.
 abbrev pub RefusesFiles : Made → (List ℕ → Bool) → InitFault → Type 0
 RefusesFiles made is_cut fault = (fault ≡ faults.Memory) ⊎ ((cause : MadeFault) × (fault ≡ faults.Made cause)
-    × (RefusesLayoutFile (made_layout made) cause ⊎ RefusesManifestFile (made_manifest made is_cut) cause))
+    × (RefusesLayoutFile (made_layout made) cause ⊎ RefusesManifestFile (manifest_value (marked_texts made is_cut)) cause))
 
 -- a file
 abbrev pub file_with : List ℕ → List ℕ → File
