@@ -1,5 +1,5 @@
 -- Runs over readers of fronts, which fail only where the inner readers do.
-use Rattle.std.proofs.Common.{ℕ, List, Option, Some, None, Result, Ok, Err, IfErr, inl, inr}
+use Rattle.std.proofs.Common.{◌≡◌, ℕ, List, Option, Some, None, Result, Ok, Err, IfErr, inl, inr, subst}
 use Rattle.mpi_model.specs.Layouts.{Parts}
 use Rattle.dumpi_text.specs.Failing.{Fails}
 use Rattle.run_files.specs.Manifests.{ManifestParts, PieceParts}
@@ -53,11 +53,13 @@ ran_weaker fails other file l m (Err fault) written failures old new h (inr refu
 
 -- ---- what ran over readers of fronts
 
-pub run_inner : {R W : Type 0} (inner : R → ℕ) (file : List ℕ → Option (List ℕ)) (verb : Verb) (l : Parts) (m : ManifestParts) (written : W → Option (List ℕ)) (failures : W → ℕ) (old new : W) (e : Ending)
-    → EndsRun (Fails {R = Front R} (λ f. inner f.inner)) file verb l m written failures old new e → EndsRun (Fails inner) file verb l m written failures old new e
-run_inner inner file verb l m written failures old new e h = (h.0, h.1, names_inner inner h.0 h.2, h.3)
+pub run_inner : {R W : Type 0} (inner : R → ℕ) (file other : List ℕ → Option (List ℕ)) (verb : Verb) (l : Parts) (m : ManifestParts) (written : W → Option (List ℕ)) (failures : W → ℕ) (old new : W) (e : Ending)
+    → other ≡ file → EndsRun (Fails {R = Front R} (λ f. inner f.inner)) other verb l m written failures old new e → EndsRun (Fails inner) file verb l m written failures old new e
+run_inner inner file other verb l m written failures old new e same h =
+    subst (λ (f : List ℕ → Option (List ℕ)). EndsRun (Fails inner) f verb l m written failures old new e) same (h.0, h.1, names_inner inner h.0 h.2, h.3)
 
-pub cluster_inner : {R W : Type 0} (inner : R → ℕ) (file : List ℕ → Option (List ℕ)) (l : Parts) (m : ManifestParts) (written : W → Option (List ℕ)) (failures : W → ℕ) (old new : W) (e : Ending)
-    → EndsClusterRun (Fails {R = Front R} (λ f. inner f.inner)) file l m written failures old new e → EndsClusterRun (Fails inner) file l m written failures old new e
-cluster_inner inner file l m written failures old new e h =
-    (h.0, ran_weaker (Fails {R = Front _} (λ f. inner f.inner)) (Fails inner) file l m h.0 written failures old new (fails_inner inner) h.1, h.2, h.3)
+pub cluster_inner : {R W : Type 0} (inner : R → ℕ) (file other : List ℕ → Option (List ℕ)) (l : Parts) (m : ManifestParts) (written : W → Option (List ℕ)) (failures : W → ℕ) (old new : W) (e : Ending)
+    → other ≡ file → EndsClusterRun (Fails {R = Front R} (λ f. inner f.inner)) other l m written failures old new e → EndsClusterRun (Fails inner) file l m written failures old new e
+cluster_inner {R = R} inner file other l m written failures old new e same h =
+    subst (λ (f : List ℕ → Option (List ℕ)). EndsClusterRun (Fails inner) f l m written failures old new e) same
+    (h.0, ran_weaker (Fails {R = Front R} (λ f. inner f.inner)) (Fails inner) other l m h.0 written failures old new (fails_inner inner) h.1, h.2, h.3)

@@ -1,6 +1,5 @@
-use Rattle.std.proofs.Common.{◌≡◌, ap, false, inl, inr, map, refl, subst}
+use Rattle.std.proofs.Common.{◌≡◌, ap, false, inl, inr, map, refl}
 use Rattle.std.proofs.lemmas.Result.{IfOk-weaker}
-use Rattle.program_runs.specs.Endings.{EndsClusterRun}
 use Rattle.command_runs.specs.Seen.{kept_of, seen_by}
 use Rattle.program_runs.proofs.Endings.{if_both, shown_so}
 use Rattle.program_runs.proofs.Fronts.{cluster_inner}
@@ -16,8 +15,7 @@ returns-in-Ok g c =
     IfOk-weaker c.cluster_over.result _ _ (λ e h. inl (
       file,
       c.in-Ok.ensures.seen,
-      cluster_inner g.O.R.Read.failures file layout manifest g.W.Write.written g.W.Write.failures c.args.out.now c.cluster_over.new.out e
-          (subst (λ f. EndsClusterRun _ f layout manifest g.W.Write.written g.W.Write.failures c.args.out.now c.cluster_over.new.out e) same h),
+      cluster_inner g.O.R.Read.failures file _ layout manifest g.W.Write.written g.W.Write.failures c.args.out.now c.cluster_over.new.out e same h,
     )) c.cluster_over.ensures
 
 pub returns-in-Err : goal.returns-in-Err

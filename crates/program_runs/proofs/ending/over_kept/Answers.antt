@@ -1,6 +1,5 @@
-use Rattle.std.proofs.Common.{◌≡◌, ap, inl, inr, map, subst}
+use Rattle.std.proofs.Common.{◌≡◌, ap, inl, inr, map}
 use Rattle.std.proofs.lemmas.Result.{IfOk-weaker}
-use Rattle.program_runs.specs.Endings.{EndsRun}
 use Rattle.command_runs.specs.Seen.{kept_of, seen_by}
 use Rattle.program_runs.proofs.Endings.{if_both, shown_so}
 use Rattle.program_runs.proofs.Fronts.{run_inner}
@@ -16,8 +15,7 @@ returns-in-Ok g c =
     IfOk-weaker c.over_input.result _ _ (λ e h. inl (
       file,
       c.in-Ok.ensures.seen,
-      run_inner g.O.R.Read.failures file c.args.verb layout manifest g.W.Write.written g.W.Write.failures c.args.out.now c.over_input.new.out e
-          (subst (λ f. EndsRun _ f c.args.verb layout manifest g.W.Write.written g.W.Write.failures c.args.out.now c.over_input.new.out e) same h),
+      run_inner g.O.R.Read.failures file _ c.args.verb layout manifest g.W.Write.written g.W.Write.failures c.args.out.now c.over_input.new.out e same h,
     )) c.over_input.ensures
 
 pub returns-in-Err : goal.returns-in-Err

@@ -5,7 +5,6 @@ use Rattle.command_runs.specs.InitAdvice.{IsInitShown}
 use Rattle.command_runs.specs.Inputs.{HasRank, LacksRank}
 use Rattle.command_runs.specs.Seen.{kept_of, seen_by}
 use Rattle.command_runs.specs.declared.faults.init_fault.InitFault.TheVariants.{Outside as NoRank}
-use Rattle.program_runs.specs.Endings.{EndsRun}
 use Rattle.program_runs.proofs.Endings.{if_both}
 use Rattle.program_runs.proofs.Fronts.{run_inner}
 use Rattle.program_runs.proofs.ending.over_texts.Goals as goal
@@ -23,7 +22,7 @@ returns-in-Err-has_rank g c =
     let lacks : LacksRank (asked_rank c.args.how.0) made.input.layout = rw c.asked_rank.ensures at why.1 in
     let ranks = c.ranks-ranks.ensures.value in
     if_both c.showing_init-in-Err-has_rank.result _ _ _
-    (λ e status shown. inr (file, c.in-Ok.ensures.seen, made, c.in-Ok.ensures.made.0, inr (lacks, refl, status, subst (λ (n : ℕ). IsInitShown _ c.args.how.0 (NoRank n) (string_bytes e.errors)) ranks shown)))
+    (λ e status shown. inr (file, c.in-Ok.ensures.seen, made, c.in-Ok.ensures.made.0, inr (lacks, refl, status, subst (λ (n : ℕ). IsInitShown (g.O.Opener.file c.args.files.now) c.args.how.0 (NoRank n) (string_bytes e.errors)) ranks shown)))
     c.showing_init-in-Err-has_rank.ensures.status c.showing_init-in-Err-has_rank.ensures.errors
 
 pub over_input-requires : goal.over_input-requires
@@ -41,6 +40,5 @@ returns g c =
       c.in-Ok.ensures.seen,
       made,
       c.in-Ok.ensures.made.0,
-      inl (run_inner g.O.R.Read.failures file c.args.how.0 made.input.layout made.input.manifest g.W.Write.written g.W.Write.failures c.args.out.now c.over_input.new.out e
-          (subst (λ f. EndsRun _ f c.args.how.0 made.input.layout made.input.manifest g.W.Write.written g.W.Write.failures c.args.out.now c.over_input.new.out e) same h)),
+      inl (run_inner g.O.R.Read.failures file _ c.args.how.0 made.input.layout made.input.manifest g.W.Write.written g.W.Write.failures c.args.out.now c.over_input.new.out e same h),
     )) c.over_input.ensures
