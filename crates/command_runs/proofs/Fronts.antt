@@ -27,7 +27,7 @@ limit_consumes limit taken given None new buffer within is consumes = tt
 limit_consumes limit taken given (Some bytes) None buffer within is consumes = absurd consumes
 limit_consumes limit taken given (Some bytes) (Some rest) buffer within is consumes = ap (take limit) consumes ∙ take_given buffer rest taken limit given within is
 
-nothing : (n : ℕ) → take n [] ≡ []
+nothing : (n : ℕ) → take {A = ℕ} n [] ≡ []
 nothing zero = refl
 nothing (suc n) = refl
 

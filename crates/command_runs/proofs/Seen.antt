@@ -1,5 +1,5 @@
 -- What is kept of texts that may have been cut off.
-use Rattle.std.proofs.Common.{◌≡◌, ◌≢◌, ◌∙◌, ◌<◌, ◌+◌, ◌-◌, ◌++◌, ◌⊎◌, ℕ, suc, Bool, true, false, Bor, List, [], ◌∷◌, Option, Some, None, Contains, IfSome, inl, inr, ap, arith, cond, drop, drop-cons, get_or, length, map, nat_lt, option_map, refl, string_bytes, subst, sym, take}
+use Rattle.std.proofs.Common.{◌≡◌, ◌≢◌, ◌∙◌, ◌<◌, ◌+◌, ◌-◌, ◌++◌, ◌⊎◌, ℕ, zero, suc, Bool, true, false, Bor, List, [], ◌∷◌, Option, Some, None, Contains, IfSome, inl, inr, ap, arith, cond, drop, drop-cons, get_or, length, map, nat_lt, option_map, refl, string_bytes, subst, sym, take}
 use Rattle.std.proofs.lemmas.List.{take_more}
 use Rattle.std.proofs.lemmas.List.Elements.{Contains-append_left, Contains-push, Contains-push_cases}
 use Rattle.std.proofs.lemmas.Slice.Eq.{bytes_eq-Decides}
@@ -78,7 +78,7 @@ line_cut line kept (Some text) cut before keeps = subst (λ (n : ℕ). KeepsLine
 
 some_missing : (line missing : ℕ) (text : List ℕ) (cut : CutText) → 0 < missing → KeepsLines (line - 1) line (Some text) cut
     → IsCutAt text (cond (nat_lt 0 missing) (Some (record { kept = line - 1; last = line })) None) (Some cut)
-some_missing line 0 text cut some keeps = absurd (omega (arith, some))
+some_missing line zero text cut some keeps = absurd (omega (arith, some))
 some_missing line (suc missing) text cut some keeps = keeps
 
 pub stamp_cut : (line before : ℕ) (file : Option (List ℕ)) (first : FirstLines) (cut : CutText) → before ≡ line - 1 → TellsKnown line file first → first.missing ≢ 0 → KeepsLines before line file cut
@@ -259,24 +259,25 @@ next_limit cuts i cut name below is other so =
 
 -- ---- the files as they are seen
 
+limit_here : (file : List ℕ → Option (List ℕ)) (names : List (List ℕ)) (cut : CutText) (rest : Option ℕ) (name : List ℕ) (limit : ℕ) (is : Bool)
+    → bytes_eq (string_bytes cut.file) name ≡ is
+    → front_of (Some cut.bytes) (file (string_bytes cut.file)) ≡ kept_known (file (string_bytes cut.file)) → Contains names (string_bytes cut.file)
+    → (rest ≡ Some limit → (front_of (Some limit) (file name) ≡ kept_known (file name)) × Contains names name)
+    → cond is (Some cut.bytes) rest ≡ Some limit → (front_of (Some limit) (file name) ≡ kept_known (file name)) × Contains names name
+limit_here file names cut rest name limit true same good among more is =
+    let name_is : string_bytes cut.file ≡ name = (bytes_eq-Decides (string_bytes cut.file) name).0 same in
+    let limit_is : cut.bytes ≡ limit = cc is in
+    subst (λ (n : List ℕ). (front_of (Some limit) (file n) ≡ kept_known (file n)) × Contains names n) name_is
+    (subst (λ (b : ℕ). front_of (Some b) (file (string_bytes cut.file)) ≡ kept_known (file (string_bytes cut.file))) limit_is good, among)
+limit_here file names cut rest name limit false same good among more is = more is
+
 limit_good : (file : List ℕ → Option (List ℕ)) (names : List (List ℕ)) (cuts : List CutText) (name : List ℕ) (limit : ℕ)
     → AllByRecursion (λ c. front_of (Some c.bytes) (file (string_bytes c.file)) ≡ kept_known (file (string_bytes c.file))) cuts
     → AllByRecursion (λ c. Contains names (string_bytes c.file)) cuts
     → limit_in (map kept_of cuts) name ≡ Some limit → (front_of (Some limit) (file name) ≡ kept_known (file name)) × Contains names name
-
-limit_here : (file : List ℕ → Option (List ℕ)) (names : List (List ℕ)) (cut : CutText) (cuts : List CutText) (name : List ℕ) (limit : ℕ) (is : Bool)
-    → bytes_eq (string_bytes cut.file) name ≡ is
-    → AllByRecursion (λ c. front_of (Some c.bytes) (file (string_bytes c.file)) ≡ kept_known (file (string_bytes c.file))) (cut ∷ cuts)
-    → AllByRecursion (λ c. Contains names (string_bytes c.file)) (cut ∷ cuts)
-    → cond is (Some cut.bytes) (limit_in (map kept_of cuts) name) ≡ Some limit → (front_of (Some limit) (file name) ≡ kept_known (file name)) × Contains names name
 limit_good file names [] name limit good among is = absurd (cc is)
-limit_good file names (cut ∷ cuts) name limit good among is = limit_here file names cut cuts name limit (bytes_eq (string_bytes cut.file) name) refl good among is
-limit_here file names cut cuts name limit true same good among is =
-    let name_is : string_bytes cut.file ≡ name = (bytes_eq-Decides (string_bytes cut.file) name).0 same in
-    let limit_is : cut.bytes ≡ limit = cc is in
-    subst (λ (n : List ℕ). (front_of (Some limit) (file n) ≡ kept_known (file n)) × Contains names n) name_is
-    (subst (λ (b : ℕ). front_of (Some b) (file (string_bytes cut.file)) ≡ kept_known (file (string_bytes cut.file))) limit_is good.0, among.0)
-limit_here file names cut cuts name limit false same good among is = limit_good file names cuts name limit good.1 among.1 is
+limit_good file names (cut ∷ cuts) name limit good among is =
+    limit_here file names cut (limit_in (map kept_of cuts) name) name limit (bytes_eq (string_bytes cut.file) name) refl good.0 among.0 (λ more. limit_good file names cuts name limit good.1 among.1 more) is
 
 sees_named : (file : List ℕ → Option (List ℕ)) (names : List (List ℕ)) (cuts : List CutText) (name : List ℕ) (limit : Option ℕ) → AreCutsOf file names cuts → Contains names name
     → limit_in (map kept_of cuts) name ≡ limit → front_of limit (file name) ≡ kept_known (file name)
