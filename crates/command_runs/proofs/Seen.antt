@@ -1,5 +1,6 @@
 -- What is kept of texts that may have been cut off.
-use Rattle.std.proofs.Common.{◌≡◌, ◌≢◌, ◌∙◌, ◌<◌, ◌+◌, ◌-◌, ◌++◌, ◌⊎◌, ℕ, zero, suc, Bool, true, false, Bor, List, [], ◌∷◌, Option, Some, None, Contains, IfSome, inl, inr, ap, arith, cond, drop, drop-cons, get_or, length, map, nat_lt, option_map, refl, string_bytes, subst, sym, take}
+use Rattle.std.proofs.Common.{◌≡◌, ◌≢◌, ◌∙◌, ◌<◌, ◌+◌, ◌-◌, ◌++◌, ◌⊎◌, ℕ, suc, Bool, true, false, Bor, List, [], ◌∷◌, Option, Some, None, Contains, IfSome, inl, inr, ap, arith, cond, drop, drop-cons, get_or, length, map, nat_lt, option_map, refl, string_bytes, subst, sym, take}
+use Rattle.std.proofs.lemmas.Bool.{lt-ltb}
 use Rattle.std.proofs.lemmas.List.{take_more}
 use Rattle.std.proofs.lemmas.List.Elements.{Contains-append_left, Contains-push, Contains-push_cases}
 use Rattle.std.proofs.lemmas.Slice.Eq.{bytes_eq-Decides}
@@ -78,8 +79,8 @@ line_cut line kept (Some text) cut before keeps = subst (λ (n : ℕ). KeepsLine
 
 some_missing : (line missing : ℕ) (text : List ℕ) (cut : CutText) → 0 < missing → KeepsLines (line - 1) line (Some text) cut
     → IsCutAt text (cond (nat_lt 0 missing) (Some (record { kept = line - 1; last = line })) None) (Some cut)
-some_missing line zero text cut some keeps = absurd (omega (arith, some))
-some_missing line (suc missing) text cut some keeps = keeps
+some_missing line missing text cut some keeps =
+    subst (λ (b : Bool). IsCutAt text (cond b (Some (record { kept = line - 1; last = line })) None) (Some cut)) (sym (lt-ltb 0 missing some)) keeps
 
 pub stamp_cut : (line before : ℕ) (file : Option (List ℕ)) (first : FirstLines) (cut : CutText) → before ≡ line - 1 → TellsKnown line file first → first.missing ≢ 0 → KeepsLines before line file cut
     → CutsInStamp line file (Some cut)
