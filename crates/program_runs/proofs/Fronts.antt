@@ -1,5 +1,5 @@
 -- Runs over readers of fronts, which fail only where the inner readers do.
-use Rattle.std.proofs.Common.{◌≡◌, ℕ, List, Option, Some, None, Result, Ok, Err, IfErr, inl, inr, subst}
+use Rattle.std.proofs.Common.{◌≡◌, ◌⊎◌, ℕ, List, Option, Some, None, Result, Ok, Err, IfErr, inl, inr, subst}
 use Rattle.mpi_model.specs.Layouts.{Parts}
 use Rattle.dumpi_text.specs.Failing.{Fails}
 use Rattle.run_files.specs.Manifests.{ManifestParts, PieceParts}
@@ -39,11 +39,14 @@ bytes_weaker : (fails other : Type 0) (file : List ℕ → Option (List ℕ)) (p
 bytes_weaker fails other file pieces fault h (inl memory) = inl memory
 bytes_weaker fails other file pieces fault h (inr why) = inr (why.0, why.1, why.2, why.3, file_weaker LONGEST_PIECE fails other why.1.file (file why.1.file) fault h why.4)
 
+left_weaker : (A B C : Type 0) → (A → B) → A ⊎ C → B ⊎ C
+left_weaker A B C h (inl a) = inl (h a)
+left_weaker A B C h (inr c) = inr c
+
 cluster_weaker : (fails other : Type 0) (file : List ℕ → Option (List ℕ)) (ranks : ℕ) (m : ManifestParts) (fault : RunFault) → (fails → other) → RefusesCluster fails file ranks m fault → RefusesCluster other file ranks m fault
 cluster_weaker fails other file ranks m fault h (inl memory) = inl memory
 cluster_weaker fails other file ranks m fault h (inr (inl packed)) = inr (inl packed)
-cluster_weaker fails other file ranks m fault h (inr (inr (told, inl bytes))) = inr (inr (told, inl (bytes_weaker fails other file m.pieces fault h bytes)))
-cluster_weaker fails other file ranks m fault h (inr (inr (told, inr crews))) = inr (inr (told, inr crews))
+cluster_weaker fails other file ranks m fault h (inr (inr why)) = inr (inr (why.0, left_weaker (RefusesBytes fails file m.pieces fault) (RefusesBytes other file m.pieces fault) _ (bytes_weaker fails other file m.pieces fault h) why.1))
 
 ran_weaker : {W : Type 0} (fails other : Type 0) (file : List ℕ → Option (List ℕ)) (l : Parts) (m : ManifestParts) (ran : Result Outcome RunFault) (written : W → Option (List ℕ)) (failures : W → ℕ) (old new : W)
     → (fails → other) → RanCluster fails file l m ran written failures old new → RanCluster other file l m ran written failures old new
