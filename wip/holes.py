@@ -283,7 +283,7 @@ def run(words, cwd):
     """Runs the check, ends it past the limit of memory, and returns its status, text, peak and processor seconds."""
     out = f"{HOME}/last-{os.getpid()}.out"
     with open(out, "w") as file:
-        ran = subprocess.Popen(["nice", "-n", "10", *words], cwd=cwd, stdout=file, stderr=subprocess.STDOUT, start_new_session=True)
+        ran = subprocess.Popen(["nice", "-n", "2", *words], cwd=cwd, stdout=file, stderr=subprocess.STDOUT, start_new_session=True)
     peak, start = 0, time.time()
     try:
         while ran.poll() is None:
@@ -334,6 +334,7 @@ def main(tree, name, *rest):
         start, spent = time.time(), os.times()
         status, text, peak = run(words, f"{top}/alone/{name}" if is_alone else place)
         now = os.times()
+        put(f"{top}/said-{own}-turn{turn}", text)
         cpu = now.children_user + now.children_system - spent.children_user - spent.children_system
         print(f"holes: check {time.time() - start:.0f} s, {cpu:.0f} s of processor, {peak // 1024} MB at most, status {status}", flush=True)
         if status < 0:
@@ -341,7 +342,7 @@ def main(tree, name, *rest):
         again = False
         for to in [*[f"{top}/crates/{n}" for n in low], *[f"{top}/alone/{name}"] * is_alone]:
             not_read = re.findall(rf"(?m)^{re.escape(to)}/(proofs/\S+\.antt): error: rattle does not read this file", text)
-            if not_read:
+            if {*not_read} - {*lines_in(f"{to}/not_read")}:
                 put(f"{to}/not_read", "\n".join(sorted({*lines_in(f"{to}/not_read"), *not_read})) + "\n")
                 again = True
         # A function that the names above miss, as of a macro, gets its hole once the check has named it.
