@@ -39,7 +39,7 @@ slash_between folder entry other =
     sym (append_assoc folder (codes "/") entry) ∙ ap (λ (b : Bool). if b then folder ++ entry else folder ++ codes "/" ++ entry) (sym other)
 
 -- the word at a place is among the words
-text_at : (words : List (Bor Text)) (i : ℕ) (d : Bor Text) → i < length words → Contains (texts_of words) (get_or words i d).now
+pub text_at : (words : List (Bor Text)) (i : ℕ) (d : Bor Text) → i < length words → Contains (texts_of words) (get_or words i d).now
 text_at words i d below =
     let long = length-map words (λ (w : Bor Text). w.now) in
     (i, subst (λ (n : ℕ). i < n) (sym long) below, get_or-map (λ (w : Bor Text). w.now) words i d (get_or words i d).now below)

@@ -4,6 +4,7 @@ pub mod AnyOrder
 pub mod ByPlace
 pub mod ByRank
 pub mod Ended
+pub mod Fronts
 pub mod GivenFacts
 pub mod Looks
 pub mod Nodes
@@ -19,6 +20,8 @@ pub mod Packing
 pub mod Reading
 pub mod Replaying
 pub mod Runs
+pub mod Seen
+pub mod SeenTexts
 pub mod Segments
 pub mod Sharing
 pub mod Stops

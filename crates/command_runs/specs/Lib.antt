@@ -26,6 +26,7 @@ pub mod Refusals
 pub mod Replays
 pub mod Said
 pub mod Schedules
+pub mod Seen
 pub mod Sentences
 pub mod Shares
 pub mod ShownBytes

@@ -33,6 +33,8 @@
 //!   `specs/Inputs.antt`, `Prepared.antt`, `TextCalls.antt`
 //! - when files are texts ([`load::first_look`]), and what is looked at twice ([`load::second_look`]):
 //!   `specs/Looks.antt`, `Notes.antt`
+//! - where a text was cut off ([`load::cut`]), and who reads it only that far ([`load::seen`], [`load::cut_files`],
+//!   [`load::front`]): `specs/Seen.antt`
 //! - which texts a folder stands for ([`load::folders`]), what is no text ([`load::no_text`]), and what is said of
 //!   texts ([`load::telling`]): `specs/Folders.antt`, `NoTexts.antt`, `Telling.antt`
 //! - where files come from ([`load::opener`], [`load::beside`]), and what observes how far the reading is ([`load::watch`],
@@ -78,14 +80,17 @@ pub use faults::file_name::FileName;
 pub use faults::init_advice::shown_init_fault;
 pub use faults::init_fault::{InitFault, init_fault_line};
 pub use load::beside::Beside;
+pub use load::cut_files::{CutFiles, CutText};
 pub use load::first_look::begins_as_text;
 pub use load::folders::{borrowed, with_folders};
+pub use load::front::Front;
 pub use load::input::{has_rank, input_at};
 pub use load::no_text::no_text_of;
 pub use load::opener::{Disk, OpenFault, Opener};
-pub use load::prepared::{Prepared, Saying, prepare};
+pub use load::prepared::{Prepared, Saying};
 pub use load::reason::Reason;
-pub use load::second_look::reopened;
+pub use load::second_look::{piped_of, reopened};
+pub use load::seen::{kept_files, prepared_of};
 pub use load::telling::tell;
 pub use load::terminal::Terminal;
 pub use load::watch::{Unwatched, Watcher};

@@ -18,11 +18,12 @@ use Rattle.command_runs.specs.Files.{IsLength, NamesFailed}
 use Rattle.command_runs.specs.Folders.{NamesNoFolder, StandForAll}
 use Rattle.command_runs.specs.InitAdvice.{IsInitShown}
 use Rattle.command_runs.specs.InitFaults.{init_fault_line_of}
-use Rattle.command_runs.specs.Inits.{NamesPiped, RanInit}
+use Rattle.command_runs.specs.Inits.{RanInit}
 use Rattle.command_runs.specs.Inputs.{LacksRank, RefusesLoading, TellInput}
 use Rattle.command_runs.specs.Looks.{BeginsAsText}
 use Rattle.command_runs.specs.NoTexts.{AreNoTexts}
-use Rattle.command_runs.specs.Prepared.{IsMadeOf, RefusesWords}
+use Rattle.command_runs.specs.Prepared.{IsMadeOf}
+use Rattle.command_runs.specs.Seen.{NamesPiped, Reads, RefusesLooks, RefusesTexts, Sees, cut_names}
 use Rattle.command_runs.specs.Verbs.{Ran, RanCluster}
 use Rattle.command_runs.specs.declared.faults.fault.RunFault.{RunFault}
 use Rattle.command_runs.specs.declared.faults.fault.RunFault.TheVariants.{Memory, Write}
@@ -63,23 +64,30 @@ EndsInit file words wish old new failed written failures before after e = (ran :
 
 -- ---- by what the words ask for
 
+-- A verb over this layout and this manifest ends so: it ran, over what is kept of the texts that may have been cut off;
+-- or one of these can't be looked at.
+abbrev pub EndsKept : {W : Type 0} → Type 0 → (List ℕ → Option (List ℕ)) → Verb → Parts → ManifestParts → (W → Option (List ℕ)) → (W → ℕ) → W → W → Ending → Type 0
+EndsKept fails file verb l m written failures old new e =
+    ((seen : List ℕ → Option (List ℕ)) × Sees file (cut_names m.pieces) seen × EndsRun fails seen verb l m written failures old new e)
+    ⊎ ((fault : RunFault) × RefusesLooks (cut_names m.pieces) fault × EndsShowing (is_in_words verb) file fault old new e)
+
 -- A verb over the files of a layout and a manifest ends so: it ran over what they tell, or they are refused.
 abbrev pub EndsPair : {W : Type 0} → Type 0 → (List ℕ → Option (List ℕ)) → Verb → Text → Text → (W → Option (List ℕ)) → (W → ℕ) → W → W → Ending → Type 0
 EndsPair fails file verb layout manifest written failures old new e =
-    ((l : Parts) × (m : ManifestParts) × TellInput file layout manifest l m × EndsRun fails file verb l m written failures old new e)
+    ((l : Parts) × (m : ManifestParts) × TellInput file layout manifest l m × EndsKept fails file verb l m written failures old new e)
     ⊎ ((fault : RunFault) × RefusesLoading fails file (asked_rank verb) layout manifest fault × EndsShowing (is_in_words verb) file fault old new e)
 
 -- The texts are refused, or one is no file that can be read twice; nothing is written, and this is shown.
 abbrev pub EndsUnmade : {W : Type 0} → (List ℕ → Option (List ℕ)) → Verb → List Text → W → W → Ending → Type 0
-EndsUnmade file verb texts old new e = (fault : InitFault) × (NamesPiped file texts fault ⊎ RefusesWords file texts fault)
+EndsUnmade file verb texts old new e = (fault : InitFault) × (NamesPiped file texts fault ⊎ RefusesTexts file texts fault)
     × (new ≡ old) × (e.status ≡ 1) × IsInitShown file verb fault (string_bytes e.errors)
 
--- A verb over the texts of all ranks ends so: they are refused; or it ran over the input that is made of them; or that
--- has no such rank as the verb asks for.
+-- A verb over the texts of all ranks ends so: they are refused; or it ran over the input that is made of them, each
+-- text read whole or as far as it is kept; or that has no such rank as the verb asks for.
 abbrev pub EndsTexts : {W : Type 0} → Type 0 → (List ℕ → Option (List ℕ)) → Verb → List Text → (W → Option (List ℕ)) → (W → ℕ) → W → W → Ending → Type 0
 EndsTexts fails file verb texts written failures old new e = EndsUnmade file verb texts old new e
-    ⊎ ((made : Made) × IsMadeOf file Wait texts made
-    × (EndsRun fails file verb made.input.layout made.input.manifest written failures old new e
+    ⊎ ((seen : List ℕ → Option (List ℕ)) × Reads file texts seen × (made : Made) × IsMadeOf seen Wait texts made
+    × (EndsRun fails seen verb made.input.layout made.input.manifest written failures old new e
     ⊎ (LacksRank (asked_rank verb) made.input.layout × (new ≡ old) × (e.status ≡ 1)
     × IsInitShown file verb (NoRank made.input.layout.ranks) (string_bytes e.errors))))
 
@@ -130,10 +138,17 @@ abbrev pub EndsClusterRun : {W : Type 0} → Type 0 → (List ℕ → Option (Li
 EndsClusterRun fails file l m written failures old new e = (ran : Result Outcome RunFault)
     × RanCluster fails file l m ran written failures old new × IfErr ran (NamesFailed ⊥) × IsEndedBy false file ran e
 
+-- A cluster over this layout and this manifest ends so: it ran, over what is kept of the texts that may have been cut
+-- off; or one of these can't be looked at.
+abbrev pub EndsClusterKept : {W : Type 0} → Type 0 → (List ℕ → Option (List ℕ)) → Parts → ManifestParts → (W → Option (List ℕ)) → (W → ℕ) → W → W → Ending → Type 0
+EndsClusterKept fails file l m written failures old new e =
+    ((seen : List ℕ → Option (List ℕ)) × Sees file (cut_names m.pieces) seen × EndsClusterRun fails seen l m written failures old new e)
+    ⊎ ((fault : RunFault) × RefusesLooks (cut_names m.pieces) fault × EndsShowing false file fault old new e)
+
 -- A cluster of the files of a layout and a manifest ends so: it ran over what they tell, or they are refused.
 abbrev pub EndsCluster : {W : Type 0} → Type 0 → (List ℕ → Option (List ℕ)) → Text → Text → (W → Option (List ℕ)) → (W → ℕ) → W → W → Ending → Type 0
 EndsCluster fails file layout manifest written failures old new e =
-    ((l : Parts) × (m : ManifestParts) × TellInput file layout manifest l m × EndsClusterRun fails file l m written failures old new e)
+    ((l : Parts) × (m : ManifestParts) × TellInput file layout manifest l m × EndsClusterKept fails file l m written failures old new e)
     ⊎ ((fault : RunFault) × RefusesLoading fails file None layout manifest fault × EndsShowing false file fault old new e)
 
 -- What the program is run on, and what it leaves: the words, the files that it reads, and the store in which `init`

@@ -1,6 +1,6 @@
 //! How the program ends: from words to a status and what standard error shows.
 
-ghost use Rattle.std.specs.Prelude.{◌≡◌, ◌≢◌, ◌∷◌, [], Contains, IfOk, IfSome, IsTrue, None, Option, length, string_bytes};
+ghost use Rattle.std.specs.Prelude.{◌≡◌, ◌≢◌, ◌∷◌, [], IfOk, IfSome, IsTrue, None, Option, length, string_bytes};
 ghost use Rattle.mpi_model.specs.Failures.{HasFailed};
 ghost use Rattle.dumpi_text.specs.Failing.{Fails};
 ghost use Rattle.command_line.specs.Program.{asked_rank, texts_of, wish_of};
@@ -11,14 +11,15 @@ ghost use Rattle.command_runs.specs.Files.{IsLength};
 ghost use Rattle.command_runs.specs.InitAdvice.{IsInitShown};
 ghost use Rattle.command_runs.specs.InitFaults.{init_fault_line_of};
 ghost use Rattle.command_runs.specs.Inputs.{HasRank};
-ghost use Rattle.program_runs.specs.Endings.{BeginsWithText, EndsCluster, EndsClusterRun, EndsFiles, EndsFor, EndsInit, EndsInitNamed, EndsNamed, EndsPair, EndsRun, EndsStrange, EndsTexts, IsEndedBy, IsEnding, first_name, strange_line};
+ghost use Rattle.program_runs.specs.Endings.{BeginsWithText, EndsCluster, EndsClusterKept, EndsClusterRun, EndsFiles, EndsFor, EndsInit, EndsInitNamed, EndsKept, EndsNamed, EndsPair, EndsRun, EndsStrange, EndsTexts, IsEndedBy, IsEnding, first_name, strange_line};
 
 use crate::run::run_with;
 use command_line::{Asked, CommandFault, Verb, Verbosity, Wanted, command_of};
 use command_runs::{
     Beside, FileName, InitFault, Opener, Outcome, Run, RunFault, Saying, Watcher, begins_as_text,
     borrowed, cluster, fault_line, has_rank, init, init_fault_line, input_at, is_in_words,
-    no_text_of, prepare, shown_fault, shown_init_fault, tell, with_folders,
+    kept_files, no_text_of, piped_of, prepared_of, shown_fault, shown_init_fault, tell,
+    with_folders,
 };
 use mpi_model::{Sends, Write, write_all};
 use run_files::{RunInput, Store};
@@ -114,8 +115,26 @@ fn over_pair<O: Opener, V: Watcher, W: Write>(
     match input_at(alloc, verb.asked_rank(), layout, manifest, files) {
         Ok(input) => {
             let beside = Beside::new(alloc, files, manifest);
-            over_input(alloc, verb, &input, &beside, watcher, out)
+            over_kept(alloc, verb, &input, &beside, watcher, out)
         }
+        Err(fault) => showing(alloc, is_in_words(verb), &fault, files),
+    }
+}
+
+/// Runs a verb over this input, whose files these are: of texts that may have been cut off over what is kept.
+fn over_kept<O: Opener, V: Watcher, W: Write>(
+    alloc: Global,
+    verb: Verb,
+    input: &RunInput,
+    files: &O,
+    watcher: &mut V,
+    out: &mut W,
+) -> Result<Ending, AllocError>
+    requires rank { HasRank (asked_rank verb) input.now.layout }
+    ensures { IfOk result (EndsKept (Fails O.R.failures) (O.file files.now) verb input.now.layout input.now.manifest W.written W.failures out.old out.new) }
+{
+    match kept_files(alloc, input.manifest.pieces(), files) {
+        Ok(seen) => over_input(alloc, verb, input, &seen, watcher, out),
         Err(fault) => showing(alloc, is_in_words(verb), &fault, files),
     }
 }
@@ -195,8 +214,8 @@ fn over_texts<R: Eprint, O: Opener, V: Watcher, W: Write>(
         let path = path.to_string(alloc)?;
         return showing_init(alloc, verb, &InitFault::Piped { path }, files);
     }
-    let prepared = match prepare(alloc, Saying::Words, Sends::Wait, texts, files) {
-        Ok(prepared) => prepared,
+    let (prepared, seen) = match prepared_of(alloc, Saying::Words, Sends::Wait, texts, files) {
+        Ok(read) => read,
         Err(fault) => return showing_init(alloc, verb, &fault, files),
     };
     tell(rt, alloc, verbosity, &prepared)?;
@@ -205,7 +224,7 @@ fn over_texts<R: Eprint, O: Opener, V: Watcher, W: Write>(
         let ranks = input.layout.ranks();
         return showing_init(alloc, verb, &InitFault::Outside { ranks }, files);
     }
-    over_input(alloc, verb, input, files, watcher, out)
+    over_input(alloc, verb, input, &seen, watcher, out)
 }
 
 /// Runs a cluster of a layout and a manifest, by the names of their files.
@@ -220,8 +239,22 @@ fn over_cluster<
     match input_at(alloc, None, layout, manifest, files) {
         Ok(input) => {
             let beside = Beside::new(alloc, files, manifest);
-            cluster_over(rt, alloc, &input, &beside, out)
+            cluster_kept(rt, alloc, &input, &beside, out)
         }
+        Err(fault) => showing(alloc, false, &fault, files),
+    }
+}
+
+/// Runs a cluster over this input, whose files these are: of texts that may have been cut off over what is kept.
+fn cluster_kept<
+    R: Net<Listener = TcpListener, Stream = TcpStream> + Threads + Wait + Sync,
+    O: Opener,
+    W: Write,
+>(rt: &R, alloc: Global, input: &RunInput, files: &O, out: &mut W) -> Result<Ending, AllocError>
+    ensures { IfOk result (EndsClusterKept (Fails O.R.failures) (O.file files.now) input.now.layout input.now.manifest W.written W.failures out.old out.new) }
+{
+    match kept_files(alloc, input.manifest.pieces(), files) {
+        Ok(seen) => cluster_over(rt, alloc, input, &seen, out),
         Err(fault) => showing(alloc, false, &fault, files),
     }
 }
@@ -285,19 +318,6 @@ fn over_init<O: Opener, S: Store, W: Write>(
         Ok(()) => Ok(silent(alloc, 0)),
         Err(fault) => refused_init(alloc, &fault),
     }
-}
-
-/// The first of the texts that is a pipe or a device: it could be read for the layout, and not once more for the verb.
-fn piped_of<'a, O: Opener>(texts: &[&'a str], files: &O) -> Option<&'a str>
-    ensures among { IfSome result (λ path. Contains (texts_of texts.now) path.now) }
-    ensures untold { IfSome result (λ path. O.file files.now path.now ≡ None) }
-{
-    for path in texts {
-        if files.length(path).is_none() && files.reason(path).is_none() {
-            return Some(*path);
-        }
-    }
-    None
 }
 
 /// The names, where they are two.

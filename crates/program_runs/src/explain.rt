@@ -9,6 +9,7 @@ ghost use Rattle.command_runs.specs.Said.{IsDiagnosed};
 ghost use Rattle.command_runs.specs.Verbs.{RanSo};
 
 use crate::arguments::compare_arguments;
+use crate::cut_ranks::cut_ranks;
 use crate::facts::{add_places, facts_of};
 use call_words::Text;
 use command_line::Extent;
@@ -92,7 +93,8 @@ fn diagnosed<N: Answerer, O: Opener>(
         unreachable!()
     };
     let know = node.knowledge();
-    let diagnosis = diagnose(alloc, layout, answer, know, &[])?;
+    let cut = cut_ranks(alloc, know, answer.ranks(), &notes, files)?;
+    let diagnosis = diagnose(alloc, layout, answer, know, &cut)?;
     let (mut texts, calls) = facts_of(alloc, &diagnosis, asked_of(printing), notes, files)?;
     compare_arguments(alloc, layout, answer, know, &calls, &mut texts)?;
     add_places(alloc, &mut texts, files)?;

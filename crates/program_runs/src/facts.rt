@@ -1,6 +1,7 @@
 //! What the texts of a run tell of the calls that a diagnosis names, by a second look at them.
 
 use crate::arguments::add_arguments;
+use crate::cut_ranks::cut_texts;
 use command_runs::{Opener, reopened};
 use diagnosis_value::Diagnosis;
 use diagnosis_words::{TextFacts, argument_calls, named_calls};
@@ -79,6 +80,7 @@ pub(crate) fn facts_of<O: Opener>(
             facts.add(alloc, at, look)?;
         }
     }
+    facts.cut = cut_texts(alloc, &facts.notes, files)?;
     facts.finish()?;
     Ok((facts, calls))
 }

@@ -19,6 +19,7 @@
 //! - which verb runs: [`run`]; what it prints: `specs/Verbs.antt` of `command_runs`
 //! - what `explain`, `graph` and `page` look up in the texts once more: [`facts`], [`arguments`]; how they print it:
 //!   [`explain`], [`page`]
+//! - of which ranks a diagnosis says that their texts were cut off: [`cut_ranks`]
 //!
 //! # Choices
 //!
@@ -29,6 +30,7 @@
 #![tactic(auto)]
 
 mod arguments;
+mod cut_ranks;
 mod ending;
 mod explain;
 mod facts;

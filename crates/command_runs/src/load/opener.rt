@@ -57,6 +57,11 @@ pub trait Opener: Drop {
     fn reason(&self, _path: &str) -> Option<Reason> {
         None
     }
+
+    /// The last line of the file of a name, if it is a text that was cut off, of which only a front is read.
+    fn cut_line(&self, _path: &str) -> Option<u64> {
+        None
+    }
 }
 
 /// The files of the system.

@@ -158,7 +158,7 @@ fn prepared_by(
 
 /// The input of the run of these texts, rank 0 first, or by the digits at the ends of their names where those are 0 to
 /// n - 1. Each text is read once, and once more where some rank has none: then the digits tell the ranks.
-pub fn prepare<O: Opener>(
+pub(crate) fn prepare<O: Opener>(
     alloc: Global,
     saying: Saying<'_>,
     sends: Sends,

@@ -1,6 +1,7 @@
 //! A second look at a text that was read: at its first bytes, or at one parameter of a call.
 
-ghost use Rattle.std.specs.Prelude.{◌≡◌, IfSome};
+ghost use Rattle.std.specs.Prelude.{◌≡◌, Contains, IfSome, None};
+ghost use Rattle.command_line.specs.Program.{texts_of};
 ghost use Rattle.command_runs.specs.Files.{StandsAtFirst};
 ghost use Rattle.command_runs.specs.Notes.{HasValueSo};
 ghost use Rattle.text_notes.specs.Starts.{IsStartOf};
@@ -20,6 +21,19 @@ pub fn reopened<O: Opener>(path: &str, files: &O) -> Option<O::R>
         Ok(reader) => Some(reader),
         Err(_) => None,
     }
+}
+
+/// The first of the texts that is a pipe or a device, which can't be read twice.
+pub fn piped_of<'a, O: Opener>(texts: &[&'a str], files: &O) -> Option<&'a str>
+    ensures among { IfSome result (λ path. Contains (texts_of texts.now) path.now) }
+    ensures untold { IfSome result (λ path. O.file files.now path.now ≡ None) }
+{
+    for path in texts {
+        if files.length(path).is_none() && files.reason(path).is_none() {
+            return Some(*path);
+        }
+    }
+    None
 }
 
 /// What a text is taken for by its first bytes, where they can be looked at.

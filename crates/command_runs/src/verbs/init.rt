@@ -1,20 +1,23 @@
 //! `init`: the layout and the manifest of texts, as two files.
 
-ghost use Rattle.std.specs.Prelude.{◌≡◌, ◌≢◌, IfErr, IfOk, OnOk, string_bytes};
+ghost use Rattle.std.specs.Prelude.{◌≡◌, ◌≢◌, IfErr, IfOk, OnOk, map, string_bytes};
 ghost use Rattle.mpi_model.specs.Failures.{HasFailed};
 ghost use Rattle.run_files.specs.Stores.{Goes, LeavesNothing, Same};
 ghost use Rattle.command_line.specs.Program.{texts_of, wish_of};
-ghost use Rattle.command_runs.specs.Inits.{AreFilesOf, PutsBoth, RanInit, RefusesFiles, RefusesPutting, file_with, wished_form};
+ghost use Rattle.command_runs.specs.Inits.{AreFilesOf, PutsBoth, RanInit, RefusesFiles, RefusesPutting, all_marked, file_with, wished_form};
 ghost use Rattle.command_runs.specs.Prepared.{form_of};
+ghost use Rattle.command_runs.specs.Seen.{is_cut, kept_of};
 ghost use Rattle.command_runs.specs.declared.faults.init_fault.InitFault.TheVariants.{Memory};
 
 use crate::faults::init_fault::{InitFault, put_fault};
+use crate::load::cut_files::CutFiles;
 use crate::load::opener::Opener;
-use crate::load::prepared::{Prepared, Saying, prepare};
+use crate::load::prepared::{Prepared, Saying};
+use crate::load::seen::prepared_of;
 use command_line::Wanted;
 use mpi_model::{Write, write_all};
-use run_files::{NewFile, PutFault, Store, add_both, replace_both};
-use std::alloc::Global;
+use run_files::{NewFile, Piece, PutFault, Store, add_both, replace_both};
+use std::alloc::{AllocError, Global};
 use text_layouts::{layout_file_of, manifest_file_of};
 
 /// The bytes of both files of what was made.
@@ -24,17 +27,38 @@ struct BothFiles {
     manifest: Vec<u8>,
 }
 
-/// The bytes of both files of what was made of texts, where neither is too long.
-#[tactic(auto, using(crate::proofs::Ended::layout_too_long, crate::proofs::Ended::manifest_too_long))]
-fn files_of(alloc: Global, prepared: &Prepared) -> Result<BothFiles, InitFault>
-    ensures ok { IfOk result (λ both. AreFilesOf prepared.now.made both.layout.items both.manifest.items) }
-    ensures err { IfErr result (RefusesFiles prepared.now.made) }
+/// The texts of a manifest, each marked as one that was cut off if it was.
+fn marked_of<O: Opener>(
+    alloc: Global,
+    texts: &[Piece],
+    seen: &CutFiles<'_, O>,
+) -> Result<Vec<Piece>, AllocError>
+    ensures { IfOk result (λ marked. marked.items ≡ all_marked (is_cut (map kept_of seen.now.cuts.items)) texts.now) }
 {
+    let mut marked = Vec::new(alloc);
+    for text in texts {
+        let cut = seen.is_cut(text.file());
+        marked.push(text.marked(cut)?)?;
+    }
+    Ok(marked)
+}
+
+/// The bytes of both files of what was made of texts, where neither is too long.
+#[tactic(auto, using(crate::proofs::Ended::layout_too_long, crate::proofs::Ended::manifest_too_long, crate::proofs::Ended::manifest_marked))]
+fn files_of<O: Opener>(
+    alloc: Global,
+    prepared: &Prepared,
+    seen: &CutFiles<'_, O>,
+) -> Result<BothFiles, InitFault>
+    ensures ok { IfOk result (λ both. AreFilesOf prepared.now.made (is_cut (map kept_of seen.now.cuts.items)) both.layout.items both.manifest.items) }
+    ensures err { IfErr result (RefusesFiles prepared.now.made (is_cut (map kept_of seen.now.cuts.items))) }
+{
+    let texts = marked_of(alloc, prepared.made.input.manifest.pieces(), seen)?;
     let layout = match layout_file_of(alloc, &prepared.made) {
         Ok(layout) => layout,
         Err(fault) => return Err(InitFault::Made(fault)),
     };
-    let manifest = match manifest_file_of(alloc, &prepared.made) {
+    let manifest = match manifest_file_of(alloc, &texts) {
         Ok(manifest) => manifest,
         Err(fault) => return Err(InitFault::Made(fault)),
     };
@@ -107,8 +131,8 @@ pub fn init<O: Opener, S: Store, W: Write>(
         (HasFailed (S.failures store.old) (S.failures store.new)) result W.written W.failures out.old out.new }
 {
     let saying = saying_of(wanted);
-    let prepared = prepare(alloc, saying, wanted.sends, texts, files)?;
-    let both = files_of(alloc, &prepared)?;
+    let (prepared, seen) = prepared_of(alloc, saying, wanted.sends, texts, files)?;
+    let both = files_of(alloc, &prepared, &seen)?;
     // (what a fault names, before anything is kept)
     let (layout, manifest) = names_of(alloc, wanted)?;
     if let Err(fault) = keep(alloc, &both, wanted, store) {
