@@ -15,8 +15,8 @@ use Rattle.run_files.specs.Manifests.{PieceParts, whole_text}
 use Rattle.command_runs.specs.Pieces.{AreFactsOf, RefusesPiece}
 use Rattle.command_runs.specs.Refusals.{BlamesFile, NamesStranger, RefusesFirst, RefusesInSomeOrder, RefusesOneOf, RefusesPieces}
 use Rattle.command_runs.specs.Traces.{Begin, IsFirstStranger, IsInside, IsKnown, TellTrace}
-use Rattle.command_runs.specs.declared.faults.fault.RunFault.{RunFault}
-use Rattle.command_runs.specs.declared.faults.fault.RunFault.TheVariants as faults
+use Rattle.run_inputs.specs.declared.faults.fault.RunFault.{RunFault}
+use Rattle.run_inputs.specs.declared.faults.fault.RunFault.TheVariants as faults
 use Rattle.command_runs.proofs.Traces.{begins}
 
 abbrev Files : Type 0

@@ -1,11 +1,11 @@
 -- What a run comes to: it is refused, its text was written, or a writer failed.
 use Rattle.std.proofs.Common.{◌≡◌, ◌∙◌, inl, inr, ℕ, List, Option, Result, Ok, Err, IfErr, IsErrAnd, subst, sym}
 use Rattle.std.proofs.KnownBytes.{Keeps-refl}
-use Rattle.command_runs.specs.Files.{NamesFailed}
+use Rattle.run_inputs.specs.Files.{NamesFailed}
 use Rattle.command_runs.specs.Verbs.{RanSo}
-use Rattle.command_runs.specs.Writing.{BreaksOff}
-use Rattle.command_runs.specs.declared.faults.fault.RunFault.{RunFault}
-use Rattle.command_runs.specs.declared.faults.fault.RunFault.TheVariants.{Memory, Write}
+use Rattle.run_inputs.specs.Writing.{BreaksOff}
+use Rattle.run_inputs.specs.declared.faults.fault.RunFault.{RunFault}
+use Rattle.run_inputs.specs.declared.faults.fault.RunFault.TheVariants.{Memory, Write}
 use Rattle.command_runs.specs.declared.run.Outcome.{Outcome}
 
 -- a fault that is handed on refuses as it did

@@ -1,8 +1,8 @@
 //! What a verb runs over, and how it ended.
 
-use crate::load::opener::Opener;
 use mpi_model::Layout;
 use run_files::{Manifest, RunInput};
+use run_inputs::Opener;
 use std::alloc::Global;
 
 /// What a verb runs over: the layout and the manifest, which were read or made, and where the files of the manifest's

@@ -5,7 +5,6 @@ pub(crate) mod calls;
 pub(crate) mod check;
 pub(crate) mod check_json;
 pub(crate) mod cluster;
-pub(crate) mod init;
 pub(crate) mod node;
 pub(crate) mod pack;
 pub(crate) mod replay;

@@ -6,10 +6,9 @@
 ghost use Rattle.std.specs.Prelude.{Some, None, codes, if◌then◌else◌};
 ghost use Rattle.std.specs.Str.{bytes_eq};
 
-use command_runs::{
-    OpenFault, Opener, Outcome, Run, RunFault, Unwatched, fault_line, input_at, replay, report,
-};
+use command_runs::{Outcome, Run, replay, report};
 use mpi_model::{MemoryReader, MemoryWriter, Write};
+use run_inputs::{OpenFault, Opener, RunFault, Unwatched, fault_line, input_at};
 use std::alloc::Global;
 use std::process::Abort;
 

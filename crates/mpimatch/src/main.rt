@@ -4,10 +4,10 @@
 //! ends with the status that comes of them. `crates/program_runs` has the rest.
 #![tactic(auto)]
 
-use command_runs::{Disk, Terminal};
 use mpi_model::Device;
 use program_runs::{ending_of, ending_without_words};
 use run_files::Folder;
+use run_inputs::{Disk, Terminal};
 use std::alloc::{AllocError, Global};
 use std::io::{self, IsTerminal};
 use std::process::ExitCode;

@@ -5,12 +5,12 @@ use Rattle.clap.specs.Words.{Text}
 use Rattle.mpi_model.specs.Layouts.{Parts}
 use Rattle.command_line.specs.declared.Verb.{Verb}
 use Rattle.run_files.specs.Manifests.{ManifestParts}
-use Rattle.command_runs.specs.Advice.{IsShownIn, is_in_words}
+use Rattle.run_inputs.specs.Advice.{IsShownIn, is_in_words}
 use Rattle.program_runs.specs.Endings.{EndsRun, EndsShowing, IsEndedBy}
-use Rattle.command_runs.specs.Files.{NamesFailed}
+use Rattle.run_inputs.specs.Files.{NamesFailed}
 use Rattle.command_runs.specs.Verbs.{Ran, RanCluster}
 use Rattle.program_runs.specs.declared.ending.Ending.{Ending}
-use Rattle.command_runs.specs.declared.faults.fault.RunFault.{RunFault}
+use Rattle.run_inputs.specs.declared.faults.fault.RunFault.{RunFault}
 use Rattle.command_runs.specs.declared.run.Outcome.{Outcome}
 
 -- what holds of an answer by two clauses

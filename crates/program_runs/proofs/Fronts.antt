@@ -5,13 +5,13 @@ use Rattle.dumpi_text.specs.Failing.{Fails}
 use Rattle.run_files.specs.Manifests.{ManifestParts, PieceParts}
 use Rattle.command_line.specs.declared.Verb.{Verb}
 use Rattle.command_runs.specs.Clusters.{RefusesCluster}
-use Rattle.command_runs.specs.Files.{IsUnreadable, NamesFailed}
-use Rattle.command_runs.specs.Inputs.{RefusesFile}
+use Rattle.run_inputs.specs.Files.{IsUnreadable, NamesFailed}
+use Rattle.run_inputs.specs.Inputs.{RefusesFile}
 use Rattle.command_runs.specs.NodeTexts.{RefusesBytes}
 use Rattle.command_runs.specs.Verbs.{RanCluster}
-use Rattle.command_runs.specs.declared.faults.fault.RunFault.{RunFault}
-use Rattle.command_runs.specs.declared.load.front.Front.{Front}
-use Rattle.command_runs.specs.declared.load.whole.TheConstants.{LONGEST_PIECE}
+use Rattle.run_inputs.specs.declared.faults.fault.RunFault.{RunFault}
+use Rattle.run_inputs.specs.declared.load.front.Front.{Front}
+use Rattle.run_inputs.specs.declared.load.whole.TheConstants.{LONGEST_PIECE}
 use Rattle.command_runs.specs.declared.run.Outcome.{Outcome}
 use Rattle.program_runs.specs.Endings.{EndsClusterRun, EndsRun}
 use Rattle.program_runs.specs.declared.ending.Ending.{Ending}

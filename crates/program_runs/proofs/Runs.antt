@@ -5,11 +5,11 @@ use Rattle.std.specs.Io.KnownBytes.{Appends}
 use Rattle.mpi_model.specs.Layouts.{Parts}
 use Rattle.command_line.specs.declared.Verb.{Verb}
 use Rattle.run_files.specs.Manifests.{ManifestParts}
-use Rattle.command_runs.specs.Files.{NamesFailed}
+use Rattle.run_inputs.specs.Files.{NamesFailed}
 use Rattle.command_runs.specs.Verbs.{Ran, RanSo}
-use Rattle.command_runs.specs.Writing.{BreaksOff}
-use Rattle.command_runs.specs.declared.faults.fault.RunFault.{RunFault}
-use Rattle.command_runs.specs.declared.faults.fault.RunFault.TheVariants.{Write}
+use Rattle.run_inputs.specs.Writing.{BreaksOff}
+use Rattle.run_inputs.specs.declared.faults.fault.RunFault.{RunFault}
+use Rattle.run_inputs.specs.declared.faults.fault.RunFault.TheVariants.{Write}
 use Rattle.command_runs.specs.declared.run.Outcome.{Outcome}
 use Rattle.command_runs.specs.declared.run.Outcome.TheVariants.{Good}
 

@@ -11,24 +11,24 @@ use Rattle.command_line.specs.declared.Verb.{Verb}
 use Rattle.run_files.specs.Manifests.{ManifestParts}
 use Rattle.run_files.specs.Stores.{Files}
 use Rattle.text_layouts.specs.declared.made.Made.{Made}
-use Rattle.command_runs.specs.Advice.{IsShownIn, is_in_words}
-use Rattle.command_runs.specs.FaultLines.{fault_line_of}
-use Rattle.command_runs.specs.FileNames.{shown_name}
-use Rattle.command_runs.specs.Files.{IsLength, NamesFailed}
-use Rattle.command_runs.specs.Folders.{NamesNoFolder, StandForAll}
-use Rattle.command_runs.specs.InitAdvice.{IsInitShown}
-use Rattle.command_runs.specs.InitFaults.{init_fault_line_of}
-use Rattle.command_runs.specs.Inits.{RanInit}
-use Rattle.command_runs.specs.Inputs.{LacksRank, RefusesLoading, TellInput}
-use Rattle.command_runs.specs.Looks.{BeginsAsText}
-use Rattle.command_runs.specs.NoTexts.{AreNoTexts}
-use Rattle.command_runs.specs.Prepared.{IsMadeOf}
-use Rattle.command_runs.specs.Seen.{NamesPiped, Reads, RefusesLooks, RefusesTexts, Sees, cut_names}
+use Rattle.run_inputs.specs.Advice.{IsShownIn, is_in_words}
+use Rattle.run_inputs.specs.FaultLines.{fault_line_of}
+use Rattle.run_inputs.specs.FileNames.{shown_name}
+use Rattle.run_inputs.specs.Files.{IsLength, NamesFailed}
+use Rattle.run_inputs.specs.Folders.{NamesNoFolder, StandForAll}
+use Rattle.run_inputs.specs.InitAdvice.{IsInitShown}
+use Rattle.run_inputs.specs.InitFaults.{init_fault_line_of}
+use Rattle.run_inputs.specs.Inits.{RanInit}
+use Rattle.run_inputs.specs.Inputs.{LacksRank, RefusesLoading, TellInput}
+use Rattle.run_inputs.specs.Looks.{BeginsAsText}
+use Rattle.run_inputs.specs.NoTexts.{AreNoTexts}
+use Rattle.run_inputs.specs.Prepared.{IsMadeOf}
+use Rattle.run_inputs.specs.Seen.{NamesPiped, Reads, RefusesLooks, RefusesTexts, Sees, cut_names}
 use Rattle.command_runs.specs.Verbs.{Ran, RanCluster}
-use Rattle.command_runs.specs.declared.faults.fault.RunFault.{RunFault}
-use Rattle.command_runs.specs.declared.faults.fault.RunFault.TheVariants.{Memory, Write}
-use Rattle.command_runs.specs.declared.faults.init_fault.InitFault.{InitFault}
-use Rattle.command_runs.specs.declared.faults.init_fault.InitFault.TheVariants.{Outside as NoRank}
+use Rattle.run_inputs.specs.declared.faults.fault.RunFault.{RunFault}
+use Rattle.run_inputs.specs.declared.faults.fault.RunFault.TheVariants.{Memory, Write}
+use Rattle.run_inputs.specs.declared.faults.init_fault.InitFault.{InitFault}
+use Rattle.run_inputs.specs.declared.faults.init_fault.InitFault.TheVariants.{Outside as NoRank}
 use Rattle.command_runs.specs.declared.run.Outcome.{Outcome}
 use Rattle.command_runs.specs.declared.run.Outcome.TheVariants.{Good, CheckFailed}
 use Rattle.program_runs.specs.declared.ending.Ending.{Ending}

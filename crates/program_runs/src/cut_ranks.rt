@@ -1,7 +1,7 @@
 //! The ranks whose texts were cut off, and those texts.
 
-use command_runs::Opener;
 use diagnosis_words::CutText;
+use run_inputs::Opener;
 use std::alloc::{AllocError, Global};
 use text_notes::TextNote;
 use trace_know::Knowledge;

@@ -5,24 +5,24 @@ ghost use Rattle.mpi_model.specs.Failures.{HasFailed};
 ghost use Rattle.dumpi_text.specs.Failing.{Fails};
 ghost use Rattle.command_line.specs.Program.{asked_rank, texts_of, wish_of};
 ghost use Rattle.run_files.specs.Stores.{Files};
-ghost use Rattle.command_runs.specs.Advice.{IsShownIn};
-ghost use Rattle.command_runs.specs.FaultLines.{fault_line_of};
-ghost use Rattle.command_runs.specs.Files.{IsLength};
-ghost use Rattle.command_runs.specs.InitAdvice.{IsInitShown};
-ghost use Rattle.command_runs.specs.InitFaults.{init_fault_line_of};
-ghost use Rattle.command_runs.specs.Inputs.{HasRank};
+ghost use Rattle.run_inputs.specs.Advice.{IsShownIn};
+ghost use Rattle.run_inputs.specs.FaultLines.{fault_line_of};
+ghost use Rattle.run_inputs.specs.Files.{IsLength};
+ghost use Rattle.run_inputs.specs.InitAdvice.{IsInitShown};
+ghost use Rattle.run_inputs.specs.InitFaults.{init_fault_line_of};
+ghost use Rattle.run_inputs.specs.Inputs.{HasRank};
 ghost use Rattle.program_runs.specs.Endings.{BeginsWithText, EndsCluster, EndsClusterKept, EndsClusterRun, EndsFiles, EndsFor, EndsInit, EndsInitNamed, EndsKept, EndsNamed, EndsPair, EndsRun, EndsStrange, EndsTexts, IsEndedBy, IsEnding, first_name, strange_line};
 
 use crate::run::run_with;
 use command_line::{Asked, CommandFault, Verb, Verbosity, Wanted, command_of};
-use command_runs::{
-    Beside, FileName, InitFault, Opener, Outcome, Run, RunFault, Saying, Watcher, begins_as_text,
-    borrowed, cluster, fault_line, has_rank, init, init_fault_line, input_at, is_in_words,
-    kept_files, no_text_of, piped_of, prepared_of, shown_fault, shown_init_fault, tell,
-    with_folders,
-};
+use command_runs::{Outcome, Run, cluster};
 use mpi_model::{Sends, Write, write_all};
 use run_files::{RunInput, Store};
+use run_inputs::{
+    Beside, FileName, InitFault, Opener, RunFault, Saying, Watcher, begins_as_text, borrowed,
+    fault_line, has_rank, init, init_fault_line, input_at, is_in_words, kept_files, no_text_of,
+    piped_of, prepared_of, shown_fault, shown_init_fault, tell, with_folders,
+};
 use std::alloc::{AllocError, Global};
 use std::io::Eprint;
 use std::net::{Net, TcpListener, TcpStream};

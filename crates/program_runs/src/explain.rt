@@ -3,7 +3,7 @@
 ghost use Rattle.std.specs.Prelude.{◌≡◌, false, IfErr, IfOk, OnOk};
 ghost use Rattle.dumpi_text.specs.Failing.{Fails};
 ghost use Rattle.command_runs.specs.Explains.{IsExplainOf};
-ghost use Rattle.command_runs.specs.Files.{NamesFailed};
+ghost use Rattle.run_inputs.specs.Files.{NamesFailed};
 ghost use Rattle.command_runs.specs.Refusals.{RefusesNamed};
 ghost use Rattle.command_runs.specs.Said.{IsDiagnosed};
 ghost use Rattle.command_runs.specs.Verbs.{RanSo};
@@ -13,13 +13,14 @@ use crate::cut_ranks::cut_ranks;
 use crate::facts::{add_places, facts_of};
 use call_words::Text;
 use command_line::Extent;
-use command_runs::{Answerer, Opener, Outcome, Run, RunFault, Watcher, noted_node, write_text};
+use command_runs::{Answerer, Outcome, Run, noted_node, write_text};
 use diagnosis_value::Diagnosis;
 use diagnosis_words::{
     TextFacts, answer_doubts, diagnosis_json, diagnosis_picture, diagnosis_words, last_calls,
     rank_words,
 };
 use mpi_model::{Layout, Write};
+use run_inputs::{Opener, RunFault, Watcher};
 use std::alloc::{AllocError, Global};
 use text_notes::{TextNote, put_notes, put_pieceless};
 use trace_diagnosis::diagnose;

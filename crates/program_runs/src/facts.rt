@@ -2,9 +2,9 @@
 
 use crate::arguments::add_arguments;
 use crate::cut_ranks::cut_texts;
-use command_runs::{Opener, reopened};
 use diagnosis_value::Diagnosis;
 use diagnosis_words::{TextFacts, argument_calls, named_calls};
+use run_inputs::{Opener, reopened};
 use std::alloc::{AllocError, Global};
 use std::collections::BTreeSet;
 use text_notes::{Look, TextNote, look_at};

@@ -2,15 +2,16 @@
 
 ghost use Rattle.std.specs.Prelude.{IfErr, IfOk};
 ghost use Rattle.dumpi_text.specs.Failing.{Fails};
-ghost use Rattle.command_runs.specs.Files.{NamesFailed};
+ghost use Rattle.run_inputs.specs.Files.{NamesFailed};
 ghost use Rattle.command_runs.specs.Pages.{IsPageOf};
 ghost use Rattle.command_runs.specs.Refusals.{RefusesNamed};
 ghost use Rattle.command_runs.specs.Verbs.{RanSo};
 
 use crate::explain::{Printing, text_with};
-use command_runs::{Opener, Outcome, Run, RunFault, Watcher, write_text};
+use command_runs::{Outcome, Run, write_text};
 use mpi_model::Write;
 use page_words::page_of;
+use run_inputs::{Opener, RunFault, Watcher};
 
 /// Writes what holds up the run as a page: the template around what `explain --json` writes.
 pub(crate) fn page<O: Opener, V: Watcher, W: Write>(

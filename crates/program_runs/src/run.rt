@@ -3,18 +3,18 @@
 ghost use Rattle.std.specs.Prelude.{IfErr};
 ghost use Rattle.dumpi_text.specs.Failing.{Fails};
 ghost use Rattle.command_line.specs.Program.{asked_rank};
-ghost use Rattle.command_runs.specs.Files.{NamesFailed};
-ghost use Rattle.command_runs.specs.Inputs.{HasRank};
+ghost use Rattle.run_inputs.specs.Files.{NamesFailed};
+ghost use Rattle.run_inputs.specs.Inputs.{HasRank};
 ghost use Rattle.command_runs.specs.Verbs.{Ran};
 
 use crate::explain::{Printing, explain};
 use crate::page::page;
 use command_line::Verb;
 use command_runs::{
-    Opener, Outcome, Run, RunFault, Watcher, calls, check, check_as_json, pack, replay, report,
-    report_as_json, timeline,
+    Outcome, Run, calls, check, check_as_json, pack, replay, report, report_as_json, timeline,
 };
 use mpi_model::Write;
+use run_inputs::{Opener, RunFault, Watcher};
 use std::alloc::{AllocError, Global};
 
 /// The bytes of the block that is asked for and given back before a run: 31 MB. From a freed block of more than 32 MB

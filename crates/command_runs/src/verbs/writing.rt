@@ -3,11 +3,11 @@
 ghost use Rattle.std.specs.Prelude.{◌≡◌, IfErr, IfOk, OnErr, OnOk};
 ghost use Rattle.std.specs.Io.KnownBytes.{Appends};
 ghost use Rattle.mpi_model.specs.Failures.{CountsFailure};
-ghost use Rattle.command_runs.specs.Writing.{AppendsFront, BreaksOff};
+ghost use Rattle.run_inputs.specs.Writing.{AppendsFront, BreaksOff};
 
-use crate::faults::fault::RunFault;
 use crate::run::Outcome;
 use mpi_model::{Failed, Write, write_all};
+use run_inputs::RunFault;
 
 /// Writes the whole piece. A failure doesn't say how much of it was written.
 pub(crate) fn write_piece<W: Write>(piece: &[u8], out: &mut W) -> Result<(), Failed>

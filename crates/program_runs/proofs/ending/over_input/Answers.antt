@@ -2,7 +2,7 @@ use Rattle.std.proofs.Common.{ap, subst, sym}
 use Rattle.std.proofs.lemmas.Result.{IfOk-weaker}
 use Rattle.mpi_model.specs.Layouts.{Parts}
 use Rattle.command_line.specs.Program.{asked_rank}
-use Rattle.command_runs.specs.Inputs.{HasRank}
+use Rattle.run_inputs.specs.Inputs.{HasRank}
 use Rattle.program_runs.proofs.Endings.{ran_over}
 use Rattle.program_runs.proofs.ending.over_input.Goals as goal
 

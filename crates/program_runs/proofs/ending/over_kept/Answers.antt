@@ -1,7 +1,7 @@
 use Rattle.std.proofs.Common.{◌≡◌, List, ap, inl, inr, map, subst}
 use Rattle.std.proofs.lemmas.Result.{IfOk-weaker}
 use Rattle.run_files.specs.Manifests.{PieceParts}
-use Rattle.command_runs.specs.Seen.{RefusesLooks, Sees, cut_names, kept_of, seen_by}
+use Rattle.run_inputs.specs.Seen.{RefusesLooks, Sees, cut_names, kept_of, seen_by}
 use Rattle.program_runs.proofs.Endings.{if_both, shown_so}
 use Rattle.program_runs.proofs.Fronts.{run_inner}
 use Rattle.program_runs.proofs.ending.over_kept.Goals as goal

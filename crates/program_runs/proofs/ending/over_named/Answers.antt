@@ -1,7 +1,7 @@
 use Rattle.std.proofs.Common.{◌≡◌, ◌∙◌, String, Global, List, ap, inl, inr, map, refl, string_bytes, subst, sym}
 use Rattle.std.proofs.lemmas.Result.{IfOk-weaker}
 use Rattle.clap.specs.Words.{Text}
-use Rattle.command_runs.specs.Folders.{StandForAll}
+use Rattle.run_inputs.specs.Folders.{StandForAll}
 use Rattle.program_runs.proofs.Endings.{if_both}
 use Rattle.program_runs.proofs.ending.over_named.Goals as goal
 

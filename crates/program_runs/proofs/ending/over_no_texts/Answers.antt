@@ -1,6 +1,6 @@
 use Rattle.std.proofs.Common.{IfSome, inl, inr, subst}
 use Rattle.command_line.specs.Program.{texts_of}
-use Rattle.command_runs.specs.NoTexts.{AreNoTexts}
+use Rattle.run_inputs.specs.NoTexts.{AreNoTexts}
 use Rattle.program_runs.proofs.Endings.{if_both}
 use Rattle.program_runs.proofs.ending.over_no_texts.Goals as goal
 

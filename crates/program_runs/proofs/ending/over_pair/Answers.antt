@@ -2,7 +2,7 @@ use Rattle.std.proofs.Common.{ℕ, List, Option, ap, inl, inr, subst}
 use Rattle.std.proofs.lemmas.Result.{IfOk-weaker}
 use Rattle.dumpi_text.specs.Failing.{Fails}
 use Rattle.command_line.specs.Program.{asked_rank}
-use Rattle.command_runs.specs.Inputs.{HasRank, RefusesLoading}
+use Rattle.run_inputs.specs.Inputs.{HasRank, RefusesLoading}
 use Rattle.program_runs.specs.Endings.{EndsKept}
 use Rattle.program_runs.proofs.Endings.{if_both, shown_so}
 use Rattle.program_runs.proofs.ending.over_pair.Goals as goal

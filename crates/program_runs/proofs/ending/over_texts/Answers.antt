@@ -1,10 +1,10 @@
 use Rattle.std.proofs.Common.{◌≡◌, ℕ, ap, inl, inr, map, refl, string_bytes, subst}
 use Rattle.std.proofs.lemmas.Result.{IfOk-weaker}
 use Rattle.command_line.specs.Program.{asked_rank}
-use Rattle.command_runs.specs.InitAdvice.{IsInitShown}
-use Rattle.command_runs.specs.Inputs.{HasRank, LacksRank}
-use Rattle.command_runs.specs.Seen.{kept_of, seen_by}
-use Rattle.command_runs.specs.declared.faults.init_fault.InitFault.TheVariants.{Outside as NoRank}
+use Rattle.run_inputs.specs.InitAdvice.{IsInitShown}
+use Rattle.run_inputs.specs.Inputs.{HasRank, LacksRank}
+use Rattle.run_inputs.specs.Seen.{kept_of, seen_by}
+use Rattle.run_inputs.specs.declared.faults.init_fault.InitFault.TheVariants.{Outside as NoRank}
 use Rattle.program_runs.proofs.Endings.{if_both}
 use Rattle.program_runs.proofs.Fronts.{run_inner}
 use Rattle.program_runs.proofs.ending.over_texts.Goals as goal

@@ -1,7 +1,0 @@
-use Rattle.std.proofs.Common.{take}
-use Rattle.command_line.specs.Program.{texts_of}
-use Rattle.command_runs.specs.Seen.{AreCutsOf}
-use Rattle.command_runs.proofs.load.cut.cuts_of.Given as goal
-
-abbrev pub invariant-loop-name : goal.invariant-loop-name
-invariant-loop-name g l = AreCutsOf (g.O.Opener.file l.files) (texts_of (take l.name-index l.names)) l.cuts.items
