@@ -26,7 +26,7 @@
 //!   texts ([`load::telling`]): `specs/Folders.antt`, `NoTexts.antt`, `Telling.antt`
 //! - where files come from ([`load::opener`], [`load::beside`]), and what observes how far the reading is ([`load::watch`],
 //!   [`load::terminal`]): `specs/Files.antt`
-//! - what `init` keeps ([`mod@init`]): `specs/Inits.antt`
+//! - what `init` keeps ([`both_files`]): `specs/Inits.antt`
 //! - a fault and its line ([`faults::fault`], of a walk [`faults::walk_fault`], of texts [`faults::init_fault`]):
 //!   `specs/FaultLines.antt`, `WalkFaults.antt`, `InitFaults.antt`
 //! - what is said below that line ([`faults::advice`], [`faults::init_advice`], [`faults::sentences`]), by what was
@@ -42,17 +42,17 @@
 //! Its tests are in `tests/cases/`, `tests/rows/inputs.txt` and `tests/rows/inits.txt`, which the built program runs.
 #![tactic(auto)]
 
+mod both_files;
 mod faults;
-mod init;
 mod load;
 
+pub use both_files::init;
 pub use faults::advice::{is_in_words, shown_fault};
 pub use faults::fault::{RunFault, StepCause, fault_line};
 pub use faults::file_name::FileName;
 pub use faults::init_advice::shown_init_fault;
 pub use faults::init_fault::{InitFault, init_fault_line};
 pub use faults::walk_fault::fault_of_walk;
-pub use init::init;
 pub use load::beside::Beside;
 pub use load::cut_files::{CutFiles, CutText};
 pub use load::first_look::begins_as_text;

@@ -10,7 +10,7 @@ use Rattle.run_inputs.specs.Writing.{AppendsFront}
 use Rattle.run_inputs.specs.declared.faults.init_fault.InitFault.{InitFault}
 use Rattle.run_inputs.specs.declared.faults.init_fault.InitFault.TheVariants.{Memory}
 use Rattle.run_inputs.proofs.Ended.{init_refused, made_refused, tells_cuts}
-use Rattle.run_inputs.proofs.init.init.Goals as goal
+use Rattle.run_inputs.proofs.both_files.init.Goals as goal
 
 pub returns-in_err-prepared : goal.returns-in_err-prepared
 returns-in_err-prepared g c = init_refused _ _ _ _ _ c.from_residual.result c.in_err-prepared.field-0.0 g.W.Write.written g.W.Write.failures c.args.out.now c.from_residual.ensures.1 c.in_err-prepared.ensures.err
