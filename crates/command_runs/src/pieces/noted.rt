@@ -15,11 +15,12 @@ ghost use Rattle.command_runs.specs.Traces.{IsInside, IsKnown};
 
 use crate::pieces::gatherer::Gatherer;
 use crate::pieces::knowing::{take_whole, with_stranger};
-use crate::pieces::piece::fault_of_walk;
 use crate::run::Run;
 use dumpi_calls::{walk_with_buffer, whole_texts};
 use run_files::Piece;
-use run_inputs::{FileName, Opener, RunFault, Watched, Watcher, announce, opened, start_at};
+use run_inputs::{
+    FileName, Opener, RunFault, Watched, Watcher, announce, fault_of_walk, opened, start_at,
+};
 use std::alloc::{AllocError, Global};
 use text_notes::{Noting, Start, TextNote, noted_texts};
 use trace_know::{ReadyPiece, SegmentFault, join_laws, view_laws};

@@ -9,7 +9,7 @@ ghost use Rattle.trace_know.specs.Trace.{facts_of_all};
 
 use dumpi_calls::{Collect, walk_with_buffer, whole_segments, whole_texts};
 use run_files::Piece;
-use run_inputs::{Opener, RunFault, Watched, Watcher, opened};
+use run_inputs::{Opener, RunFault, Watched, Watcher, fault_of_walk, opened};
 use std::alloc::Global;
 use trace_know::{ReadyPiece, ReadySegment, SegmentFault};
 

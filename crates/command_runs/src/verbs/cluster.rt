@@ -12,7 +12,6 @@ ghost use Rattle.command_runs.specs.Verbs.{RanCluster};
 ghost use Rattle.run_inputs.specs.Writing.{Writes, WritesFront};
 
 use crate::pieces::node_texts::{side_of, texts_of_all, worker_of};
-use crate::pieces::piece::fault_of_walk;
 use crate::pieces::shares::shares_of;
 use crate::run::{Outcome, Run};
 use crate::verbs::answerer::Answerer;
@@ -21,7 +20,7 @@ use crate::verbs::writing::write_piece;
 use dumpi_calls::whole_segments;
 use mpi_model::{Failed, Write};
 use run_files::Piece;
-use run_inputs::{Opener, RunFault};
+use run_inputs::{Opener, RunFault, fault_of_walk};
 use std::alloc::{AllocError, Global};
 use std::net::{Net, TcpListener, TcpStream};
 use std::sync::Wait;
