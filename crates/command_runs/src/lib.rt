@@ -63,5 +63,6 @@ pub use verbs::node::noted_node;
 pub use verbs::pack::pack;
 pub use verbs::replay::replay;
 pub use verbs::report::{report, report_as_json};
+pub use verbs::survey::ops_of_all;
 pub use verbs::timeline::timeline;
 pub use verbs::writing::write_text;

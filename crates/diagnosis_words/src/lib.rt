@@ -48,6 +48,7 @@ mod writer;
 
 pub use calls_of_rank::last_calls;
 pub use doubts_of_answer::answer_doubts;
+pub use groups::first_ranks;
 pub use json::diagnosis_json;
 pub use named::{argument_calls, named_calls};
 pub use one_rank::rank_words;

@@ -11,6 +11,7 @@ ghost use Rattle.command_runs.specs.Verbs.{RanSo};
 use crate::arguments::compare_arguments;
 use crate::cut_ranks::cut_ranks;
 use crate::facts::{add_places, facts_of};
+use crate::moments::{Moments, with_last_calls};
 use call_words::Text;
 use command_line::Extent;
 use command_runs::{Answerer, Outcome, Run, noted_node, write_text};
@@ -32,6 +33,8 @@ use trace_node::Answer;
 pub(crate) enum Printing {
     Words(Extent),
     Json,
+    /// As the value of a page: as JSON, with the last calls of some ranks.
+    Page,
     /// What it says of one rank, in words.
     Rank(u32),
     /// In the language of Graphviz.
@@ -42,7 +45,7 @@ pub(crate) enum Printing {
 fn asked_of(printing: Printing) -> Option<u32> {
     match printing {
         Printing::Rank(rank) => Some(rank),
-        Printing::Words(_) | Printing::Json | Printing::Picture(_) => None,
+        Printing::Words(_) | Printing::Json | Printing::Page | Printing::Picture(_) => None,
     }
 }
 
@@ -104,6 +107,19 @@ fn diagnosed<N: Answerer, O: Opener>(
             in_words(alloc, layout, &diagnosis, &texts, answer, know, extent)
         }
         Printing::Json => diagnosis_json(alloc, layout, &diagnosis, &texts),
+        Printing::Page => {
+            let json = diagnosis_json(alloc, layout, &diagnosis, &texts)?;
+            let moments = Moments {
+                alloc,
+                layout,
+                answer,
+                know,
+                diagnosis: &diagnosis,
+                texts: &texts,
+                files,
+            };
+            with_last_calls(&moments, json)
+        }
         Printing::Rank(rank) => of_rank(alloc, layout, &diagnosis, &texts, answer, know, rank),
         Printing::Picture(extent) => {
             diagnosis_picture(alloc, layout, &diagnosis, &texts, extent == Extent::Whole)

@@ -19,7 +19,8 @@
 //! - which verb runs: [`run`]; what it prints: `specs/Verbs.antt` of `command_runs`
 //! - what `explain`, `graph` and `page` look up in the texts once more: [`facts`], [`arguments`]; how they print it:
 //!   [`explain`], [`page`]
-//! - of which ranks a diagnosis says that their texts were cut off: [`cut_ranks`]
+//! - of which ranks a diagnosis says that their texts were cut off: [`cut_ranks`]; which last calls a page shows:
+//!   [`moments`]
 //!
 //! # Choices
 //!
@@ -34,6 +35,7 @@ mod cut_ranks;
 mod ending;
 mod explain;
 mod facts;
+mod moments;
 mod page;
 mod run;
 

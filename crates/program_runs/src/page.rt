@@ -13,7 +13,8 @@ use mpi_model::Write;
 use page_words::page_of;
 use run_inputs::{Opener, RunFault, Watcher};
 
-/// Writes what holds up the run as a page: the template around what `explain --json` writes.
+/// Writes what holds up the run as a page: the template around what `explain --json` writes, with the last calls of some
+/// ranks.
 pub(crate) fn page<O: Opener, V: Watcher, W: Write>(
     run: &Run<'_, O>,
     watcher: &mut V,
@@ -33,7 +34,7 @@ fn page_with<O: Opener, V: Watcher>(run: &Run<'_, O>, watcher: &mut V) -> Result
     ensures err { IfErr result (RefusesNamed (O.file run.now.files.now) run.now.layout.now.ranks run.now.manifest.now) }
     ensures failed { IfErr result (NamesFailed (Fails O.R.failures)) }
 {
-    let json = text_with(Printing::Json, run, watcher)?;
+    let json = text_with(Printing::Page, run, watcher)?;
     let page = page_of(run.alloc, &json)?;
     Ok(page)
 }

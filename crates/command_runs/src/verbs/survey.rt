@@ -144,3 +144,18 @@ pub(crate) fn push_own(
     ops.push(own)?;
     Ok(())
 }
+
+/// What all ranks did, by what is known of them. Fails with `AllocError` when memory is refused.
+pub fn ops_of_all(
+    alloc: Global,
+    layout: &Layout,
+    know: &Knowledge,
+) -> Result<Vec<RankOps>, AllocError>
+    ensures { IfOk result (λ ops. HoldsRanks layout.now.ranks ops.items) }
+{
+    let mut ops = Vec::new(alloc);
+    for rank in 0..layout.ranks() {
+        push_own(alloc, layout, know, rank, &mut ops)?;
+    }
+    Ok(ops)
+}
