@@ -1,4 +1,4 @@
-// The parts of the page, from top to bottom. A part that is drawn against time would stand behind the picture.
+// The parts of the page, from top to bottom.
 
 const answer = new Answer(JSON.parse(document.getElementById("answer").textContent));
 const at = (id) => document.getElementById(id);
@@ -78,6 +78,43 @@ function showPicture() {
   at("pointed").hidden = roots.length === 0;
 }
 
+function button(words, act) {
+  const it = made("button", "plain", words);
+  it.type = "button";
+  it.addEventListener("click", act);
+  return it;
+}
+
+/** The last calls of some ranks against time, where the value has them. */
+function showMoments() {
+  const rows = answer.value.last_calls ?? [];
+  at("last-moments").hidden = rows.length === 0 || answer.begin === null;
+  if (at("last-moments").hidden) {
+    return;
+  }
+  const moments = new Moments(answer, (call) => {
+    const lines = call.rows.map(rowWords).filter((it) => it !== "").map((it) => made("li", "", named(it)));
+    at("moment").replaceChildren(named(moments.wordsOf(call)), made("ul", "", ...lines));
+  });
+  const by = (act) => () => {
+    act();
+    at("moments-legend").textContent = moments.legend();
+  };
+  const isTrue = button("True to time", by(() => isTrue.setAttribute("aria-pressed", moments.turn())));
+  isTrue.setAttribute("aria-pressed", false);
+  const more = button(`Show all ${moments.lanes.length} lanes`, by(() => {
+    moments.showAll();
+    more.hidden = true;
+  }));
+  more.hidden = moments.lanes.length <= FIRST_LANES;
+  at("moments").replaceChildren(moments.element);
+  at("moments-buttons").replaceChildren(button("Zoom in", by(() => moments.zoom(0.5))), button("Zoom out", by(() => moments.zoom(2))),
+    button("All", by(() => moments.show(0, 1))), button("Earlier", by(() => moments.move(-1))), button("Later", by(() => moments.move(1))), isTrue, more);
+  at("moment").textContent = "Point at a bar, or go there by the tab key and the arrow keys: its call stands here. The keys + and - zoom.";
+  by(() => moments.draw())();
+  window.addEventListener("resize", () => moments.draw());
+}
+
 /** Leaves out the rows of all tables that don't fit the words of the filter. */
 function filterTables() {
   const isWanted = ranksWanted(at("ranks-wanted").value);
@@ -137,6 +174,6 @@ function showMade() {
   at("made").replaceChildren(...rows.filter(([, text]) => text !== "").flatMap(([name, text]) => [made("dt", "", name), made("dd", "", named(text))]));
 }
 
-for (const part of [showRoots, showPicture, showFilter, showTables, showMade]) {
+for (const part of [showRoots, showPicture, showMoments, showFilter, showTables, showMade]) {
   part();
 }

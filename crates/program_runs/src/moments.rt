@@ -32,6 +32,7 @@ const MOST_ROWS: usize = 4;
 const LONGEST_ROW: usize = 1000;
 
 /// Of what the last moments are made.
+#[derive(Drop)]
 pub(crate) struct Moments<'a, O: Opener> {
     pub alloc: Global,
     pub layout: &'a Layout,
