@@ -88,30 +88,34 @@ function button(words, act) {
 /** The last calls of some ranks against time, where the value has them. */
 function showMoments() {
   const rows = answer.value.last_calls ?? [];
-  at("last-moments").hidden = rows.length === 0 || answer.begin === null;
-  if (at("last-moments").hidden) {
+  at("last-moments").hidden = rows.length === 0;
+  if (rows.length === 0) {
     return;
   }
   const moments = new Moments(answer, (call) => {
     const lines = call.rows.map(rowWords).filter((it) => it !== "").map((it) => made("li", "", named(it)));
     at("moment").replaceChildren(named(moments.wordsOf(call)), made("ul", "", ...lines));
   });
-  const by = (act) => () => {
-    act();
-    at("moments-legend").textContent = moments.legend();
-  };
-  const isTrue = button("True to time", by(() => isTrue.setAttribute("aria-pressed", moments.turn())));
-  isTrue.setAttribute("aria-pressed", false);
-  const more = button(`Show all ${moments.lanes.length} lanes`, by(() => {
-    moments.showAll();
+  const more = button(`Show all ${moments.lanes.length} lanes`, () => {
+    moments.most = Infinity;
     more.hidden = true;
-  }));
+    moments.show(0, 1);
+  });
+  const turn = (isTrue) => {
+    moments.isTrue = isTrue;
+    isTimely.setAttribute("aria-pressed", isTrue);
+    at("moments-mode").textContent = isTrue ? "Lengths are true to time." : "Each begin or end is a step, all steps are equally long: not true to time.";
+  };
+  const isTimely = button("True to time", () => {
+    turn(!moments.isTrue);
+    moments.show(0, 1);
+  });
   more.hidden = moments.lanes.length <= FIRST_LANES;
   at("moments").replaceChildren(moments.element);
-  at("moments-buttons").replaceChildren(button("Zoom in", by(() => moments.zoom(0.5))), button("Zoom out", by(() => moments.zoom(2))),
-    button("All", by(() => moments.show(0, 1))), button("Earlier", by(() => moments.move(-1))), button("Later", by(() => moments.move(1))), isTrue, more);
-  at("moment").textContent = "Point at a bar, or go there by the tab key and the arrow keys: its call stands here. The keys + and - zoom.";
-  by(() => moments.draw())();
+  at("moments-buttons").replaceChildren(button("Zoom in", () => moments.zoom(0.5)), button("Zoom out", () => moments.zoom(2)),
+    button("All", () => moments.show(0, 1)), button("Earlier", () => moments.move(-1)), button("Later", () => moments.move(1)), isTimely, more);
+  turn(false);
+  moments.draw();
   window.addEventListener("resize", () => moments.draw());
 }
 
