@@ -101,18 +101,13 @@ class Moments {
   }
 
   press(event) {
-    const step = { ArrowLeft: [-1, 0], ArrowRight: [1, 0], ArrowUp: [0, -1], ArrowDown: [0, 1] }[event.key];
-    const factor = { "+": 0.5, "=": 0.5, "-": 2, 0: Infinity }[event.key];
-    if (event.ctrlKey || event.metaKey || event.altKey || (step ?? factor) === undefined) {
-      return;
-    }
-    event.preventDefault();
-    if (step !== undefined) {
-      this.go(...step);
-    } else if (factor === Infinity) {
-      this.show(0, 1);
-    } else {
-      this.zoom(factor);
+    const act = {
+      ArrowLeft: () => this.go(-1, 0), ArrowRight: () => this.go(1, 0), ArrowUp: () => this.go(0, -1), ArrowDown: () => this.go(0, 1),
+      "+": () => this.zoom(0.5), "=": () => this.zoom(0.5), "-": () => this.zoom(2), 0: () => this.show(0, 1),
+    }[event.key];
+    if (act !== undefined && !event.ctrlKey && !event.metaKey && !event.altKey) {
+      event.preventDefault();
+      act();
     }
   }
 
@@ -176,18 +171,19 @@ class Moments {
     });
   }
 
-  rowAt(rank, call, part) {
-    return this.rows.get(`${rank} ${call} ${part}`);
+  /** The row of a shown lane that sends, or receives. (A Sendrecv has one of each.) */
+  rowAt(rank, call, part, side) {
+    return this.rows.get(`${rank} ${call} ${part} ${side}`);
   }
 
   /** An arrow from each send to the end of its receive, or of the call that completes that. */
   messages() {
     return [...this.rows.values()].filter(({ row }) => row.side === "send").flatMap(({ call, row }) => {
-      const to = this.rowAt(row.partner_rank, row.partner_call, row.partner_part);
+      const to = this.rowAt(row.partner_rank, row.partner_call, row.partner_part, "receive");
       if (to === undefined) {
         return [];
       }
-      const last = this.rowAt(to.call.rank, to.row.completed_by, 0)?.call ?? to.call;
+      const last = this.seen[this.laneOf.get(to.call.rank)].find((it) => it.call === to.row.completed_by) ?? to.call;
       const [x, y, end, bottom] = [this.xOf(call.enter), this.yOf(call.rank), this.stretchOf(last)[1], this.yOf(last.rank)];
       const angle = Math.atan2(bottom - y, end - x);
       const side = (turn) => `${end - 8 * Math.cos(angle + turn)} ${bottom - 8 * Math.sin(angle + turn)}`;
@@ -198,7 +194,8 @@ class Moments {
 
   /** A short arrow with a cross for each message that nobody has received. */
   lost() {
-    return this.answer.value.left_over.map(({ message: { rank, call, part = 0 } }) => this.rowAt(rank, call, part)).filter(Boolean).map(({ call, row }) => {
+    const rows = this.answer.value.left_over.map(({ message: { rank, call, part = 0 } }) => this.rowAt(rank, call, part, "send"));
+    return rows.filter((it) => it !== undefined).map(({ call, row }) => {
       const way = (this.laneOf.get(row.peer) ?? Infinity) < this.laneOf.get(call.rank) ? -1 : 1;
       return drawn("path", { class: "lost", d: `M ${this.xOf(call.enter)} ${this.yOf(call.rank)} l 12 ${way * 14} m -4 -4 l 8 8 m 0 -8 l -8 8` });
     });
@@ -209,7 +206,8 @@ class Moments {
     const { times, from, to } = this;
     const lasts = Number(times.at(-1) - times[0]);
     const parts = Array.from({ length: TICKS + 1 }, (_, i) => from + ((to - from) * i) / TICKS);
-    return [...new Set(parts.map((it) => (this.isTrue ? times[0] + BigInt(Math.round(it * lasts)) : times[Math.round(it * (times.length - 1))])))];
+    const timeOf = (part) => (this.isTrue ? times[0] + BigInt(Math.round(part * lasts)) : times[Math.round(part * (times.length - 1))]);
+    return [...new Set(parts.map(timeOf))];
   }
 
   /** Looks what the shown lanes have, and draws it. */
@@ -217,7 +215,7 @@ class Moments {
     this.seen = this.lanes.slice(0, this.most);
     const calls = this.seen.flat();
     this.laneOf = new Map(this.seen.map(([it], i) => [it.rank, i]));
-    this.rows = new Map(calls.flatMap((call) => call.rows.map((row) => [`${call.rank} ${call.call} ${row.part}`, { call, row }])));
+    this.rows = new Map(calls.flatMap((call) => call.rows.map((row) => [`${call.rank} ${call.call} ${row.part} ${row.side}`, { call, row }])));
     this.times = [...new Set([...calls.flatMap((it) => [it.enter, it.leaves ?? it.enter]), this.answer.end])].sort(compared);
     this.placeOf = new Map(this.times.map((it, i) => [it, i]));
     this.bars = new Map();
