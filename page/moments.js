@@ -57,7 +57,7 @@ class Moments {
 
   xOf(time) {
     const x = NAMES + ((this.partOf(time) - this.from) / (this.to - this.from)) * (this.width - NAMES - AFTER);
-    return Math.min(Math.max(x, -1e5), 1e5);
+    return Math.round(Math.min(Math.max(x, -1e5), 1e5) * 100) / 100;
   }
 
   /** Where a call begins and ends in the picture. */
@@ -227,7 +227,8 @@ class Moments {
     const names = this.seen.map(([{ rank }]) =>
       drawn("text", { class: this.answer.ownRoots.has(rank) ? "strong" : "plain", x: 2, y: this.yOf(rank) + 4 }, `rank ${rank}`));
     const about = `The last ${counted(calls.length, "call")} of ${counted(this.seen.length, "rank")} against time`;
-    Object.entries({ viewBox: `0 0 ${this.width} ${height}`, width: this.width, height, "aria-label": about }).forEach((it) => this.element.setAttribute(...it));
+    const attributes = { viewBox: `0 0 ${this.width} ${height}`, width: this.width, height, "aria-label": about };
+    Object.entries(attributes).forEach(([name, value]) => this.element.setAttribute(name, value));
     this.element.replaceChildren(...this.bands(), ...ticks.map(([x]) => drawn("path", { class: "grid", d: `M ${x} 0 V ${bottom + 5}` })),
       ...this.seen.map((it) => this.lane(it)), ...this.messages(), ...this.lost(), drawn("rect", { class: "cover", width: NAMES - 3, height }), ...names,
       ...ticks.map(([x, text]) => drawn("text", { class: "tick", x, y: bottom + 18 }, text)));

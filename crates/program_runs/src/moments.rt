@@ -1,7 +1,6 @@
 //! The last moments of a run, for its page: the last calls of some ranks with their partners, as `calls --json` has
 //! them.
 
-ghost use Rattle.std.specs.Prelude.{◌≡◌, ◌-◌};
 ghost use Rattle.call_table.specs.Partners.{IsAnswered};
 
 use call_table::{
@@ -20,7 +19,7 @@ use trace_node::Answer;
 
 /// The most ranks whose last calls are shown.
 const MOST_RANKS: usize = 64;
-/// How many calls are shown of each: together this many, of one rank at least so few and at most so many.
+/// How many rows are shown: together this many, of one rank at least so few and at most so many.
 const OF_ALL: usize = 300;
 
 const FEWEST: usize = 4;
@@ -43,19 +42,12 @@ pub(crate) struct Moments<'a, O: Opener> {
     pub files: &'a O,
 }
 
-/// How many calls are shown of each of so many ranks.
-fn calls_of_each(ranks: usize) -> u64 {
+/// How many rows are shown of each of so many ranks.
+fn rows_of_each(ranks: usize) -> usize {
     if ranks == 0 {
         return 0;
     }
-    (OF_ALL / ranks).max(FEWEST).min(MOST) as u64
-}
-
-/// The first of the last calls of so many, where at most so many are shown.
-fn first_of_last(calls: u64, most: u64) -> u64
-    ensures { result ≡ calls - most }
-{
-    calls.saturating_sub(most)
+    (OF_ALL / ranks).max(FEWEST).min(MOST)
 }
 
 /// Adds a rank that has a readable call, where there is room for it and it isn't there.
@@ -130,7 +122,32 @@ fn put_item(json: &mut Vec<u8>, row: &[u8]) -> Result<(), AllocError> {
     json.extend_from_slice(row)
 }
 
-/// Adds the rows of a call, of many the first ones.
+/// How many rows are shown of a call: of many the first ones.
+fn rows_of(calls: &RankCalls<'_>, number: u64) -> usize {
+    match calls.called(number) {
+        Some(called) => slot_count(called.call).min(MOST_ROWS),
+        None => 0,
+    }
+}
+
+/// The first of the last calls of a rank that have together at most so many rows.
+fn first_of_last(calls: &RankCalls<'_>, most: usize) -> u64 {
+    let mut first = calls.count();
+    let mut rows: usize = 0;
+    for _ in 0..most {
+        let Some(before) = first.checked_sub(1) else {
+            break;
+        };
+        rows = rows.saturating_add(rows_of(calls, before));
+        if rows > most {
+            break;
+        }
+        first = before;
+    }
+    first
+}
+
+/// Adds the rows of a call.
 fn put_rows(
     alloc: Global,
     json: &mut Vec<u8>,
@@ -141,7 +158,7 @@ fn put_rows(
     let Some(called) = calls.called(number) else {
         return Ok(());
     };
-    for at in 0..slot_count(called.call).min(MOST_ROWS) {
+    for at in 0..rows_of(calls, number) {
         let fields = calls.fields(number, &called, at as u32, received);
         let mut row = Vec::new(alloc);
         put_row(&mut row, RowForm::Json, &fields)?;
@@ -150,13 +167,13 @@ fn put_rows(
     Ok(())
 }
 
-/// Adds the rows of the last calls of a rank, at most so many.
+/// Adds the last rows of a rank, at most so many.
 fn put_last<O: Opener>(
     moments: &Moments<'_, O>,
     json: &mut Vec<u8>,
     table: &CallTable<'_>,
     rank: u32,
-    most: u64,
+    most: usize,
 ) -> Result<(), AllocError> {
     let alloc = moments.alloc;
     let events = moments.know.readable(rank);
@@ -172,7 +189,7 @@ fn put_last<O: Opener>(
         texts: &texts,
         completions: &completions,
     };
-    for number in first_of_last(count, most)..count {
+    for number in first_of_last(&calls, most)..count {
         put_rows(alloc, json, &calls, &received, number)?;
     }
     Ok(())
@@ -190,7 +207,7 @@ pub(crate) fn with_last_calls<O: Opener>(
     let ops = ops_of_all(alloc, moments.layout, moments.know)?;
     let table = CallTable::new(alloc, &ops, partners)?;
     let ranks = ranks_of(alloc, moments.layout, moments.diagnosis, moments.texts)?;
-    let most = calls_of_each(ranks.len());
+    let most = rows_of_each(ranks.len());
     let mut json = explained;
     // (the value ends with a brace and a line feed)
     json.pop();
