@@ -43,11 +43,11 @@ pub(crate) struct Moments<'a, O: Opener> {
 }
 
 /// How many rows are shown of each of so many ranks.
-fn rows_of_each(ranks: usize) -> usize {
+fn rows_of_each(ranks: usize) -> u32 {
     if ranks == 0 {
         return 0;
     }
-    (OF_ALL / ranks).max(FEWEST).min(MOST)
+    (OF_ALL / ranks).max(FEWEST).min(MOST) as u32
 }
 
 /// Adds a rank that has a readable call, where there is room for it and it isn't there.
@@ -123,17 +123,17 @@ fn put_item(json: &mut Vec<u8>, row: &[u8]) -> Result<(), AllocError> {
 }
 
 /// How many rows are shown of a call: of many the first ones.
-fn rows_of(calls: &RankCalls<'_>, number: u64) -> usize {
+fn rows_of(calls: &RankCalls<'_>, number: u64) -> u32 {
     match calls.called(number) {
-        Some(called) => slot_count(called.call).min(MOST_ROWS),
+        Some(called) => slot_count(called.call).min(MOST_ROWS) as u32,
         None => 0,
     }
 }
 
 /// The first of the last calls of a rank that have together at most so many rows.
-fn first_of_last(calls: &RankCalls<'_>, most: usize) -> u64 {
+fn first_of_last(calls: &RankCalls<'_>, most: u32) -> u64 {
     let mut first = calls.count();
-    let mut rows: usize = 0;
+    let mut rows: u32 = 0;
     for _ in 0..most {
         let Some(before) = first.checked_sub(1) else {
             break;
@@ -159,7 +159,7 @@ fn put_rows(
         return Ok(());
     };
     for at in 0..rows_of(calls, number) {
-        let fields = calls.fields(number, &called, at as u32, received);
+        let fields = calls.fields(number, &called, at, received);
         let mut row = Vec::new(alloc);
         put_row(&mut row, RowForm::Json, &fields)?;
         put_item(json, &row)?;
@@ -173,7 +173,7 @@ fn put_last<O: Opener>(
     json: &mut Vec<u8>,
     table: &CallTable<'_>,
     rank: u32,
-    most: usize,
+    most: u32,
 ) -> Result<(), AllocError> {
     let alloc = moments.alloc;
     let events = moments.know.readable(rank);
