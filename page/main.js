@@ -1,4 +1,4 @@
-// The parts of the page, from top to bottom. A part that is drawn against time would stand behind the picture.
+// The parts of the page, from top to bottom.
 
 const answer = new Answer(JSON.parse(document.getElementById("answer").textContent));
 const at = (id) => document.getElementById(id);
@@ -78,6 +78,47 @@ function showPicture() {
   at("pointed").hidden = roots.length === 0;
 }
 
+function button(words, act) {
+  const it = made("button", "plain", words);
+  it.type = "button";
+  it.addEventListener("click", act);
+  return it;
+}
+
+/** The last calls of some ranks against time, where the value has them. */
+function showMoments() {
+  const rows = answer.value.last_calls ?? [];
+  at("last-moments").hidden = rows.length === 0;
+  if (rows.length === 0) {
+    return;
+  }
+  const moments = new Moments(answer, (call) => {
+    const lines = call.rows.map(rowWords).filter((it) => it !== "").map((it) => made("li", "", named(it)));
+    at("moment").replaceChildren(named(moments.wordsOf(call)), made("ul", "", ...lines));
+  });
+  const more = button(`Show all ${moments.lanes.length} lanes`, () => {
+    moments.most = Infinity;
+    more.hidden = true;
+    moments.show(0, 1);
+  });
+  const turn = (isTrue) => {
+    moments.isTrue = isTrue;
+    isTimely.setAttribute("aria-pressed", isTrue);
+    at("moments-mode").textContent = isTrue ? "Lengths are true to time." : "Each begin or end is a step, all steps are equally long: not true to time.";
+  };
+  const isTimely = button("True to time", () => {
+    turn(!moments.isTrue);
+    moments.show(0, 1);
+  });
+  more.hidden = moments.lanes.length <= FIRST_LANES;
+  at("moments").replaceChildren(moments.element);
+  at("moments-buttons").replaceChildren(button("Zoom in", () => moments.zoom(0.5)), button("Zoom out", () => moments.zoom(2)),
+    button("All", () => moments.show(0, 1)), button("Earlier", () => moments.move(-1)), button("Later", () => moments.move(1)), isTimely, more);
+  turn(false);
+  moments.draw();
+  window.addEventListener("resize", () => moments.draw());
+}
+
 /** Leaves out the rows of all tables that don't fit the words of the filter. */
 function filterTables() {
   const isWanted = ranksWanted(at("ranks-wanted").value);
@@ -137,6 +178,6 @@ function showMade() {
   at("made").replaceChildren(...rows.filter(([, text]) => text !== "").flatMap(([name, text]) => [made("dt", "", name), made("dd", "", named(text))]));
 }
 
-for (const part of [showRoots, showPicture, showFilter, showTables, showMade]) {
+for (const part of [showRoots, showPicture, showMoments, showFilter, showTables, showMade]) {
   part();
 }

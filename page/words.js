@@ -45,10 +45,11 @@ function nanoseconds(text) {
   return BigInt(text.replace(".", ""));
 }
 
-/** The seconds from one time to another, with three decimals. */
-function secondsBetween(from, to) {
-  const milliseconds = (to - from) / 1000000n;
-  return `${milliseconds / 1000n}.${String(milliseconds % 1000n).padStart(3, "0")}`;
+/** The seconds from one time to another, with three decimals or more. */
+function secondsBetween(from, to, decimals = 3) {
+  const second = 10n ** BigInt(decimals);
+  const parts = ((to - from) * second) / 1000000000n;
+  return `${parts / second}.${String(parts % second).padStart(decimals, "0")}`;
 }
 
 /** The name of an MPI function, of its word in the answer: `MPI_Reduce_scatter` of `reduce_scatter`. */

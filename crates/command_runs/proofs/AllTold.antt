@@ -11,8 +11,8 @@ use Rattle.command_runs.specs.Nodes.{AnswersAll}
 use Rattle.command_runs.specs.Packed.{RefusesFirstPacked, TellPacked}
 use Rattle.command_runs.specs.Refusals.{RefusesNamed, RefusesPieces}
 use Rattle.command_runs.specs.Traces.{IsInside, IsKnown}
-use Rattle.command_runs.specs.declared.faults.fault.RunFault.{RunFault}
-use Rattle.command_runs.specs.declared.faults.fault.RunFault.TheVariants.{Memory}
+use Rattle.run_inputs.specs.declared.faults.fault.RunFault.{RunFault}
+use Rattle.run_inputs.specs.declared.faults.fault.RunFault.TheVariants.{Memory}
 
 pub packed_named : (file : List ℕ → Option (List ℕ)) (ranks : ℕ) (m : ManifestParts) (fault : RunFault) → (fault ≡ Memory) ⊎ RefusesFirstPacked file ranks m.packed fault
     → RefusesNamed file ranks m fault

@@ -11,12 +11,12 @@ use Rattle.std.proofs.lemmas.List.Elements.{All-cons, All-contains, All-head, Al
 use Rattle.std.proofs.lemmas.List.Sorted.{All-permutation, Contains-permutation, IsPermutation-keeps, IsPermutation-refl, IsPermutation-swap, IsPermutation-sym, IsPermutation-trans}
 use Rattle.trace_know.specs.Trace.{Fact, SameFacts, Trace, view_of}
 use Rattle.trace_know.specs.View.{View}
-use Rattle.run_files.specs.Manifests.{PieceParts}
+use Rattle.run_files.specs.Manifests.{PieceParts, whole_text}
 use Rattle.command_runs.specs.Pieces.{AreFactsOf, RefusesPiece}
 use Rattle.command_runs.specs.Refusals.{BlamesFile, NamesStranger, RefusesFirst, RefusesInSomeOrder, RefusesOneOf, RefusesPieces}
 use Rattle.command_runs.specs.Traces.{Begin, IsFirstStranger, IsInside, IsKnown, TellTrace}
-use Rattle.command_runs.specs.declared.faults.fault.RunFault.{RunFault}
-use Rattle.command_runs.specs.declared.faults.fault.RunFault.TheVariants as faults
+use Rattle.run_inputs.specs.declared.faults.fault.RunFault.{RunFault}
+use Rattle.run_inputs.specs.declared.faults.fault.RunFault.TheVariants as faults
 use Rattle.command_runs.proofs.Traces.{begins}
 
 abbrev Files : Type 0
@@ -56,7 +56,7 @@ tells_each file (told ∷ all) h =
 -- ---- in another order
 
 some : Told
-some = (record { rank = 0; first = 0; file = []; node = 0; worker = 0 }, [])
+some = (whole_text 0 [], [])
 
 swapped : (all : List Told) (pieces : List PieceParts) (i j : ℕ) → map piece_of all ≡ pieces → i < length all → j < length all → map piece_of (swap all i j) ≡ swap pieces i j
 swapped all pieces i j e low high =

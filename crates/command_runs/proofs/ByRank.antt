@@ -21,8 +21,8 @@ use Rattle.run_files.specs.Manifests.{PieceParts}
 use Rattle.command_runs.specs.Ranks.{TellRanks}
 use Rattle.command_runs.specs.Refusals.{NamesStranger, RefusesFirst, RefusesPieces}
 use Rattle.command_runs.specs.Traces.{Begin, IsFirstStranger, IsInside, IsKnown, TellTrace}
-use Rattle.command_runs.specs.declared.faults.fault.RunFault.{RunFault}
-use Rattle.command_runs.specs.declared.faults.fault.RunFault.TheVariants as faults
+use Rattle.run_inputs.specs.declared.faults.fault.RunFault.{RunFault}
+use Rattle.run_inputs.specs.declared.faults.fault.RunFault.TheVariants as faults
 use Rattle.command_runs.proofs.Traces.{Unites}
 use Rattle.command_runs.proofs.Within.{ShowsFacts, fact_at, of_rank}
 

@@ -7,7 +7,7 @@ use Rattle.trace_know.specs.Trace.{facts_from, facts_of_all}
 use Rattle.trace_crew.specs.declared.piece.TextPiece.{TextPiece}
 use Rattle.trace_crew.specs.Pieces.{GivesSegments}
 use Rattle.run_files.specs.Manifests.{PieceParts}
-use Rattle.command_runs.specs.Files.{IsFile}
+use Rattle.run_inputs.specs.Files.{IsFile}
 use Rattle.command_runs.specs.Pieces.{TellsFacts}
 use Rattle.command_runs.specs.NodeTexts.{IsTextOf}
 

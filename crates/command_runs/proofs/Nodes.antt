@@ -15,7 +15,7 @@ use Rattle.trace_world.specs.Refusals.{NoneStaler, stale}
 use Rattle.trace_world.specs.Shows.{knowledge_of, knows}
 use Rattle.trace_world.specs.Worlds.{layouts}
 use Rattle.command_runs.specs.Replays.{AreAnswers, IsTextOf, NoneStale, node_text, node_texts}
-use Rattle.command_runs.specs.Writing.{AppendsFront}
+use Rattle.run_inputs.specs.Writing.{AppendsFront}
 
 -- ---- what the nodes hold
 

@@ -5,14 +5,14 @@ use Rattle.trace_know.specs.View.{View}
 use Rattle.trace_wire.specs.declared.fault.WireFault.TheVariants as wires
 use Rattle.command_line.specs.declared.Verb.TheVariants.{Pack}
 use Rattle.run_files.specs.Manifests.{ManifestParts}
-use Rattle.command_runs.specs.Files.{NamesFailed}
+use Rattle.run_inputs.specs.Files.{NamesFailed}
 use Rattle.command_runs.specs.Known.{TellAll}
 use Rattle.command_runs.specs.Packs.{IsUnwritten}
 use Rattle.command_runs.specs.Verbs.{Ran}
 use Rattle.command_runs.specs.declared.run.Outcome.{Outcome}
-use Rattle.command_runs.specs.declared.faults.fault.RunFault.{RunFault}
-use Rattle.command_runs.specs.declared.faults.fault.RunFault.TheVariants.{Memory, File, Json, Shape, PackedFrame, Layout, Text, Missing, Wrong, Place, Rank, Outside, NodeCount, Step, Worker, Net, Frame, Write}
-use Rattle.command_runs.specs.declared.faults.fault.RunFault.TheVariants as faults
+use Rattle.run_inputs.specs.declared.faults.fault.RunFault.{RunFault}
+use Rattle.run_inputs.specs.declared.faults.fault.RunFault.TheVariants.{Memory, File, Json, Shape, PackedFrame, Layout, Text, Missing, Wrong, Place, Rank, Outside, NodeCount, Step, Worker, Net, Frame, Write}
+use Rattle.run_inputs.specs.declared.faults.fault.RunFault.TheVariants as faults
 
 -- a run whose frames were not written
 pub unwritten : {W : Type 0} (file : List ℕ → Option (List ℕ)) (l : Parts) (m : ManifestParts) (view : View)

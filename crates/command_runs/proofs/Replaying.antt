@@ -8,8 +8,8 @@ use Rattle.run_files.specs.Manifests.{ManifestParts}
 use Rattle.command_runs.specs.Refusals.{RefusesFirst}
 use Rattle.command_runs.specs.Replays.{AreLeft, AreNodesOf, RefusesReplay, RefusesSteps}
 use Rattle.command_runs.specs.Schedules.{TellSegments, world_steps}
-use Rattle.command_runs.specs.declared.faults.fault.RunFault.{RunFault}
-use Rattle.command_runs.specs.declared.faults.fault.RunFault.TheVariants.{Memory}
+use Rattle.run_inputs.specs.declared.faults.fault.RunFault.{RunFault}
+use Rattle.run_inputs.specs.declared.faults.fault.RunFault.TheVariants.{Memory}
 
 -- a piece is refused, or memory was wanting
 pub piece_refused : (file : List ℕ → Option (List ℕ)) (l : Parts) (m : ManifestParts) (fault : RunFault) → (fault ≡ Memory) ⊎ RefusesFirst file m.pieces fault → RefusesReplay file l m fault

@@ -13,7 +13,7 @@ use Rattle.command_runs.specs.Pieces.{RefusesPiece, TellsSegments}
 use Rattle.command_runs.specs.Refusals.{RefusesFirst}
 use Rattle.command_runs.specs.Schedules.{TellSegments, held_lists}
 use Rattle.command_runs.specs.Traces.{IsKnown, TellTrace}
-use Rattle.command_runs.specs.declared.faults.fault.RunFault.{RunFault}
+use Rattle.run_inputs.specs.declared.faults.fault.RunFault.{RunFault}
 use Rattle.command_runs.proofs.Traces.{begins}
 
 segments_more : (file : List ℕ → Option (List ℕ)) (pieces : List PieceParts) (piece : PieceParts) (lists : List (List PlacedEvents)) (own : List PlacedEvents)

@@ -20,13 +20,13 @@ use Rattle.trace_cluster.specs.Pieces.{Placed, all_pieces, placed}
 use Rattle.trace_cluster.specs.Stopped.{IsFirstFault, IsStopped}
 use Rattle.run_files.specs.Manifests.{PieceParts}
 use Rattle.command_runs.specs.Clusters.{AreSound, IsFaultFor, IsTextFault, NamesOne, RefusesCrews, by_node, of_exchange, of_wire, piece_at}
-use Rattle.command_runs.specs.Files.{IsFile, StandsAtFirst}
+use Rattle.run_inputs.specs.Files.{IsFile, StandsAtFirst}
 use Rattle.command_runs.specs.Pieces.{PassesPlaces, RefusesPiece}
 use Rattle.command_runs.specs.Refusals.{RefusesFirst}
 use Rattle.command_runs.specs.NodeTexts.{AreShares, IsTextOf}
-use Rattle.command_runs.specs.declared.faults.fault.RunFault.{RunFault}
-use Rattle.command_runs.specs.declared.faults.fault.RunFault.TheVariants.{Memory, File, Json, Shape, PackedFrame, Layout, Text, Missing, Wrong, Place, Rank, Outside, NodeCount, Step, Worker, Net, Frame, Write}
-use Rattle.command_runs.specs.declared.faults.fault.RunFault.TheVariants as faults
+use Rattle.run_inputs.specs.declared.faults.fault.RunFault.{RunFault}
+use Rattle.run_inputs.specs.declared.faults.fault.RunFault.TheVariants.{Memory, File, Json, Shape, PackedFrame, Layout, Text, Missing, Wrong, Place, Rank, Outside, NodeCount, Step, Worker, Net, Frame, Write}
+use Rattle.run_inputs.specs.declared.faults.fault.RunFault.TheVariants as faults
 use Rattle.command_runs.specs.declared.pieces.node_texts.AllTexts.{AllTexts}
 use Rattle.command_runs.proofs.GivenFacts.{events_told}
 use Rattle.command_runs.proofs.ByPlace.{AreAt, Stands, all_at, sound, stands_in, stranger, traced}

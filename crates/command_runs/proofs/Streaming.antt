@@ -8,14 +8,14 @@ use Rattle.mpi_model.specs.Failures.{HasFailed, one_more}
 use Rattle.mpi_model.specs.Layouts.{Parts}
 use Rattle.run_files.specs.Manifests.{ManifestParts, PieceParts}
 use Rattle.trace_node.specs.Answer.{Answered}
-use Rattle.command_runs.specs.Files.{NamesFailed}
+use Rattle.run_inputs.specs.Files.{NamesFailed}
 use Rattle.command_runs.specs.Nodes.{AnswersAll}
 use Rattle.command_runs.specs.Pieces.{RefusesPiece}
 use Rattle.command_runs.specs.Streams.{Grows, RanOn, WritesOn}
 use Rattle.command_runs.specs.Tables.{IsTableOf, RefusesAgain}
-use Rattle.command_runs.specs.Writing.{BreaksOff}
-use Rattle.command_runs.specs.declared.faults.fault.RunFault.{RunFault}
-use Rattle.command_runs.specs.declared.faults.fault.RunFault.TheVariants.{Memory, Write}
+use Rattle.run_inputs.specs.Writing.{BreaksOff}
+use Rattle.run_inputs.specs.declared.faults.fault.RunFault.{RunFault}
+use Rattle.run_inputs.specs.declared.faults.fault.RunFault.TheVariants.{Memory, Write}
 use Rattle.command_runs.specs.declared.run.Outcome.{Outcome}
 use Rattle.command_runs.proofs.Nodes.{appends_both, appends_none}
 

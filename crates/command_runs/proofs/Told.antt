@@ -11,11 +11,12 @@ use Rattle.dumpi_calls.specs.declared.fault.WalkCause.{WalkCause}
 use Rattle.dumpi_calls.specs.declared.fault.WalkCause.TheVariants as causes
 use Rattle.dumpi_calls.specs.declared.fault.WalkFault.{WalkFault}
 use Rattle.dumpi_calls.specs.declared.walking.Walked.{Walked}
-use Rattle.command_runs.specs.Files.{StandsAtFirst}
-use Rattle.command_runs.specs.Pieces.{IsWalkFault, PassesPlaces, RefusesPiece, StopsText, TellsFacts, TellsSegments, facts_of_piece}
+use Rattle.run_inputs.specs.Files.{StandsAtFirst}
+use Rattle.run_inputs.specs.WalkFaults.{IsWalkFault}
+use Rattle.command_runs.specs.Pieces.{PassesPlaces, RefusesPiece, StopsText, TellsFacts, TellsSegments, facts_of_piece}
 use Rattle.trace_know.specs.Trace.{facts_from, facts_of_all}
-use Rattle.command_runs.specs.declared.faults.fault.RunFault.{RunFault}
-use Rattle.command_runs.specs.declared.faults.fault.RunFault.TheVariants.{Memory, File, Json, Shape, Piece, Packed, PackedFrame, Layout, Text, Missing, Wrong, Place, Rank, Outside, NodeCount, Step, Worker, Net, Frame, Write}
+use Rattle.run_inputs.specs.declared.faults.fault.RunFault.{RunFault}
+use Rattle.run_inputs.specs.declared.faults.fault.RunFault.TheVariants.{Memory, File, Json, Shape, Piece, Packed, PackedFrame, Layout, Text, Missing, Wrong, Place, Rank, Outside, NodeCount, Step, Worker, Net, Frame, Write}
 
 -- a walk to the end of the text
 pub events_told : (file left : Option (List ℕ)) (events : List Event) (walked : Walked)

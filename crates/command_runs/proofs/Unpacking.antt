@@ -10,11 +10,11 @@ use Rattle.trace_wire.specs.declared.packed.fault.PackedCause.{PackedCause}
 use Rattle.trace_wire.specs.declared.packed.fault.PackedCause.TheVariants as causes
 use Rattle.trace_wire.specs.declared.packed.fault.PackedFault.{PackedFault}
 use Rattle.run_files.specs.Manifests.{PackedParts}
-use Rattle.command_runs.specs.Files.{NamesFailed, StandsAtFirst}
+use Rattle.run_inputs.specs.Files.{NamesFailed, StandsAtFirst}
 use Rattle.command_runs.specs.Packed.{IsFrameFault, RefusesPackedFile, TellPacked}
-use Rattle.command_runs.specs.declared.faults.fault.RunFault.{RunFault}
-use Rattle.command_runs.specs.declared.faults.fault.RunFault.TheVariants.{Memory, File, Json, Shape, PackedFrame, Layout, Text, Missing, Wrong, Place, Rank, Outside, NodeCount, Step, Worker, Net, Frame, Write}
-use Rattle.command_runs.specs.declared.faults.fault.RunFault.TheVariants as faults
+use Rattle.run_inputs.specs.declared.faults.fault.RunFault.{RunFault}
+use Rattle.run_inputs.specs.declared.faults.fault.RunFault.TheVariants.{Memory, File, Json, Shape, PackedFrame, Layout, Text, Missing, Wrong, Place, Rank, Outside, NodeCount, Step, Worker, Net, Frame, Write}
+use Rattle.run_inputs.specs.declared.faults.fault.RunFault.TheVariants as faults
 use Rattle.command_runs.proofs.Within.{JoinsCells, either_known}
 
 -- ---- one file

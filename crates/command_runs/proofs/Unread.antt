@@ -21,10 +21,10 @@ use Rattle.run_files.specs.Manifests.{PieceParts}
 use Rattle.dumpi_calls.specs.declared.collect.Memory.{Memory as NoMemory}
 use Rattle.dumpi_calls.specs.declared.fault.WalkCause.{WalkCause}
 use Rattle.command_runs.specs.Clusters.{IsFaultFor, IsTextFault, of_exchange, of_node, of_wire}
-use Rattle.command_runs.specs.Files.{FitsIn, IsFile, NamesFailed}
-use Rattle.command_runs.specs.Inputs.{RefusesFile}
-use Rattle.command_runs.specs.declared.faults.fault.RunFault.{RunFault}
-use Rattle.command_runs.specs.declared.faults.fault.RunFault.TheVariants.{Text}
+use Rattle.run_inputs.specs.Files.{FitsIn, IsFile, NamesFailed}
+use Rattle.run_inputs.specs.Inputs.{RefusesFile}
+use Rattle.run_inputs.specs.declared.faults.fault.RunFault.{RunFault}
+use Rattle.run_inputs.specs.declared.faults.fault.RunFault.TheVariants.{Text}
 
 -- a file whose bytes are at hand
 pub fits : (most : ℕ) (file : Option (List ℕ)) (bytes : List ℕ) → IsFile file bytes → length bytes ≤ most → FitsIn most file

@@ -22,14 +22,15 @@ use Rattle.trace_cluster.specs.declared.fault.ClusterFault.{ClusterFault}
 use Rattle.trace_cluster.specs.declared.fault.ClusterFault.TheVariants as clusters
 use Rattle.run_files.specs.Manifests.{ManifestParts, PieceParts}
 use Rattle.command_runs.specs.Packed.{RefusesFirstPacked, TellPacked}
-use Rattle.command_runs.specs.Pieces.{IsNamed, IsWalkFault, TellsFacts}
+use Rattle.run_inputs.specs.WalkFaults.{IsNamed, IsWalkFault}
+use Rattle.command_runs.specs.Pieces.{TellsFacts}
 use Rattle.command_runs.specs.Refusals.{RefusesFirst}
 use Rattle.command_runs.specs.Replays.{node_text}
 use Rattle.command_runs.specs.Shares.{KnowsShare}
 use Rattle.command_runs.specs.NodeTexts.{RefusesBytes, share_of, side_of}
 use Rattle.command_runs.specs.Traces.{IsInside, IsKnown}
-use Rattle.command_runs.specs.declared.faults.fault.RunFault.{RunFault}
-use Rattle.command_runs.specs.declared.faults.fault.RunFault.TheVariants as faults
+use Rattle.run_inputs.specs.declared.faults.fault.RunFault.{RunFault}
+use Rattle.run_inputs.specs.declared.faults.fault.RunFault.TheVariants as faults
 
 -- ---- nodes
 

@@ -9,13 +9,13 @@ use Rattle.trace_crew.specs.declared.piece.TextPiece.{TextPiece}
 use Rattle.trace_crew.specs.Views.{is_from}
 use Rattle.trace_know.specs.View.{View}
 use Rattle.run_files.specs.Manifests.{PieceParts}
-use Rattle.command_runs.specs.Files.{FitsIn, IsFile}
-use Rattle.command_runs.specs.Inputs.{RefusesFile}
+use Rattle.run_inputs.specs.Files.{FitsIn, IsFile}
+use Rattle.run_inputs.specs.Inputs.{RefusesFile}
 use Rattle.command_runs.specs.Traces.{Begin}
-use Rattle.command_runs.specs.declared.faults.fault.RunFault.{RunFault}
-use Rattle.command_runs.specs.declared.faults.fault.RunFault.TheVariants.{Memory}
+use Rattle.run_inputs.specs.declared.faults.fault.RunFault.{RunFault}
+use Rattle.run_inputs.specs.declared.faults.fault.RunFault.TheVariants.{Memory}
 use Rattle.command_runs.specs.declared.pieces.node_texts.AllTexts.{AllTexts}
-use Rattle.command_runs.specs.declared.load.whole.TheConstants.{LONGEST_PIECE}
+use Rattle.run_inputs.specs.declared.load.whole.TheConstants.{LONGEST_PIECE}
 
 -- the node of a number: 0 is the first
 abbrev pub side_of : ℕ → Side

@@ -1,23 +1,10 @@
 -- What is noted of the texts of a run.
-use Rattle.std.specs.Prelude.{◌≡◌, ℕ, List, [], ◌∷◌, Option, Some, None, Vec}
-use Rattle.std.specs.declared.alloc.Global.{Global}
+use Rattle.std.specs.Prelude.{◌≡◌, ℕ, List, [], ◌∷◌, Option}
 use Rattle.run_files.specs.Manifests.{PieceParts}
 use Rattle.text_notes.specs.Noted.{TellsNotes}
-use Rattle.text_notes.specs.Starts.{IsStartOf}
-use Rattle.text_notes.specs.Values.{IsValueAt}
 use Rattle.text_notes.specs.Words.{NoteParts, walked_in}
-use Rattle.text_notes.specs.declared.start.Start.{Start}
-use Rattle.command_runs.specs.FileNames.{shown_name}
-
--- a text that was looked at begins so
-abbrev pub BeginsSo : Option (List ℕ) → Option Start → Type 0
-BeginsSo text None = Unit {0}
-BeginsSo text (Some start) = IsStartOf text start
-
--- A value that a text was found to have for a parameter of a call is the one that it has.
-abbrev pub HasValueSo : Option (List ℕ) → ℕ → List ℕ → Option (Vec ℕ Global) → Type 0
-HasValueSo text line name None = Unit {0}
-HasValueSo text line name (Some value) = IsValueAt text line name (Some value.items)
+use Rattle.run_inputs.specs.FileNames.{shown_name}
+use Rattle.run_inputs.specs.Starts.{BeginsSo}
 
 -- The note is that of the piece: of its rank and first call, under the name of its file, and what its text tells.
 pub record IsNoteOf (file : List ℕ → Option (List ℕ)) (piece : PieceParts) (note : NoteParts) : Type 0 where

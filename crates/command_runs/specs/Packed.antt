@@ -5,9 +5,9 @@ use Rattle.trace_know.specs.View.{View, join}
 use Rattle.trace_wire.specs.Packed.{RefusesCause, Unpacks}
 use Rattle.trace_wire.specs.declared.packed.fault.PackedFault.{PackedFault}
 use Rattle.run_files.specs.Manifests.{PackedParts}
-use Rattle.command_runs.specs.Pieces.{IsNamed}
-use Rattle.command_runs.specs.declared.faults.fault.RunFault.{RunFault}
-use Rattle.command_runs.specs.declared.faults.fault.RunFault.TheVariants.{Memory, File, PackedFrame}
+use Rattle.run_inputs.specs.WalkFaults.{IsNamed}
+use Rattle.run_inputs.specs.declared.faults.fault.RunFault.{RunFault}
+use Rattle.run_inputs.specs.declared.faults.fault.RunFault.TheVariants.{Memory, File, PackedFrame}
 
 -- What these files tell together: each has frames of ranks below a number.
 abbrev pub TellPacked : (List ℕ → Option (List ℕ)) → ℕ → List PackedParts → View → Type 0

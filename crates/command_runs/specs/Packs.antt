@@ -9,9 +9,9 @@ use Rattle.trace_wire.specs.declared.fault.WireFault.TheVariants.{Length}
 use Rattle.run_files.specs.Manifests.{ManifestParts}
 use Rattle.command_runs.specs.Known.{OfAllTold}
 use Rattle.command_runs.specs.Refusals.{RefusesNamed}
-use Rattle.command_runs.specs.Writing.{BreaksOff}
-use Rattle.command_runs.specs.declared.faults.fault.RunFault.{RunFault}
-use Rattle.command_runs.specs.declared.faults.fault.RunFault.TheVariants.{Memory, Frame, Write}
+use Rattle.run_inputs.specs.Writing.{BreaksOff}
+use Rattle.run_inputs.specs.declared.faults.fault.RunFault.{RunFault}
+use Rattle.run_inputs.specs.declared.faults.fault.RunFault.TheVariants.{Memory, Frame, Write}
 
 -- Why there is no pack: what the manifest names is refused; or one cell of what the pieces tell goes into no frame.
 abbrev pub RefusesPack : (List ℕ → Option (List ℕ)) → Parts → ManifestParts → RunFault → Type 0

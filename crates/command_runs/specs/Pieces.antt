@@ -1,6 +1,5 @@
 -- The facts of a piece, and why a piece is refused.
-use Rattle.std.specs.Prelude.{◌≡◌, ℕ, List, [], Option, Some, None, IsSome, String, string_bytes}
-use Rattle.std.specs.declared.alloc.Global.{Global}
+use Rattle.std.specs.Prelude.{◌≡◌, ℕ, List, [], Option, Some, None, IsSome}
 use Rattle.mpi_model.specs.declared.event.Event.{Event}
 use Rattle.dumpi_text.specs.Call.{TextCall}
 use Rattle.dumpi_text.specs.declared.fault.TextFault.TheVariants.{At}
@@ -14,9 +13,9 @@ use Rattle.dumpi_calls.specs.Whole.{TellsEvents}
 use Rattle.dumpi_calls.specs.declared.collect.Memory.{Memory as NoMemory}
 use Rattle.dumpi_calls.specs.declared.fault.WalkCause.{WalkCause}
 use Rattle.dumpi_calls.specs.declared.fault.WalkCause.TheVariants as causes
-use Rattle.dumpi_calls.specs.declared.fault.WalkFault.{WalkFault}
-use Rattle.command_runs.specs.declared.faults.fault.RunFault.{RunFault}
-use Rattle.command_runs.specs.declared.faults.fault.RunFault.TheVariants.{Memory, File, Text, Missing, Wrong, Place}
+use Rattle.run_inputs.specs.WalkFaults.{IsNamed}
+use Rattle.run_inputs.specs.declared.faults.fault.RunFault.{RunFault}
+use Rattle.run_inputs.specs.declared.faults.fault.RunFault.TheVariants.{Memory, File, Text, Missing, Wrong, Place}
 
 -- The facts of a piece: the events of its text stand from the Enter of its first call on.
 abbrev pub TellsFacts : Option (List ℕ) → ℕ → ℕ → Trace → Type 0
@@ -40,30 +39,6 @@ abbrev pub AreSegmentsOf : (List ℕ → Option (List ℕ)) → PieceParts → L
 AreSegmentsOf file piece segments = TellsSegments (file piece.file) piece.rank piece.first segments
 
 -- ---- why a piece is refused
-
--- The path is this name.
-abbrev pub IsNamed : String Global → List ℕ → Type 0
-IsNamed path name = string_bytes path ≡ name
-
--- The fault of a run stands for the fault of a walk, and names the file.
-abbrev pub IsWalkFault : List ℕ → WalkFault NoMemory → RunFault → Type 0
-IsWalkFault name fault Memory = Unit {0}
-IsWalkFault name fault (Text cause path line) = IsNamed path name × (fault.cause ≡ causes.Text (At line cause))
-IsWalkFault name fault (Missing parameter path line) = IsNamed path name × (fault.cause ≡ causes.Missing parameter) × (line ≡ fault.line)
-IsWalkFault name fault (Wrong parameter path line) = IsNamed path name × (fault.cause ≡ causes.Wrong parameter) × (line ≡ fault.line)
-IsWalkFault name fault _ = ⊥
-
--- Nothing that the text says stopped the walk.
-abbrev pub IsNotOfText : WalkCause NoMemory → Type 0
-IsNotOfText (causes.Text (At line cause)) = ⊥
-IsNotOfText (causes.Missing parameter) = ⊥
-IsNotOfText (causes.Wrong parameter) = ⊥
-IsNotOfText _ = Unit {0}
-
--- Want of memory is told only of a walk that nothing in the text stopped.
-abbrev pub IsWantOrTold : WalkCause NoMemory → RunFault → Type 0
-IsWantOrTold cause Memory = IsNotOfText cause
-IsWantOrTold cause _ = Unit {0}
 
 -- Where its bytes are told, a text stops a walk at a line for this cause, and the calls before it are typed.
 abbrev pub StopsText : Option (List ℕ) → WalkCause NoMemory → ℕ → Type 0

@@ -5,8 +5,8 @@ use Rattle.run_files.specs.Manifests.{ManifestParts, PieceParts}
 use Rattle.command_runs.specs.Packed.{RefusesFirstPacked, TellPacked}
 use Rattle.command_runs.specs.Pieces.{RefusesPiece}
 use Rattle.command_runs.specs.Traces.{Begin, IsFirstStranger, IsKnown}
-use Rattle.command_runs.specs.declared.faults.fault.RunFault.{RunFault}
-use Rattle.command_runs.specs.declared.faults.fault.RunFault.TheVariants.{Memory, Rank}
+use Rattle.run_inputs.specs.declared.faults.fault.RunFault.{RunFault}
+use Rattle.run_inputs.specs.declared.faults.fault.RunFault.TheVariants.{Memory, Rank}
 
 -- A piece is refused for its file or its text, and all before it are whole.
 abbrev pub RefusesFirst : (List ℕ → Option (List ℕ)) → List PieceParts → RunFault → Type 0

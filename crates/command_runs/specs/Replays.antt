@@ -16,8 +16,10 @@ use Rattle.trace_world.specs.declared.step.WorldFault.TheVariants as worlds
 use Rattle.run_files.specs.Manifests.{ManifestParts}
 use Rattle.command_runs.specs.Refusals.{RefusesFirst}
 use Rattle.command_runs.specs.Schedules.{TellSegments, world_steps}
-use Rattle.command_runs.specs.declared.faults.fault.RunFault.{RunFault}
-use Rattle.command_runs.specs.declared.faults.fault.RunFault.TheVariants as faults
+use Rattle.run_inputs.specs.declared.faults.fault.RunFault.{RunFault}
+use Rattle.run_inputs.specs.declared.faults.fault.RunFault.TheVariants as faults
+use Rattle.run_inputs.specs.declared.faults.fault.StepCause.{StepCause}
+use Rattle.run_inputs.specs.declared.faults.fault.StepCause.TheVariants as causes
 
 -- ---- nodes
 
@@ -95,23 +97,32 @@ pub record RefusesStep (l : Parts) (nodes : ℕ) (steps : List Step) (k : ℕ) (
   pub before : CanReplay l nodes (take k steps)
   pub refuses : refusal (world_in l (after_all (take k steps) (opening nodes))) step ≡ Some fault
 
+-- the fault of a world for which a step can't be done
+abbrev pub world_fault : StepCause → WorldFault
+world_fault causes.NoNode = worlds.NoNode
+world_fault causes.NoMail = worlds.NoMail
+world_fault causes.EmptyInbox = worlds.EmptyInbox
+world_fault causes.Rank = worlds.Rank
+world_fault causes.FrameLength = worlds.FrameLength
+world_fault causes.NodeCount = worlds.NodeCount
+
 -- What the end of a run at a step is to a replay: memory was wanting, for the step or for its node's answer, or the
 -- step can't be done.
 abbrev pub stop_of : WorldFault → ℕ → RunFault
 stop_of worlds.Stale k = faults.Memory
 stop_of worlds.Memory k = faults.Memory
-stop_of worlds.NoNode k = faults.Step worlds.NoNode k
-stop_of worlds.NoMail k = faults.Step worlds.NoMail k
-stop_of worlds.EmptyInbox k = faults.Step worlds.EmptyInbox k
-stop_of worlds.Rank k = faults.Step worlds.Rank k
-stop_of worlds.FrameLength k = faults.Step worlds.FrameLength k
-stop_of worlds.NodeCount k = faults.Step worlds.NodeCount k
+stop_of worlds.NoNode k = faults.Step causes.NoNode k
+stop_of worlds.NoMail k = faults.Step causes.NoMail k
+stop_of worlds.EmptyInbox k = faults.Step causes.EmptyInbox k
+stop_of worlds.Rank k = faults.Step causes.Rank k
+stop_of worlds.FrameLength k = faults.Step causes.FrameLength k
+stop_of worlds.NodeCount k = faults.Step causes.NodeCount k
 
 -- Why so many nodes don't do these steps: they are none or too many, or one step can't be done.
 abbrev pub RefusesSteps : Parts → ℕ → List Step → RunFault → Type 0
 RefusesSteps l nodes steps faults.Memory = Unit {0}
 RefusesSteps l nodes steps faults.NodeCount = (nodes ≡ 0) ⊎ (most_nodes < nodes)
-RefusesSteps l nodes steps (faults.Step fault k) = RefusesStep l nodes steps k fault
+RefusesSteps l nodes steps (faults.Step cause k) = RefusesStep l nodes steps k (world_fault cause)
 RefusesSteps l nodes steps _ = ⊥
 
 -- Why there is no replay: a piece is refused, for its file or its text; or, where none is, a step.

@@ -6,8 +6,8 @@ use Rattle.trace_ops.specs.Ops.{AreOwn, Ops}
 use Rattle.command_runs.specs.Known.{OfAllTold}
 use Rattle.command_runs.specs.Refusals.{RefusesOneOf}
 use Rattle.command_runs.specs.Said.{IsDiagnosed}
-use Rattle.command_runs.specs.declared.faults.fault.RunFault.{RunFault}
-use Rattle.command_runs.specs.declared.faults.fault.RunFault.TheVariants.{Memory}
+use Rattle.run_inputs.specs.declared.faults.fault.RunFault.{RunFault}
+use Rattle.run_inputs.specs.declared.faults.fault.RunFault.TheVariants.{Memory}
 
 -- Every call is told of, by the answer to all that the pieces tell, for the layout. How a row is written has no
 -- definition; which operation stands at its other end, and which round it entered, is defined in `call_table`.

@@ -5,7 +5,8 @@ use Rattle.std.specs.declared.alloc.Global.{Global}
 use Rattle.trace_know.specs.Trace.{Trace, view_of}
 use Rattle.trace_know.specs.View.{View}
 use Rattle.run_files.specs.Manifests.{PieceParts}
-use Rattle.command_runs.specs.Pieces.{IsNamed, TellsFacts}
+use Rattle.run_inputs.specs.WalkFaults.{IsNamed}
+use Rattle.command_runs.specs.Pieces.{TellsFacts}
 
 -- The facts of these pieces together, each from its file.
 abbrev pub TellTrace : (List ℕ → Option (List ℕ)) → List PieceParts → Trace → Type 0

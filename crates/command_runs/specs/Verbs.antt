@@ -18,9 +18,9 @@ use Rattle.command_runs.specs.Replays.{BeginsReplayOf, IsReplayOf, RefusesReplay
 use Rattle.command_runs.specs.Said.{IsReported, IsReportedJson}
 use Rattle.command_runs.specs.Streams.{RanOn}
 use Rattle.command_runs.specs.Tables.{IsTableOf, RefusesAgain}
-use Rattle.command_runs.specs.Writing.{BreaksOff, Writes}
-use Rattle.command_runs.specs.declared.faults.fault.RunFault.{RunFault}
-use Rattle.command_runs.specs.declared.faults.fault.RunFault.TheVariants.{Write}
+use Rattle.run_inputs.specs.Writing.{BreaksOff, Writes}
+use Rattle.run_inputs.specs.declared.faults.fault.RunFault.{RunFault}
+use Rattle.run_inputs.specs.declared.faults.fault.RunFault.TheVariants.{Write}
 use Rattle.command_runs.specs.declared.run.Outcome.{Outcome}
 use Rattle.command_runs.specs.declared.run.Outcome.TheVariants.{Good}
 

@@ -1,28 +1,9 @@
-//! A run: its input and its files, and the verbs over them.
+//! What a verb runs over, and how it ended.
 
-ghost use Rattle.std.specs.Prelude.{IfErr};
-ghost use Rattle.dumpi_text.specs.Failing.{Fails};
-ghost use Rattle.command_line.specs.Program.{asked_rank};
-ghost use Rattle.command_runs.specs.Files.{NamesFailed};
-ghost use Rattle.command_runs.specs.Inputs.{HasRank};
-ghost use Rattle.command_runs.specs.Verbs.{Ran};
-
-use crate::faults::fault::RunFault;
-use crate::load::opener::Opener;
-use crate::load::watch::Watcher;
-use crate::verbs::calls::calls;
-use crate::verbs::check::check;
-use crate::verbs::check_json::check_as_json;
-use crate::verbs::explain::{Printing, explain};
-use crate::verbs::pack::pack;
-use crate::verbs::page::page;
-use crate::verbs::replay::replay;
-use crate::verbs::report::{report, report_as_json};
-use crate::verbs::timeline::timeline;
-use command_line::Verb;
-use mpi_model::{Layout, Write};
+use mpi_model::Layout;
 use run_files::{Manifest, RunInput};
-use std::alloc::{AllocError, Global};
+use run_inputs::Opener;
+use std::alloc::Global;
 
 /// What a verb runs over: the layout and the manifest, which were read or made, and where the files of the manifest's
 /// pieces come from.
@@ -60,47 +41,4 @@ pub enum Outcome {
     /// The lines of a check say `unequal` or `invalid`. It is proved that no run ends so, and every check looks for it
     /// all the same.
     CheckFailed,
-}
-
-/// The bytes of the block that is asked for and given back before a run: 31 MB. From a freed block of more than 32 MB
-/// glibc learns nothing.
-const FIRST_BLOCK: usize = 32_505_856;
-
-/// Requests a block of memory and frees it, unwritten. From that glibc's allocator learns how large the blocks of a run
-/// are: it then keeps lists up to that size in its heap, and keeps twice as much of freed memory, so pages aren't
-/// fetched anew from the system. If the block is refused, nothing changes.
-fn keep_freed_memory(alloc: Global) {
-    let block: Result<Vec<u8>, AllocError> = Vec::with_capacity(alloc, FIRST_BLOCK);
-    drop(block);
-}
-
-/// Runs a verb. Nothing is written before all pieces were read and the answer is made; `calls` and `timeline` read them
-/// a second time while they write. A cluster, which takes threads, is run by
-/// [`cluster`](crate::verbs::cluster::cluster). [`RunFault`] says why a run was refused.
-pub fn run_with<O: Opener, V: Watcher, W: Write>(
-    verb: Verb,
-    run: &Run<'_, O>,
-    watcher: &mut V,
-    out: &mut W,
-) -> Result<Outcome, RunFault>
-    requires rank { HasRank (asked_rank verb) run.now.layout.now }
-    ensures ran { Ran (O.file run.now.files.now) verb run.now.layout.now run.now.manifest.now result W.written W.failures out.old out.new }
-    ensures failed { IfErr result (NamesFailed (Fails O.R.failures)) }
-{
-    keep_freed_memory(run.alloc);
-    match verb {
-        Verb::Explain(extent) => explain(Printing::Words(extent), run, watcher, out),
-        Verb::ExplainJson => explain(Printing::Json, run, watcher, out),
-        Verb::ExplainRank(rank) => explain(Printing::Rank(rank), run, watcher, out),
-        Verb::Graph(extent) => explain(Printing::Picture(extent), run, watcher, out),
-        Verb::Page => page(run, watcher, out),
-        Verb::Report => report(run, watcher, out),
-        Verb::ReportJson => report_as_json(run, watcher, out),
-        Verb::Calls(form) => calls(form, run, watcher, out),
-        Verb::Timeline(window) => timeline(window, run, watcher, out),
-        Verb::Replay => replay(run, watcher, out),
-        Verb::Check => check(run, watcher, out),
-        Verb::CheckJson => check_as_json(run, watcher, out),
-        Verb::Pack => pack(run, watcher, out),
-    }
 }

@@ -1,17 +1,12 @@
 //! What each verb does over a run.
 
 pub(crate) mod answerer;
-pub(crate) mod arguments;
 pub(crate) mod calls;
 pub(crate) mod check;
 pub(crate) mod check_json;
 pub(crate) mod cluster;
-pub(crate) mod explain;
-pub(crate) mod facts;
-pub(crate) mod init;
 pub(crate) mod node;
 pub(crate) mod pack;
-pub(crate) mod page;
 pub(crate) mod replay;
 pub(crate) mod report;
 pub(crate) mod schedule;

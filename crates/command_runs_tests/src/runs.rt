@@ -6,11 +6,9 @@
 ghost use Rattle.std.specs.Prelude.{Some, None, codes, if◌then◌else◌};
 ghost use Rattle.std.specs.Str.{bytes_eq};
 
-use command_line::Verb;
-use command_runs::{
-    OpenFault, Opener, Outcome, Run, RunFault, Unwatched, fault_line, input_at, run_with,
-};
+use command_runs::{Outcome, Run, replay, report};
 use mpi_model::{MemoryReader, MemoryWriter, Write};
+use run_inputs::{OpenFault, Opener, RunFault, Unwatched, fault_line, input_at};
 use std::alloc::Global;
 use std::process::Abort;
 
@@ -81,9 +79,9 @@ fn ran<O: Opener, W: Write>(
     let input = input_at(alloc, None, "layout.json", "manifest.json", files)?;
     let run = Run::new(alloc, &input, files);
     if replays {
-        run_with(Verb::Replay, &run, &mut Unwatched, out)
+        replay(&run, &mut Unwatched, out)
     } else {
-        run_with(Verb::Report, &run, &mut Unwatched, out)
+        report(&run, &mut Unwatched, out)
     }
 }
 

@@ -1,8 +1,8 @@
 //! Calls and operations in words.
 
 use crate::writer::Writer;
+use diagnosis_value::{LastCall, Operation, Polled};
 use mpi_model::{Call, Collective, Message, OpName, Receive};
-use trace_diagnosis::{LastCall, Operation, Polled};
 
 /// The most open requests of a call that are told.
 const MOST_OPEN: usize = 3;

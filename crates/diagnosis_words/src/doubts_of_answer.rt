@@ -4,9 +4,9 @@ use crate::source::Source;
 use crate::texts::TextFacts;
 use crate::words::{clipped, front};
 use crate::writer::Writer;
+use diagnosis_value::Diagnosis;
 use mpi_model::{Event, Layout, OpName};
 use std::alloc::{AllocError, Global};
-use trace_diagnosis::Diagnosis;
 use trace_know::{Cell, Knowledge};
 use trace_node::Answer;
 

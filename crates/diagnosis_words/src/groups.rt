@@ -1,10 +1,12 @@
 //! Ranks that stand alike.
 
 use crate::source::Source;
+use crate::texts::TextFacts;
 use call_words::Text;
+use diagnosis_value::{Beyond, Diagnosis, Stand, Standing};
+use mpi_model::Layout;
 use std::alloc::{AllocError, Global};
 use std::collections::BTreeMap;
-use trace_diagnosis::{Beyond, Stand, Standing};
 
 /// Ranks that stand alike: in or after calls of one function on one object in one round, from one place of the program.
 #[derive(Drop)]
@@ -144,4 +146,29 @@ pub(crate) fn groups_of(source: Source<'_>, ranks: &[u32]) -> Result<Vec<Group>,
         }
     }
     Ok(groups)
+}
+
+/// The first rank of each group of ranks that stand alike, in rising order. Fails with `AllocError` when memory is
+/// refused.
+pub fn first_ranks(
+    alloc: Global,
+    layout: &Layout,
+    diagnosis: &Diagnosis,
+    texts: &TextFacts,
+) -> Result<Vec<u32>, AllocError> {
+    let source = Source {
+        alloc,
+        layout,
+        diagnosis,
+        texts,
+    };
+    let mut ranks = Vec::new(alloc);
+    for standing in diagnosis.waiting.standing.iter() {
+        ranks.push(standing.rank)?;
+    }
+    let mut firsts = Vec::new(alloc);
+    for group in groups_of(source, &ranks)?.iter() {
+        firsts.push(group.first())?;
+    }
+    Ok(firsts)
 }

@@ -5,13 +5,13 @@ use crate::functions::sort_word;
 use crate::source::Source;
 use crate::texts::TextFacts;
 use call_words::{Text, put_seconds};
-use mpi_model::{CollectiveFunction, Layout, OpName, Sends};
-use std::alloc::{AllocError, Global};
-use trace_arguments::{Disagreement, Line, Truncated, ValueGroup};
-use trace_diagnosis::{
+use diagnosis_value::{
     Beyond, CallGroup, Diagnosis, Doubts, Foreign, LeftOver, MismatchedRound, NearMessage,
     NearReceive, OpenRound, Polling, Root, RootKind, RoundName, Stand, Standing, Starving, Why,
 };
+use mpi_model::{CollectiveFunction, Layout, OpName, Sends};
+use std::alloc::{AllocError, Global};
+use trace_arguments::{Disagreement, Line, Truncated, ValueGroup};
 
 /// Writes a diagnosis as JSON, with what the texts tell of the calls that it names. It ends with a line feed. Fails
 /// with `AllocError` when memory is refused.

@@ -1,6 +1,6 @@
 //! A diagnosis for people and programs that read it: in words, as JSON, and as a picture.
 //!
-//! What is printed is a [`Diagnosis`](trace_diagnosis::Diagnosis), and beside it what the texts of the run tell of its
+//! What is printed is a [`Diagnosis`](diagnosis_value::Diagnosis), and beside it what the texts of the run tell of its
 //! calls ([`TextFacts`]): the printers look nothing up anywhere else. Their contracts say no more than that they end;
 //! what they print is shown by cases (`tests/cases/`).
 //!
@@ -48,6 +48,7 @@ mod writer;
 
 pub use calls_of_rank::last_calls;
 pub use doubts_of_answer::answer_doubts;
+pub use groups::first_ranks;
 pub use json::diagnosis_json;
 pub use named::{argument_calls, named_calls};
 pub use one_rank::rank_words;

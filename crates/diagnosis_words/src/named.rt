@@ -3,8 +3,8 @@
 use crate::calls_of_rank::MOST_CALLS;
 use crate::texts::TextFacts;
 use crate::words::front;
+use diagnosis_value::Diagnosis;
 use std::alloc::{AllocError, Global};
-use trace_diagnosis::Diagnosis;
 
 /// The most undecided messages of which the texts are asked: a line names the first ones.
 const MOST_UNDECIDED: usize = 10;

@@ -1,7 +1,7 @@
 //! Which parts of a condition a held rank needs, and how many of the ranks in it.
 
 use crate::source::Source;
-use trace_diagnosis::Stand;
+use diagnosis_value::Stand;
 use trace_stuck::Condition;
 
 /// All ranks but one, as far as they haven't ended; or none at all.

@@ -5,9 +5,9 @@ use crate::source::Source;
 use crate::texts::TextFacts;
 use crate::words::{clipped, front};
 use crate::writer::Writer;
+use diagnosis_value::{Diagnosis, Held, Need};
 use mpi_model::Layout;
 use std::alloc::{AllocError, Global};
-use trace_diagnosis::{Diagnosis, Held, Need};
 
 /// The most lines of a list.
 const MOST_SHOWN: usize = 10;

@@ -6,12 +6,12 @@ use crate::source::Source;
 use crate::texts::TextFacts;
 use crate::writer::Writer;
 use call_words::Text;
+use diagnosis_value::{
+    Diagnosis, Held, MismatchedRound, Need, RootKind, RoundName, Stand, Standing,
+};
 use mpi_model::Layout;
 use std::alloc::{AllocError, Global};
 use std::collections::{BTreeMap, BTreeSet};
-use trace_diagnosis::{
-    Diagnosis, Held, MismatchedRound, Need, RootKind, RoundName, Stand, Standing,
-};
 use trace_stuck::Condition;
 
 /// The most nodes, unless all are asked for.

@@ -1,9 +1,9 @@
 //! Which of the requests are told that a call waits for, and in what order.
 
 use crate::source::Source;
+use diagnosis_value::Operation;
 use mpi_model::{Call, NonblockingCollective, OpName, Peer};
 use std::alloc::AllocError;
-use trace_diagnosis::Operation;
 
 /// How soon a request is told.
 #[derive(Clone, Copy)]

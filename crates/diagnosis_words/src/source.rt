@@ -2,11 +2,11 @@
 
 use crate::functions::function_name;
 use crate::texts::{Place, TextFacts};
-use mpi_model::{Call, Layout, OpName};
-use std::alloc::Global;
-use trace_diagnosis::{
+use diagnosis_value::{
     Diagnosis, Held, LastCall, Operation, Polling, Root, RootKind, RoundName, Standing,
 };
+use mpi_model::{Call, Layout, OpName};
+use std::alloc::Global;
 
 /// All that the printers print from.
 #[derive(Clone, Copy)]

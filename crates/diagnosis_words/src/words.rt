@@ -6,9 +6,9 @@ use crate::sentences::headline_of;
 use crate::source::Source;
 use crate::texts::TextFacts;
 use crate::writer::Writer;
+use diagnosis_value::{Diagnosis, LeftOver, Starving};
 use mpi_model::Layout;
 use std::alloc::{AllocError, Global};
-use trace_diagnosis::{Diagnosis, LeftOver, Starving};
 
 /// The most lines of a list, and the fewest to which it is cut where there is much to say.
 const MOST_SHOWN: usize = 10;

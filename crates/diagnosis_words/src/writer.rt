@@ -3,9 +3,9 @@
 use crate::functions::sort_word;
 use crate::source::Source;
 use call_words::{Text, put_ranges};
+use diagnosis_value::RoundName;
 use mpi_model::{CommRef, Envelope, Object, Peer, ProbeEnvelope};
 use std::collections::BTreeSet;
-use trace_diagnosis::RoundName;
 
 /// The most stretches of a list of ranks that are told.
 const MOST_STRETCHES: usize = 8;

@@ -11,7 +11,8 @@
 //! - [`parameter`]: the parameters and why a call is refused for one; [`reading`]: what each says; [`quick`]: numbers
 //!   as dumpi2ascii writes them, in one pass; [`skim`]: so the source of a status; [`requests`]: so a list of requests
 //! - [`function`]: the functions, by their names; [`envelope`], [`outcome`]: what calls name and bring back;
-//!   [`typing`]: a call by the row of its function; [`looking`]: the parameters that it is read by
+//!   [`typing`]: a call by the row of its function; [`looking`]: the parameters that it is read by; [`lacking`]: a call
+//!   that was cut off before its last entry parameter
 //! - [`in_place`]: calls as dumpi2ascii writes them, read whole where they stand; [`lines`]: their parameter lines;
 //!   [`number_lines`]: those of numbers, in one pass
 //! - [`sink`]: the callbacks; [`fault`], [`walking`]: the walk; [`raw`]: one that hands on calls as they stand in the
@@ -52,6 +53,7 @@ mod envelope;
 mod fault;
 mod function;
 mod in_place;
+mod lacking;
 mod laws;
 mod lines;
 mod looking;
@@ -71,6 +73,7 @@ mod walking;
 
 pub use collect::{Collect, Memory};
 pub use fault::{WalkCause, WalkFault};
+pub use lacking::lacking_line;
 pub use laws::{whole_segments, whole_texts};
 pub use parameter::Parameter;
 pub use raw::{RawSink, walk_raw};

@@ -239,7 +239,7 @@ fn first_object(
 }
 
 /// The parameters that may name an object.
-fn object_parameters(parameter: ObjectParameter) -> &'static [Parameter]
+pub(crate) fn object_parameters(parameter: ObjectParameter) -> &'static [Parameter]
     ensures { result.now ≡ object_parameters parameter }
 {
     match parameter {

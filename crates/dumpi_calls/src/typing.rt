@@ -34,7 +34,7 @@ pub struct TypedCall {
 }
 
 /// The first of these parameters that isn't there.
-fn first_of(raw: &RawCall, parameters: &[Parameter]) -> Option<Parameter>
+pub(crate) fn first_of(raw: &RawCall, parameters: &[Parameter]) -> Option<Parameter>
     ensures { result ≡ first_missing parameters.now raw.now }
 {
     for parameter in parameters {
@@ -75,7 +75,7 @@ fn started_missing(kind: Kind, raw: &RawCall) -> Option<Parameter>
 }
 
 /// The first entry parameter of the row that isn't there.
-fn entry_missing(function: Function, raw: &RawCall) -> Option<Parameter>
+pub(crate) fn entry_missing(function: Function, raw: &RawCall) -> Option<Parameter>
     ensures { result ≡ first_missing (row function raw.now.name).entry raw.now }
 {
     match function {

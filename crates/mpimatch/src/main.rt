@@ -1,12 +1,13 @@
 //! mpimatch: who received what from whom, and which ranks are stuck, by the trace texts of an MPI run.
 //!
-//! The program hands its words, the files and streams of the system, its threads and sockets to `command_runs`, and
-//! ends with the status that comes of them. `crates/command_runs` has the rest.
+//! The program hands its words, the files and streams of the system, its threads and sockets to `program_runs`, and
+//! ends with the status that comes of them. `crates/program_runs` has the rest.
 #![tactic(auto)]
 
-use command_runs::{Disk, Terminal, ending_of, ending_without_words};
 use mpi_model::Device;
+use program_runs::{ending_of, ending_without_words};
 use run_files::Folder;
+use run_inputs::{Disk, Terminal};
 use std::alloc::{AllocError, Global};
 use std::io::{self, IsTerminal};
 use std::process::ExitCode;

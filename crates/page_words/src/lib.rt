@@ -1,8 +1,8 @@
 //! The page of a diagnosis: one HTML file that needs nothing else.
 //!
-//! A page is a fixed template around one JSON value, the one that `explain --json` prints. The template stands in
-//! `page/`, at the top of the repository; `tools/page` makes [`HEAD`] and [`TAIL`] of it, and a test compares them. Its
-//! script shows what stands in the value, as text, and knows nothing else. So what a page says is proved as far as the
+//! A page is a fixed template around one JSON value: what `explain --json` prints, with the last calls of some ranks.
+//! The template stands in `page/`, at the top of the repository; `tools/page` makes [`HEAD`] and [`TAIL`] of it, and a
+//! test compares them. Its script shows what stands in the value, as text, and knows nothing else. So what a page says is proved as far as the
 //! value is; the template is not.
 //!
 //! In a page each `<` of the value stands as `\u003c`, which JSON reads as the same character, so nothing in it ends the

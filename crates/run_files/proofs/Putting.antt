@@ -1,12 +1,12 @@
 -- Values that are put one after another.
-use Rattle.std.proofs.Common.{◌≡◌, ◌<◌, ◌≤◌, ◌+◌, ℕ, zero, suc, List, [], ◌∷◌, ◌++◌, Result, Ok, Err, OnOk, take, get_or, length, refl, sym, subst, ◌∙◌, ap, arith, append_assoc, append-nil}
+use Rattle.std.proofs.Common.{◌≡◌, ◌<◌, ◌≤◌, ◌+◌, ℕ, zero, suc, Bool, true, false, List, [], ◌∷◌, ◌++◌, Result, Ok, Err, OnOk, take, get_or, length, refl, sym, subst, ◌∙◌, ap, arith, append_assoc, append-nil}
 use Rattle.std.specs.List.{flat_map}
 use Rattle.std.proofs.lemmas.Grind.{flat_map-append}
 use Rattle.json.specs.Json.{Json}
-use Rattle.json.specs.Token.{Token, begin_array, end_array}
-use Rattle.json.specs.Tree.{items_tokens, json_tokens}
+use Rattle.json.specs.Token.{Token, begin_array, end_array, end_object}
+use Rattle.json.specs.Tree.{items_tokens, json_tokens, members_tokens}
 use Rattle.json.specs.Written.{Writes, Written}
-use Rattle.run_files.specs.Values.{Puts, items_of}
+use Rattle.run_files.specs.Values.{Puts, cut_field, cut_tokens, items_of}
 
 -- the tokens of the values of a list
 abbrev pub tokens_of : {X : Type 0} → (X → Json) → List X → List Token
@@ -65,3 +65,9 @@ take_all {X = X} (x ∷ xs) (suc i) h = ap (λ (l : List X). x ∷ l) (take_all 
 -- a whole array
 pub whole_array : {X : Type 0} (value : X → Json) (xs : List X) (i : ℕ) → length xs ≤ i → begin_array ∷ tokens_of value (take i xs) ++ end_array ∷ [] ≡ begin_array ∷ items_tokens (items_of value xs)
 whole_array {X = X} value xs i h = ap (λ (l : List X). begin_array ∷ tokens_of value l ++ end_array ∷ []) (take_all xs i h) ∙ ap (λ (ts : List Token). begin_array ∷ ts) (sym (array_tokens value xs))
+
+-- ---- the field of a text that was cut off
+
+pub cut_last : (is_cut : Bool) → members_tokens (cut_field is_cut) ≡ cut_tokens is_cut ++ end_object ∷ []
+cut_last true = refl
+cut_last false = refl

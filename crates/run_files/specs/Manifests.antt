@@ -2,7 +2,7 @@
 use Rattle.std.specs.Prelude.{◌≡◌, ◌+◌, ℕ, List, [], ◌∷◌, Bool, true, false, Option, Some, None, if◌then◌else◌, codes, is_none, is_some, length, map, option_and_then}
 use Rattle.std.specs.List.{list_any}
 use Rattle.serde_json.specs.Data.{Data, Items, no_items, item}
-use Rattle.serde_json.specs.Find.{as_array, as_str, get}
+use Rattle.serde_json.specs.Find.{as_array, as_bool, as_str, get}
 use Rattle.run_files.specs.Fields.{IsJson, bit_in, or_absent, u32_in, u64_in, with_first}
 use Rattle.run_files.specs.Schedules.{posts_packed, posts_past, renumbered, steps_in}
 use Rattle.run_files.specs.declared.fault.Field.{Field}
@@ -13,13 +13,15 @@ use Rattle.run_files.specs.declared.manifest.PlannedStep.{PlannedStep}
 
 -- ---- what it holds
 
--- a text file of one rank's calls, from the call of this number on, and the node and the worker whose piece it is
+-- a text file of one rank's calls, from the call of this number on, the node and the worker whose piece it is, and
+-- whether it may have been cut off
 pub record PieceParts : Type 0 where
   pub rank : ℕ
   pub first : ℕ
   pub file : List ℕ
   pub node : ℕ
   pub worker : ℕ
+  pub cut : Bool
 
 -- a file of packed knowledge, and the node whose piece it is
 pub record PackedParts : Type 0 where
@@ -33,9 +35,13 @@ pub record ManifestParts : Type 0 where
   pub nodes : ℕ
   pub schedule : List PlannedStep
 
--- the whole text of a rank, which names no node and no worker
+-- the whole text of a rank, which names no node and no worker, and wasn't cut off
 abbrev pub whole_text : ℕ → List ℕ → PieceParts
-whole_text rank file = record { rank = rank; first = 0; file = file; node = 0; worker = 0 }
+whole_text rank file = record { rank = rank; first = 0; file = file; node = 0; worker = 0; cut = false }
+
+-- the same text with another mark
+abbrev pub marked : Bool → PieceParts → PieceParts
+marked is_cut p = record { rank = p.rank; first = p.first; file = p.file; node = p.node; worker = p.worker; cut = is_cut }
 
 -- a manifest of texts alone, for one node, without a schedule
 abbrev pub manifest_of_texts : List PieceParts → ManifestParts
@@ -44,13 +50,14 @@ manifest_of_texts texts = record { pieces = texts; packed = []; nodes = 1; sched
 -- ---- its pieces
 
 -- a text, where all of its fields can be read
-abbrev pub piece_from : Option ℕ → Option ℕ → Option (List ℕ) → Option ℕ → Option ℕ → Option PieceParts
-piece_from None _ _ _ _ = None
-piece_from (Some rank) None _ _ _ = None
-piece_from (Some rank) (Some first) None _ _ = None
-piece_from (Some rank) (Some first) (Some file) None _ = None
-piece_from (Some rank) (Some first) (Some file) (Some at) None = None
-piece_from (Some rank) (Some first) (Some file) (Some at) (Some by) = Some (record { rank = rank; first = first; file = file; node = at; worker = by })
+abbrev pub piece_from : Option ℕ → Option ℕ → Option (List ℕ) → Option ℕ → Option ℕ → Option Bool → Option PieceParts
+piece_from None _ _ _ _ _ = None
+piece_from (Some rank) None _ _ _ _ = None
+piece_from (Some rank) (Some first) None _ _ _ = None
+piece_from (Some rank) (Some first) (Some file) None _ _ = None
+piece_from (Some rank) (Some first) (Some file) (Some at) None _ = None
+piece_from (Some rank) (Some first) (Some file) (Some at) (Some by) None = None
+piece_from (Some rank) (Some first) (Some file) (Some at) (Some by) (Some is_cut) = Some (record { rank = rank; first = first; file = file; node = at; worker = by; cut = is_cut })
 
 -- the text that a piece of the manifest names
 abbrev pub piece_in : Data → Option PieceParts
@@ -59,6 +66,7 @@ piece_in value = piece_from (option_and_then u32_in (get (codes "rank") value))
     (option_and_then as_str (get (codes "file") value))
     (or_absent 0 bit_in (get (codes "node") value))
     (or_absent 0 bit_in (get (codes "worker") value))
+    (or_absent false as_bool (get (codes "cut") value))
 
 -- a packed file, where all of its fields can be read
 abbrev pub packed_from : Option (List ℕ) → Option ℕ → Option PackedParts

@@ -1,6 +1,6 @@
 -- The JSON values of a layout and of a manifest.
-use Rattle.std.specs.Prelude.{◌≡◌, ℕ, ◌==◌, ◌&&◌, Bool, List, [], ◌∷◌, ◌++◌, Option, Some, None, Result, OnOk, codes, decimal, is_some, not, if◌then◌else◌}
-use Rattle.json.specs.Json.{Json, null, number, string, array, object, Items, no_items, item, Members, no_members, member}
+use Rattle.std.specs.Prelude.{◌≡◌, ℕ, ◌==◌, ◌&&◌, Bool, true, false, List, [], ◌∷◌, ◌++◌, Option, Some, None, Result, OnOk, codes, decimal, is_some, not, if◌then◌else◌}
+use Rattle.json.specs.Json.{Json, null, boolean, number, string, array, object, Items, no_items, item, Members, no_members, member}
 use Rattle.json.specs.Print.{print}
 use Rattle.json.specs.Token.{Token}
 use Rattle.json.specs.Token as tokens
@@ -86,9 +86,19 @@ abbrev pub layout_value : Parts → Json
 layout_value l = object (member (codes "ranks") (number_of l.ranks) (member (codes "world") (number_of l.world)
     (member (codes "sends") (string (sends_word l.sends)) (member (codes "comms") (array (items_of communicator_value l.comms)) no_members))))
 
--- a text that names no node and no worker: `{"rank":R,"first":N,"file":".."}`
+-- the field of a text that was cut off
+abbrev pub cut_field : Bool → Members
+cut_field true = member (codes "cut") (boolean true) no_members
+cut_field false = no_members
+
+-- its tokens
+abbrev pub cut_tokens : Bool → List Token
+cut_tokens true = tokens.key (codes "cut") ∷ tokens.boolean true ∷ []
+cut_tokens false = []
+
+-- a text that names no node and no worker: `{"rank":R,"first":N,"file":".."}`, with `"cut":true` where it was cut off
 abbrev pub piece_value : PieceParts → Json
-piece_value p = object (member (codes "rank") (number_of p.rank) (member (codes "first") (number_of p.first) (member (codes "file") (string p.file) no_members)))
+piece_value p = object (member (codes "rank") (number_of p.rank) (member (codes "first") (number_of p.first) (member (codes "file") (string p.file) (cut_field p.cut))))
 
 -- `{"pieces":[..]}`
 abbrev pub manifest_value : List PieceParts → Json

@@ -1,9 +1,9 @@
 //! The manifest of a run: the pieces of its trace, each a text file of one rank or a file of packed
 //! knowledge, and what its nodes are to do with them.
 
-ghost use Rattle.std.specs.Prelude.{◌≡◌, string_bytes};
+ghost use Rattle.std.specs.Prelude.{◌≡◌, IfOk, string_bytes};
 
-use std::alloc::Global;
+use std::alloc::{AllocError, Global};
 use std::marker::Model;
 
 /// A file with some calls of one rank, one after another.
@@ -14,6 +14,7 @@ pub struct Piece {
     file: String,
     node: u8,
     worker: u8,
+    cut: bool,
 }
 
 impl Model for Piece {
@@ -22,31 +23,41 @@ impl Model for Piece {
 
     ghost Value = { PieceParts };
 
-    ghost view = { λ p. record { rank = p.rank; first = p.first; file = string_bytes p.file; node = p.node; worker = p.worker } };
+    ghost view = { λ p. record { rank = p.rank; first = p.first; file = string_bytes p.file; node = p.node; worker = p.worker; cut = p.cut } };
 }
 
 impl Piece {
-    ghost use Rattle.run_files.specs.Manifests.{whole_text};
+    ghost use Rattle.run_files.specs.Manifests.{marked, whole_text};
 
-    /// The whole text of a rank, which names no node and no worker.
+    /// The whole text of a rank, which names no node and no worker, and wasn't cut off.
     pub fn whole(rank: u32, file: String) -> Piece
         ensures { result ≡ whole_text rank (string_bytes file) }
     {
-        Piece::new(rank, 0, file, 0, 0)
+        Piece::new(rank, 0, file, (0, 0), false)
     }
 
-    /// A text of the calls of `rank` from call `first` on, which this worker of this node posts; both numbers count
-    /// from 0.
-    pub(crate) fn new(rank: u32, first: u64, file: String, node: u8, worker: u8) -> Piece
-        ensures { result ≡ record { rank = rank; first = first; file = string_bytes file; node = node; worker = worker } }
+    /// A text of the calls of `rank` from call `first` on, which this worker of this node posts, all counted from 0;
+    /// and whether it may have been cut off.
+    pub(crate) fn new(rank: u32, first: u64, file: String, at: (u8, u8), cut: bool) -> Piece
+        ensures { result ≡ record { rank = rank; first = first; file = string_bytes file; node = at.0; worker = at.1; cut = cut } }
     {
+        let (node, worker) = at;
         Piece {
             rank,
             first,
             file,
             node,
             worker,
+            cut,
         }
+    }
+
+    /// The same text with another mark: whether it was cut off.
+    pub fn marked(&self, cut: bool) -> Result<Piece, AllocError>
+        ensures { IfOk result (λ piece. piece ≡ marked cut self.now) }
+    {
+        let file = self.file.clone()?;
+        Ok(Piece::new(self.rank, self.first, file, (self.node, self.worker), cut))
     }
 
     /// The rank whose calls they are.
@@ -82,6 +93,13 @@ impl Piece {
         ensures { result ≡ self.now.worker }
     {
         self.worker
+    }
+
+    /// Whether the text may have been cut off anywhere, as that of a killed run.
+    pub fn is_cut(&self) -> bool
+        ensures { result ≡ self.now.cut }
+    {
+        self.cut
     }
 }
 

@@ -12,7 +12,7 @@ use Rattle.comm_makings.specs.World.{world_fault, world_of}
 use Rattle.comm_makings.specs.declared.answer.Choice.TheVariants as choices
 use Rattle.comm_makings.specs.declared.answer.DeriveFault.TheVariants as derives
 use Rattle.comm_makings.specs.declared.calls.RankCalls.{RankCalls}
-use Rattle.run_files.specs.Values.{layout_value, line_of, manifest_value, parts_of}
+use Rattle.run_files.specs.Values.{layout_value, line_of, parts_of}
 use Rattle.run_files.specs.declared.input.TheConstants.{LONGEST_FILE}
 use Rattle.text_layouts.specs.Sizes.{size_fault}
 use Rattle.text_layouts.specs.declared.fault.MadeFault.{MadeFault}
@@ -89,10 +89,6 @@ pub record IsFile (value : Json) (file : List ℕ) : Type 0 where
 -- the value of the layout's file, with the communicators in the order in which they were derived
 abbrev pub made_layout : Made → Json
 made_layout made = layout_value (parts_of made.input.layout.ranks made.derived.world made.input.layout.sends made.derived.comms.items)
-
--- the value of the manifest's file
-abbrev pub made_manifest : Made → Json
-made_manifest made = manifest_value made.input.manifest.pieces
 
 -- why the file of the layout isn't made: it is too long
 abbrev pub RefusesLayoutFile : Json → MadeFault → Type 0

@@ -13,8 +13,8 @@ use Rattle.trace_diagnosis.specs.Holding.{is_held}
 use Rattle.trace_diagnosis.specs.LeftOver.{IsUnmatched}
 use Rattle.trace_diagnosis.specs.Roots.{HaveRoots}
 use Rattle.trace_diagnosis.specs.Waiting.{IsWaiting, held_in, held_told}
-use Rattle.trace_diagnosis.specs.declared.diagnosis.Unmatched.{Unmatched}
-use Rattle.trace_diagnosis.specs.declared.diagnosis.Waiting.{Waiting}
+use Rattle.diagnosis_value.specs.declared.diagnosis.Unmatched.{Unmatched}
+use Rattle.diagnosis_value.specs.declared.diagnosis.Waiting.{Waiting}
 
 -- two facts of what came out make a third
 pub both : {X E : Type 0} (r : Result X E) {P Q T : X → Type 0} → IfOk r P → IfOk r Q → ((x : X) → P x → Q x → T x) → IfOk r T

@@ -9,8 +9,8 @@ use Rattle.trace_stuck.specs.Shape.{OnRank, shape, waits_of}
 use Rattle.trace_diagnosis.specs.Holding.{holds, one_holds}
 use Rattle.trace_diagnosis.specs.Needs.{needs_of, needs_of_all, needs_of_one}
 use Rattle.trace_diagnosis.specs.Parts.{may_need, of_parts, of_rank, of_ranks, unmet}
-use Rattle.trace_diagnosis.specs.declared.diagnosis.Need.{Need}
-use Rattle.trace_diagnosis.specs.declared.diagnosis.Need.TheVariants as needs
+use Rattle.diagnosis_value.specs.declared.diagnosis.Need.{Need}
+use Rattle.diagnosis_value.specs.declared.diagnosis.Need.TheVariants as needs
 use Rattle.trace_diagnosis.proofs.Shapes.{shape_Yes, shape_Rank, shape_All, shape_One, shape_OneRank, shape_AllRanks, shape_Mismatched}
 use Rattle.trace_diagnosis.proofs.Holds.{one_shapes, one_ranks}
 

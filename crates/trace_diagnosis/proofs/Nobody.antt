@@ -21,9 +21,9 @@ use Rattle.trace_diagnosis.specs.LeftOver.{IsOfWaiting, IsUnmatched, has_sure_lo
 use Rattle.trace_diagnosis.specs.Missed.{HasNearMessages, HasNearReceives}
 use Rattle.trace_diagnosis.specs.declared.conditions.Case.{Case}
 use Rattle.trace_diagnosis.specs.declared.conditions.Poller.{Poller}
-use Rattle.trace_diagnosis.specs.declared.diagnosis.LeftOver.{LeftOver}
-use Rattle.trace_diagnosis.specs.declared.diagnosis.Starving.{Starving}
-use Rattle.trace_diagnosis.specs.declared.diagnosis.Unmatched.{Unmatched}
+use Rattle.diagnosis_value.specs.declared.diagnosis.LeftOver.{LeftOver}
+use Rattle.diagnosis_value.specs.declared.diagnosis.Starving.{Starving}
+use Rattle.diagnosis_value.specs.declared.diagnosis.Unmatched.{Unmatched}
 use Rattle.trace_diagnosis.specs.Waiting.{held_at, held_by, held_in}
 use Rattle.trace_diagnosis.proofs.Lists.{none_kept_in, or_first, or_rest}
 

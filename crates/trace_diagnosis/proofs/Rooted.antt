@@ -8,8 +8,8 @@ use Rattle.std.proofs.Math.Seq.{get_or-append_seam}
 use Rattle.std.proofs.lemmas.List.Sorted.{All-permutation}
 use Rattle.trace_stuck.specs.Graph.{is_up}
 use Rattle.trace_stuck.specs.Hearts.{IsInHeart, Reaches}
-use Rattle.trace_diagnosis.specs.declared.diagnosis.Root.{Root}
-use Rattle.trace_diagnosis.specs.declared.diagnosis.RootKind.{RootKind}
+use Rattle.diagnosis_value.specs.declared.diagnosis.Root.{Root}
+use Rattle.diagnosis_value.specs.declared.diagnosis.RootKind.{RootKind}
 use Rattle.trace_diagnosis.specs.Roots.{AddsRoot, IsRoot, IsSound, JoinsRoots, KeepRoots, is_round}
 
 none : (P : Root → Type 0) → All P []

@@ -12,8 +12,8 @@ use Rattle.trace_wait.specs.Conditions.{conditions_from}
 use Rattle.trace_wait.specs.Parts.{Run}
 use Rattle.trace_wait.specs.Polls.{asked_by}
 use Rattle.trace_wait.specs.Ranks.{ops_of}
-use Rattle.trace_diagnosis.specs.declared.diagnosis.Polled.{Polled}
-use Rattle.trace_diagnosis.specs.declared.diagnosis.Polling.{Polling}
+use Rattle.diagnosis_value.specs.declared.diagnosis.Polled.{Polled}
+use Rattle.diagnosis_value.specs.declared.diagnosis.Polling.{Polling}
 
 -- A rank that polls, with the numbers and the calls of what it polls for.
 pub record Asker : Type 0 where

@@ -9,8 +9,8 @@ use Rattle.trace_stuck.specs.Shape as waits
 use Rattle.trace_diagnosis.specs.Conditions.{wait_at}
 use Rattle.trace_diagnosis.specs.Holding.{holds, nobody}
 use Rattle.trace_diagnosis.specs.Needs.{needs_of}
-use Rattle.trace_diagnosis.specs.declared.diagnosis.Need.{Need}
-use Rattle.trace_diagnosis.specs.declared.diagnosis.Need.TheVariants as needs
+use Rattle.diagnosis_value.specs.declared.diagnosis.Need.{Need}
+use Rattle.diagnosis_value.specs.declared.diagnosis.Need.TheVariants as needs
 
 -- the rank hasn't ended
 abbrev pub has_not_ended : State → Bool

@@ -14,8 +14,8 @@ use Rattle.trace_pair.specs.declared.pair.Pair.{Pair}
 use Rattle.trace_stuck.specs.Graph.{is_up}
 use Rattle.trace_wait.specs.Matching.{free_receives, is_unpaired_message}
 use Rattle.trace_diagnosis.specs.Missed.{HasNearMessages, HasNearReceives}
-use Rattle.trace_diagnosis.specs.declared.diagnosis.Starving.{Starving}
-use Rattle.trace_diagnosis.specs.declared.diagnosis.Unmatched.{Unmatched}
+use Rattle.diagnosis_value.specs.declared.diagnosis.Starving.{Starving}
+use Rattle.diagnosis_value.specs.declared.diagnosis.Unmatched.{Unmatched}
 
 -- a message in no pair that wasn't cancelled
 abbrev pub is_loose : List Pair → Message → Bool

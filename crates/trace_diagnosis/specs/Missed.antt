@@ -3,10 +3,10 @@ use Rattle.std.specs.Prelude.{◌≡◌, true, All}
 use Rattle.mpi_model.specs.declared.message.Message.{Message}
 use Rattle.mpi_model.specs.declared.message.Receive.{Receive}
 use Rattle.trace_diagnosis.specs.Near.{is_near}
-use Rattle.trace_diagnosis.specs.declared.diagnosis.LeftOver.{LeftOver}
-use Rattle.trace_diagnosis.specs.declared.diagnosis.NearMessage.{NearMessage}
-use Rattle.trace_diagnosis.specs.declared.diagnosis.NearReceive.{NearReceive}
-use Rattle.trace_diagnosis.specs.declared.diagnosis.Starving.{Starving}
+use Rattle.diagnosis_value.specs.declared.diagnosis.LeftOver.{LeftOver}
+use Rattle.diagnosis_value.specs.declared.diagnosis.NearMessage.{NearMessage}
+use Rattle.diagnosis_value.specs.declared.diagnosis.NearReceive.{NearReceive}
+use Rattle.diagnosis_value.specs.declared.diagnosis.Starving.{Starving}
 
 -- the receive is a near miss of this message, of the sort that is told
 abbrev pub IsNearReceive : Message → NearReceive → Type 0

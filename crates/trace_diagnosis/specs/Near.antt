@@ -3,8 +3,8 @@ use Rattle.std.specs.Prelude.{ℕ, Bool, true, false, ◌&&◌, not, ◌==◌, O
 use Rattle.mpi_model.specs.Fit.{admits, envelopes_fit}
 use Rattle.mpi_model.specs.declared.message.Message.{Message}
 use Rattle.mpi_model.specs.declared.message.Receive.{Receive}
-use Rattle.trace_diagnosis.specs.declared.diagnosis.Why.{Why}
-use Rattle.trace_diagnosis.specs.declared.diagnosis.Why.TheVariants.{Tag, Comm, Source, Dest, Taken, Postponed, Idle}
+use Rattle.diagnosis_value.specs.declared.diagnosis.Why.{Why}
+use Rattle.diagnosis_value.specs.declared.diagnosis.Why.TheVariants.{Tag, Comm, Source, Dest, Taken, Postponed, Idle}
 
 -- the receive names another number than this
 abbrev pub names_other : Option ℕ → ℕ → Bool

@@ -3,8 +3,8 @@ use Rattle.std.specs.Prelude.{ℕ, Bool, true, false, ◌||◌, not, List, [], �
 use Rattle.trace_stuck.specs.Shape as waits
 use Rattle.trace_stuck.specs.Shape.{Waits, OnNothing, OnRank, OnAll, OnOne, OnMismatched, none, and}
 use Rattle.trace_diagnosis.specs.Holding.{holds, nobody, one_holds}
-use Rattle.trace_diagnosis.specs.declared.diagnosis.Need.{Need}
-use Rattle.trace_diagnosis.specs.declared.diagnosis.Need.TheVariants as needs
+use Rattle.diagnosis_value.specs.declared.diagnosis.Need.{Need}
+use Rattle.diagnosis_value.specs.declared.diagnosis.Need.TheVariants as needs
 
 -- What a condition needs that doesn't hold where no rank can go on. `others` are all other ranks that haven't ended. Of
 -- an all-of it is what those of its parts need that don't hold so; of a one-of what those need that would hold if the

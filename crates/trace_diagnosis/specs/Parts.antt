@@ -6,8 +6,8 @@ use Rattle.trace_stuck.specs.Shape.{shape}
 use Rattle.trace_stuck.specs.declared.condition.Condition.{Condition}
 use Rattle.trace_diagnosis.specs.Holding.{holds, nobody}
 use Rattle.trace_diagnosis.specs.Needs.{needs_of}
-use Rattle.trace_diagnosis.specs.declared.diagnosis.Need.{Need}
-use Rattle.trace_diagnosis.specs.declared.diagnosis.Need.TheVariants as needs
+use Rattle.diagnosis_value.specs.declared.diagnosis.Need.{Need}
+use Rattle.diagnosis_value.specs.declared.diagnosis.Need.TheVariants as needs
 
 -- a part of an all-of: nothing where it holds
 abbrev pub unmet : (ℕ → Bool) → waits.Wait → List Need

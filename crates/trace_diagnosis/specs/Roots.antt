@@ -7,10 +7,10 @@ use Rattle.trace_stuck.specs.Hearts.{IsInHeart, Reaches}
 use Rattle.trace_stuck.specs.Shape as waits
 use Rattle.trace_diagnosis.specs.Graph.{HaveEdges, needs_at}
 use Rattle.trace_diagnosis.specs.Holding.{is_held}
-use Rattle.trace_diagnosis.specs.declared.diagnosis.Need.{Need}
-use Rattle.trace_diagnosis.specs.declared.diagnosis.Root.{Root}
-use Rattle.trace_diagnosis.specs.declared.diagnosis.RootKind.{RootKind}
-use Rattle.trace_diagnosis.specs.declared.diagnosis.RootKind.TheVariants.{Mismatch, Cycle, Ended, Silent, Open}
+use Rattle.diagnosis_value.specs.declared.diagnosis.Need.{Need}
+use Rattle.diagnosis_value.specs.declared.diagnosis.Root.{Root}
+use Rattle.diagnosis_value.specs.declared.diagnosis.RootKind.{RootKind}
+use Rattle.diagnosis_value.specs.declared.diagnosis.RootKind.TheVariants.{Mismatch, Cycle, Ended, Silent, Open}
 
 -- this is the label
 abbrev pub is_label : ℕ → Option ℕ → Bool

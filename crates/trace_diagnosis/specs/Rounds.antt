@@ -12,8 +12,8 @@ use Rattle.trace_wait.specs.Rounds.{group, on_comm}
 use Rattle.trace_wait.specs.declared.round.Round.{Round}
 use Rattle.trace_wait.specs.declared.round.Standing.{Standing}
 use Rattle.trace_wait.specs.declared.round.Standing.TheVariants.{Mismatched, Complete, Partial}
-use Rattle.trace_diagnosis.specs.declared.diagnosis.OpenRound.{OpenRound}
-use Rattle.trace_diagnosis.specs.declared.diagnosis.Rounds.{Rounds}
+use Rattle.diagnosis_value.specs.declared.diagnosis.OpenRound.{OpenRound}
+use Rattle.diagnosis_value.specs.declared.diagnosis.Rounds.{Rounds}
 
 -- the call by which a rank entered a round, where it has
 abbrev pub entered_at : List Ops → RoundName → ℕ → Option Entered

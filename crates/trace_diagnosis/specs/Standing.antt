@@ -9,11 +9,11 @@ use Rattle.trace_ops.specs.declared.state.State.{State}
 use Rattle.trace_ops.specs.declared.state.State.TheVariants.{Free, Waiting, Ended}
 use Rattle.trace_stuck.specs.Graph.{is_up}
 use Rattle.trace_wait.specs.Ranks.{ops_of}
-use Rattle.trace_diagnosis.specs.declared.diagnosis.Beyond.{Beyond}
-use Rattle.trace_diagnosis.specs.declared.diagnosis.Beyond.TheVariants as beyond
-use Rattle.trace_diagnosis.specs.declared.diagnosis.Stand.{Stand}
-use Rattle.trace_diagnosis.specs.declared.diagnosis.Stand.TheVariants as stand
-use Rattle.trace_diagnosis.specs.declared.diagnosis.Standing.{Standing}
+use Rattle.diagnosis_value.specs.declared.diagnosis.Beyond.{Beyond}
+use Rattle.diagnosis_value.specs.declared.diagnosis.Beyond.TheVariants as beyond
+use Rattle.diagnosis_value.specs.declared.diagnosis.Stand.{Stand}
+use Rattle.diagnosis_value.specs.declared.diagnosis.Stand.TheVariants as stand
+use Rattle.diagnosis_value.specs.declared.diagnosis.Standing.{Standing}
 
 -- where the last call stands of a rank that hasn't ended, by its readable prefix: an odd one ends with an Enter
 abbrev pub stand_at : ℕ → Stand

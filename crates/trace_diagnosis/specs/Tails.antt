@@ -14,7 +14,7 @@ use Rattle.trace_stuck.specs.Graph.{is_up}
 use Rattle.trace_wait.specs.Ranks.{ops_of}
 use Rattle.trace_diagnosis.specs.Called.{called_in, count_of}
 use Rattle.trace_diagnosis.specs.Polls.{is_poll, is_unsuccessful}
-use Rattle.trace_diagnosis.specs.declared.diagnosis.Polling.{Polling}
+use Rattle.diagnosis_value.specs.declared.diagnosis.Polling.{Polling}
 use Rattle.trace_diagnosis.specs.declared.polls.Part.{Part}
 use Rattle.trace_diagnosis.specs.declared.polls.Part.TheVariants as parts
 

@@ -11,9 +11,9 @@ use Rattle.trace_wait.specs.Conditions.{run_of}
 use Rattle.trace_diagnosis.specs.Conditions.{asker_told, conditions, has_gone_on, wait_at}
 use Rattle.trace_diagnosis.specs.Holding.{holds, nobody}
 use Rattle.trace_diagnosis.specs.Roots.{HaveRoots}
-use Rattle.trace_diagnosis.specs.declared.diagnosis.Held.{Held}
-use Rattle.trace_diagnosis.specs.declared.diagnosis.Polling.{Polling}
-use Rattle.trace_diagnosis.specs.declared.diagnosis.Waiting.{Waiting}
+use Rattle.diagnosis_value.specs.declared.diagnosis.Held.{Held}
+use Rattle.diagnosis_value.specs.declared.diagnosis.Polling.{Polling}
+use Rattle.diagnosis_value.specs.declared.diagnosis.Waiting.{Waiting}
 
 -- what the ranks wait or poll for, where these are told to poll
 abbrev pub told_conditions : Parts → View → List Bool → Answered → List Polling → List (Option waits.Wait)

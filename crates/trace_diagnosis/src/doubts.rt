@@ -1,7 +1,7 @@
 //! What may make a diagnosis wrong, as far as the ranks' calls tell it.
 
 use crate::calls::{called_at, count_of};
-use crate::diagnosis::{Beyond, Doubts, Foreign, Standing};
+use diagnosis_value::{Beyond, Doubts, Foreign, Standing};
 use mpi_model::{Call, CommRef, Layout, Object};
 use std::alloc::{AllocError, Global};
 use std::collections::BTreeMap;

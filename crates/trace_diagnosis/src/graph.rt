@@ -11,8 +11,8 @@ ghost use Rattle.trace_stuck.specs.Shape.{shape};
 ghost use Rattle.trace_diagnosis.specs.Askers.{shapes};
 ghost use Rattle.trace_diagnosis.specs.Graph.{HaveEdges, has_not_ended, needs_at, needs_in, node_of};
 
-use crate::diagnosis::Need;
 use crate::holding::{Going, is_unmet, push_needs};
+use diagnosis_value::Need;
 use std::alloc::{AllocError, Global};
 use trace_ops::State;
 use trace_stuck::{Condition, turned};

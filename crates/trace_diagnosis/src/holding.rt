@@ -11,7 +11,7 @@ ghost use Rattle.trace_diagnosis.specs.Holding.{going, holds, is_other, nobody};
 ghost use Rattle.trace_diagnosis.specs.Needs.{needs_of};
 ghost use Rattle.trace_diagnosis.specs.Parts.{of_parts, of_rank, of_ranks, unmet};
 
-use crate::diagnosis::Need;
+use diagnosis_value::Need;
 use std::alloc::AllocError;
 use trace_stuck::Condition;
 

@@ -4,7 +4,7 @@
 //! rank that computes, has died or polls. The diagnosis names what holds up ranks even then. It is a value, which other
 //! crates print.
 //!
-//! - [`diagnosis`]: the value; [`whole`]: the way there
+//! - `diagnosis_value`: the value; [`whole`]: the way there
 //! - [`times`]: when it was; [`standing`]: where each rank stands; [`calls`]: the calls of a rank, as its events tell
 //!   them
 //! - [`polls`]: which ranks poll, and for what; [`conditions`]: what each rank waits or polls for
@@ -23,7 +23,7 @@
 //!   `specs/Roots.antt`; [`holding`], [`graph`], [`roots`]
 //! - which messages are left over, which receives starve: `specs/LeftOver.antt`; [`loose`], [`starved`]
 //! - the nearest misses: [`near`], [`shelf`], [`taken`], [`idle`]
-//! - a field of the diagnosis: [`diagnosis`]
+//! - a field of the diagnosis: `crates/diagnosis_value/src/diagnosis.rt`
 //!
 //! # Choices
 //!
@@ -38,7 +38,6 @@
 mod before;
 mod calls;
 mod conditions;
-mod diagnosis;
 mod doubts;
 mod firsts;
 mod graph;
@@ -60,10 +59,4 @@ mod times;
 mod unmatched;
 mod whole;
 
-pub use diagnosis::{
-    Beyond, CallGroup, Diagnosis, Doubts, Foreign, Held, Init, LastCall, LeftOver, MismatchedRound,
-    NearMessage, NearReceive, Need, OpenRound, Operation, Polled, Polling, Root, RootKind, Rounds,
-    Stand, Standing, Starving, Times, Unmatched, Waiting, Why,
-};
-pub use trace_stuck::RoundName;
 pub use whole::diagnose;

@@ -7,8 +7,8 @@ ghost use Rattle.std.specs.Prelude.{◌≡◌};
 ghost use Rattle.mpi_model.specs.Fit.{admits};
 ghost use Rattle.trace_diagnosis.specs.Near.{is_near, names, names_other};
 
-use crate::diagnosis::Why;
 use crate::shelf::{Key, Shelf, first_three};
+use diagnosis_value::Why;
 use mpi_model::{Message, Receive, envelopes_fit};
 use std::alloc::{AllocError, Global};
 

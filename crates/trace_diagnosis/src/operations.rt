@@ -1,8 +1,8 @@
 //! The operations that a diagnosis names, each with the call that started it.
 
 use crate::calls::{call_named, named};
-use crate::diagnosis::{Init, Operation, Rounds, Unmatched, Waiting};
 use crate::inits::Inits;
+use diagnosis_value::{Init, Operation, Rounds, Unmatched, Waiting};
 use mpi_model::{Call, OpName};
 use std::alloc::{AllocError, Global};
 use trace_know::Knowledge;

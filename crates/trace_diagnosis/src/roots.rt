@@ -11,10 +11,10 @@ ghost use Rattle.trace_stuck.specs.Graph.{edge, is_up, label_at};
 ghost use Rattle.trace_stuck.specs.Hearts.{AreHearts};
 ghost use Rattle.trace_diagnosis.specs.Roots.{AddsRoot, IsRoot, IsSound, JoinsRoots, KeepRoots, LeadFrom, is_labelled, is_round, members};
 
-use crate::diagnosis::{MismatchedRound, Need, Root, RootKind};
 use crate::graph::Graph;
 use crate::holding::is_up;
 use crate::rounds::ranks_entered;
+use diagnosis_value::{MismatchedRound, Need, Root, RootKind};
 use std::alloc::{AllocError, Global};
 use std::collections::BTreeMap;
 use trace_ops::State;

@@ -6,7 +6,7 @@ ghost use Rattle.trace_wait.specs.Rounds.{group};
 ghost use Rattle.trace_diagnosis.specs.Rounds.{AreTold, HasMembers, entered, entered_at, has_entered, mismatched_in, missing, name_of, open_in, opened, opened_told};
 
 use crate::calls::named;
-use crate::diagnosis::{CallGroup, MismatchedRound, OpenRound, Rounds};
+use diagnosis_value::{CallGroup, MismatchedRound, OpenRound, Rounds};
 use mpi_model::{CollectiveFunction, Layout};
 use std::alloc::{AllocError, Global};
 use trace_ops::Entered;

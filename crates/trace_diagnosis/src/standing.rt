@@ -8,8 +8,8 @@ ghost use Rattle.trace_wait.specs.Ranks.{ops_of};
 ghost use Rattle.trace_diagnosis.specs.Standing.{beyond_of, ends_with, stand_at, stand_of, stands_at, stands_by, stands_told};
 
 use crate::calls::{called_at, count_of, wall_at};
-use crate::diagnosis::{Beyond, LastCall, Stand, Standing};
 use crate::holding::is_up;
+use diagnosis_value::{Beyond, LastCall, Stand, Standing};
 use mpi_model::{Call, OpName};
 use std::alloc::{AllocError, Global};
 use trace_know::{Cell, Knowledge};

@@ -1,7 +1,7 @@
 //! The first and the last time of a run.
 
 use crate::calls::{count_of, wall_at, wall_in};
-use crate::diagnosis::Times;
+use diagnosis_value::Times;
 use trace_know::{Knowledge, Known, Readable};
 
 /// The lesser of two times, where there may be one.

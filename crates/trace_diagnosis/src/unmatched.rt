@@ -9,7 +9,6 @@ ghost use Rattle.trace_diagnosis.specs.Missed.{HasNearMessages, HasNearReceives,
 
 use crate::before::Through;
 use crate::conditions::Poller;
-use crate::diagnosis::{LeftOver, NearMessage, NearReceive, Starving, Unmatched, Why};
 use crate::firsts::Firsts;
 use crate::holding::is_up;
 use crate::idle::Idle;
@@ -20,6 +19,7 @@ use crate::patterns::{Pattern, pattern_of, patterns_of};
 use crate::shelf::first_three;
 use crate::starved::starving_of;
 use crate::taken::{TakenBy, Takers, taken_of};
+use diagnosis_value::{LeftOver, NearMessage, NearReceive, Starving, Unmatched, Why};
 use mpi_model::{Layout, Message, OpName, Receive};
 use std::alloc::{AllocError, Global};
 use trace_know::Knowledge;

@@ -22,7 +22,6 @@ ghost use Rattle.trace_diagnosis.specs.Tails.{polling_at, polling_told};
 ghost use Rattle.trace_diagnosis.specs.Waiting.{IsWaiting, held_by, held_in, held_told, told_conditions};
 
 use crate::conditions::{Case, Poller, conditions_of, held_of, pollers_of, waits_of};
-use crate::diagnosis::{Diagnosis, Held, Need, Polled, Polling, Root, Rounds, Unmatched, Waiting};
 use crate::doubts::doubts_of;
 use crate::graph::{Graph, able_of, graph_of};
 use crate::holding::is_up;
@@ -35,6 +34,7 @@ use crate::rounds::rounds_of;
 use crate::standing::{by_number, open_among, ops_at, standing_of};
 use crate::times::times_of;
 use crate::unmatched::{Run, unfinished_in, unmatched_of};
+use diagnosis_value::{Diagnosis, Held, Need, Polled, Polling, Root, Rounds, Unmatched, Waiting};
 use mpi_model::{Layout, OpName, Sends};
 use std::alloc::{AllocError, Global};
 use trace_know::Knowledge;

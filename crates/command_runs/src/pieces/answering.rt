@@ -2,16 +2,14 @@
 
 ghost use Rattle.std.specs.Prelude.{◌≡◌, [], IfErr, IfOk};
 ghost use Rattle.dumpi_text.specs.Failing.{Fails};
-ghost use Rattle.command_runs.specs.Files.{NamesFailed};
+ghost use Rattle.run_inputs.specs.Files.{NamesFailed};
 ghost use Rattle.command_runs.specs.Nodes.{AnswersAll};
 ghost use Rattle.command_runs.specs.Refusals.{RefusesNamed};
 
-use crate::faults::fault::RunFault;
-use crate::load::opener::Opener;
-use crate::load::watch::{Watcher, announce};
 use crate::pieces::any_order::{answer_in_any_order, can_go_by_rank};
 use crate::pieces::known::known_of;
 use crate::run::Run;
+use run_inputs::{Opener, RunFault, Watcher, announce};
 use std::alloc::Global;
 use trace_know::join_laws;
 use trace_node::{Answer, RankByRank};

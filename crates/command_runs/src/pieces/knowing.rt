@@ -4,7 +4,7 @@ ghost use Rattle.std.specs.Prelude.{◌≡◌, ◌≢◌, [], IfErr, IfOk, false
 ghost use Rattle.std.specs.FinMap.{empty};
 ghost use Rattle.std.specs.List.{All};
 ghost use Rattle.dumpi_text.specs.Failing.{Fails};
-ghost use Rattle.command_runs.specs.Files.{NamesFailed};
+ghost use Rattle.run_inputs.specs.Files.{NamesFailed};
 ghost use Rattle.command_runs.specs.Pieces.{facts_of_piece};
 ghost use Rattle.command_runs.specs.Refusals.{RefusesPieces};
 ghost use Rattle.command_runs.specs.Traces.{IsInside, IsKnown, KeepsFirst};
@@ -12,14 +12,12 @@ ghost use Rattle.trace_know.specs.Trace.{view_of};
 ghost use Rattle.trace_know.specs.View.{join};
 ghost use Rattle.trace_node.specs.Node.{IsWithin};
 
-use crate::faults::fault::RunFault;
-use crate::load::opener::Opener;
-use crate::load::watch::Watcher;
 use crate::pieces::gatherer::Gatherer;
 use crate::pieces::piece::ready_piece_of;
 use crate::run::Run;
 use mpi_model::Layout;
 use run_files::Piece;
+use run_inputs::{Opener, RunFault, Watcher};
 use std::alloc::{AllocError, Global};
 use trace_know::{ReadyPiece, join_laws, view_laws};
 

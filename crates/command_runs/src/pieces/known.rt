@@ -3,17 +3,15 @@
 ghost use Rattle.std.specs.Prelude.{◌≡◌, IfErr, IfOk};
 ghost use Rattle.dumpi_text.specs.Failing.{Fails};
 ghost use Rattle.trace_node.specs.Node.{IsWithin};
-ghost use Rattle.command_runs.specs.Files.{NamesFailed};
+ghost use Rattle.run_inputs.specs.Files.{NamesFailed};
 ghost use Rattle.command_runs.specs.Known.{TellAll};
 ghost use Rattle.command_runs.specs.Refusals.{RefusesNamed};
 
-use crate::faults::fault::RunFault;
-use crate::load::opener::Opener;
-use crate::load::watch::{Watcher, announce};
 use crate::pieces::gatherer::Gathered;
 use crate::pieces::knowing::know_of;
 use crate::pieces::packed::{joined, packed_of};
 use crate::run::Run;
+use run_inputs::{Opener, RunFault, Watcher, announce};
 use std::alloc::Global;
 use trace_know::Knowledge;
 

@@ -4,16 +4,13 @@ ghost use Rattle.std.specs.Prelude.{◌≡◌, [], IfErr, IfOk, OnOk};
 ghost use Rattle.trace_cluster.specs.declared.side.Side.{Side as SideValue};
 ghost use Rattle.trace_crew.specs.declared.queue.item.Worker.{Worker as WorkerValue};
 ghost use Rattle.dumpi_text.specs.Failing.{Fails};
-ghost use Rattle.command_runs.specs.Files.{NamesFailed};
+ghost use Rattle.run_inputs.specs.Files.{NamesFailed};
 ghost use Rattle.command_runs.specs.Shares.{told_to};
 ghost use Rattle.command_runs.specs.NodeTexts.{AddsText, AreShares, RefusesBytes, known_in, share_in, side_of, worker_of};
 
-use crate::faults::fault::RunFault;
-use crate::load::input::file_at;
-use crate::load::opener::Opener;
-use crate::load::whole::LONGEST_PIECE;
 use crate::pieces::shares::PackedShares;
 use run_files::Piece;
+use run_inputs::{LONGEST_PIECE, Opener, RunFault, file_at};
 use std::alloc::{AllocError, Global};
 use trace_cluster::{Side, Workload};
 use trace_crew::{TextPiece, Worker};

@@ -5,26 +5,22 @@ ghost use Rattle.std.specs.FinMap.{empty};
 ghost use Rattle.std.specs.List.{All};
 ghost use Rattle.dumpi_text.specs.Failing.{Fails};
 ghost use Rattle.trace_node.specs.Node.{IsWithin};
-ghost use Rattle.command_runs.specs.FileNames.{shown_name};
-ghost use Rattle.command_runs.specs.Files.{NamesFailed};
-ghost use Rattle.command_runs.specs.Notes.{AreNotesOf, BeginsSo, IsNoteOf};
+ghost use Rattle.run_inputs.specs.FileNames.{shown_name};
+ghost use Rattle.run_inputs.specs.Files.{NamesFailed};
+ghost use Rattle.command_runs.specs.Notes.{AreNotesOf, IsNoteOf};
+ghost use Rattle.run_inputs.specs.Starts.{BeginsSo};
 ghost use Rattle.command_runs.specs.Pieces.{AreFactsOf, RefusesPiece, facts_of_piece};
 ghost use Rattle.command_runs.specs.Refusals.{RefusesPieces};
 ghost use Rattle.command_runs.specs.Traces.{IsInside, IsKnown};
 
-use crate::faults::fault::RunFault;
-use crate::faults::file_name::FileName;
-use crate::load::input::opened;
-use crate::load::opener::Opener;
-use crate::load::second_look::start_at;
-use crate::load::watch::{Watcher, announce};
-use crate::load::watched::Watched;
 use crate::pieces::gatherer::Gatherer;
 use crate::pieces::knowing::{take_whole, with_stranger};
-use crate::pieces::piece::fault_of_walk;
 use crate::run::Run;
 use dumpi_calls::{walk_with_buffer, whole_texts};
 use run_files::Piece;
+use run_inputs::{
+    FileName, Opener, RunFault, Watched, Watcher, announce, fault_of_walk, opened, start_at,
+};
 use std::alloc::{AllocError, Global};
 use text_notes::{Noting, Start, TextNote, noted_texts};
 use trace_know::{ReadyPiece, SegmentFault, join_laws, view_laws};

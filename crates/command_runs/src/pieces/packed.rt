@@ -5,15 +5,13 @@ ghost use Rattle.dumpi_text.specs.Failing.{Fails};
 ghost use Rattle.trace_know.specs.View.{join};
 ghost use Rattle.trace_node.specs.Node.{IsWithin};
 ghost use Rattle.trace_wire.specs.Packed.{IsOfRanks, Unpacks};
-ghost use Rattle.command_runs.specs.Files.{NamesFailed};
+ghost use Rattle.run_inputs.specs.Files.{NamesFailed};
 ghost use Rattle.command_runs.specs.Packed.{IsFrameFault, RefusesPacked, RefusesPackedFile, TellPacked};
 
-use crate::faults::fault::RunFault;
-use crate::load::input::opened;
-use crate::load::opener::Opener;
 use crate::run::Run;
 use mpi_model::Layout;
 use run_files::PackedPiece;
+use run_inputs::{Opener, RunFault, opened};
 use std::alloc::{AllocError, Global};
 use trace_know::{Knowledge, join_laws};
 use trace_wire::{Joining, PackedCause, PackedFault, WireFault, read_frames};

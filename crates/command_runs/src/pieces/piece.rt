@@ -1,24 +1,16 @@
 //! The events of a piece's text: whole, or as segments, cut after each 65,536.
 
 ghost use Rattle.std.specs.Prelude.{IfErr, IfOk, ◌≡◌};
-ghost use Rattle.dumpi_calls.specs.Walks.{IsReadStop};
 ghost use Rattle.dumpi_calls.specs.Whole.{TellsEvents};
 ghost use Rattle.dumpi_text.specs.Failing.{Fails};
-ghost use Rattle.command_runs.specs.Files.{NamesFailed};
-ghost use Rattle.command_runs.specs.Pieces.{AreFactsOf, AreSegmentsOf, IsWalkFault, IsWantOrTold, RefusesPiece, facts_of_piece};
+ghost use Rattle.run_inputs.specs.Files.{NamesFailed};
+ghost use Rattle.command_runs.specs.Pieces.{AreFactsOf, AreSegmentsOf, RefusesPiece, facts_of_piece};
 ghost use Rattle.trace_know.specs.Trace.{facts_of_all};
 
-use crate::faults::fault::RunFault;
-use crate::load::input::opened;
-use crate::load::opener::Opener;
-use crate::load::watch::Watcher;
-use crate::load::watched::Watched;
-use dumpi_calls::{
-    Collect, Memory, WalkCause, WalkFault, walk_with_buffer, whole_segments, whole_texts,
-};
-use dumpi_text::TextFault;
+use dumpi_calls::{Collect, walk_with_buffer, whole_segments, whole_texts};
 use run_files::Piece;
-use std::alloc::{AllocError, Global};
+use run_inputs::{Opener, RunFault, Watched, Watcher, fault_of_walk, opened};
+use std::alloc::Global;
 use trace_know::{ReadyPiece, ReadySegment, SegmentFault};
 
 /// The events of a piece's text, which is read to its end. The buffer is one for all pieces.
@@ -94,36 +86,5 @@ pub fn segments_of<O: Opener, V: Watcher>(
             path: piece.file().to_string(alloc)?,
         }),
         Err(_) => Err(RunFault::Memory),
-    }
-}
-
-/// The fault of a run over a text whose walk was stopped, which names the file.
-pub fn fault_of_walk(
-    alloc: Global,
-    path: &str,
-    fault: WalkFault<Memory>,
-) -> Result<RunFault, AllocError>
-    ensures fault { IfOk result (IsWalkFault path.now fault) }
-    ensures memory { IfOk result (IsWantOrTold fault.cause) }
-    ensures failed { IfOk result (NamesFailed (IsReadStop fault.cause)) }
-{
-    let line = fault.line;
-    match fault.cause {
-        WalkCause::Text(TextFault::At { line, cause }) => Ok(RunFault::Text {
-            cause,
-            path: path.to_string(alloc)?,
-            line,
-        }),
-        WalkCause::Missing(parameter) => Ok(RunFault::Missing {
-            parameter,
-            path: path.to_string(alloc)?,
-            line,
-        }),
-        WalkCause::Wrong(parameter) => Ok(RunFault::Wrong {
-            parameter,
-            path: path.to_string(alloc)?,
-            line,
-        }),
-        _ => Ok(RunFault::Memory),
     }
 }

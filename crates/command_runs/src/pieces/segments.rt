@@ -2,16 +2,14 @@
 
 ghost use Rattle.std.specs.Prelude.{◌≡◌, ◌⊎◌, IfErr, IfOk};
 ghost use Rattle.dumpi_text.specs.Failing.{Fails};
-ghost use Rattle.command_runs.specs.Files.{NamesFailed};
+ghost use Rattle.run_inputs.specs.Files.{NamesFailed};
 ghost use Rattle.command_runs.specs.Refusals.{RefusesFirst};
 ghost use Rattle.command_runs.specs.Schedules.{TellSegments, held_lists};
 
-use crate::faults::fault::RunFault;
-use crate::load::opener::Opener;
-use crate::load::watch::{Watcher, announce};
 use crate::pieces::piece::segments_of;
 use dumpi_calls::whole_segments;
 use run_files::Piece;
+use run_inputs::{Opener, RunFault, Watcher, announce};
 use std::alloc::{AllocError, Global};
 use trace_know::ReadySegment;
 use trace_world::SharedSegment;

@@ -6,16 +6,15 @@ ghost use Rattle.dumpi_text.specs.Failing.{Fails};
 ghost use Rattle.trace_cluster.specs.declared.side.Side.{Side as SideValue};
 ghost use Rattle.trace_know.specs.View.{View};
 ghost use Rattle.trace_node.specs.Node.{IsWithin};
-ghost use Rattle.command_runs.specs.Files.{NamesFailed};
+ghost use Rattle.run_inputs.specs.Files.{NamesFailed};
 ghost use Rattle.command_runs.specs.Packed.{RefusesPacked, TellPacked};
 ghost use Rattle.command_runs.specs.Shares.{IsToldMore, TellShares, so_far, told_to};
 
-use crate::faults::fault::RunFault;
-use crate::load::opener::Opener;
 use crate::pieces::node_texts::side_of;
 use crate::pieces::packed::packed_at;
 use crate::run::Run;
 use run_files::PackedPiece;
+use run_inputs::{Opener, RunFault};
 use std::alloc::{AllocError, Global};
 use trace_cluster::Side;
 use trace_know::{Knowledge, join_laws};

@@ -9,7 +9,7 @@ use trace_node::{Answer, Node, Stale};
 
 /// Something that may have an answer. Functions that drop a node after they have written its answer know it by this
 /// trait alone: a function that owns a node is proved over all that the node holds, at each of its ways out.
-pub(crate) trait Answerer: Drop {
+pub trait Answerer: Drop {
     /// What its node holds.
     ghost held: { Self → Held };
 

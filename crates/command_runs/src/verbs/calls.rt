@@ -2,14 +2,11 @@
 
 ghost use Rattle.std.specs.Prelude.{◌≡◌, ◌⊎◌, ◌+◌, IfErr, IfOk, OnOk};
 ghost use Rattle.dumpi_text.specs.Failing.{Fails};
-ghost use Rattle.command_runs.specs.Files.{NamesFailed};
+ghost use Rattle.run_inputs.specs.Files.{NamesFailed};
 ghost use Rattle.command_runs.specs.Refusals.{RefusesNamed};
 ghost use Rattle.command_runs.specs.Streams.{RanOn, WritesOn};
 ghost use Rattle.command_runs.specs.Tables.{HoldsRanks, IsTableOf, RefusesAgain};
 
-use crate::faults::fault::RunFault;
-use crate::load::opener::Opener;
-use crate::load::watch::Watcher;
 use crate::run::{Outcome, Run};
 use crate::verbs::streaming::{write_full, write_gathered};
 use crate::verbs::survey::{Events, answered, known_in, push_own, read_again, texts_of_rank};
@@ -19,6 +16,7 @@ use call_table::{
 };
 use command_line::TableForm;
 use mpi_model::Write;
+use run_inputs::{Opener, RunFault, Watcher};
 use std::alloc::{AllocError, Global};
 use trace_know::Knowledge;
 use trace_ops::RankOps;
@@ -168,7 +166,7 @@ fn write_ranks<O: Opener, W: Write>(
 
 /// Writes every call with its partner, by rank and number. A piece that was read before and is refused when it is read
 /// again ends the output where it stands.
-pub(crate) fn calls<O: Opener, V: Watcher, W: Write>(
+pub fn calls<O: Opener, V: Watcher, W: Write>(
     form: TableForm,
     run: &Run<'_, O>,
     watcher: &mut V,

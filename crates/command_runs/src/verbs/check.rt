@@ -3,25 +3,23 @@
 ghost use Rattle.std.specs.Prelude.{◌≡◌, true, IfErr, IfOk};
 ghost use Rattle.std.specs.FinMap.{empty};
 ghost use Rattle.dumpi_text.specs.Failing.{Fails};
-ghost use Rattle.command_runs.specs.Files.{NamesFailed};
+ghost use Rattle.run_inputs.specs.Files.{NamesFailed};
 ghost use Rattle.command_runs.specs.Nodes.{IsCheckerOf};
 ghost use Rattle.command_runs.specs.Refusals.{RefusesNamed};
 ghost use Rattle.command_runs.specs.Verbs.{Ran};
 
-use crate::faults::fault::RunFault;
-use crate::load::opener::Opener;
-use crate::load::watch::{Watcher, announce};
 use crate::pieces::knowing::know_of;
 use crate::pieces::packed::packed_of;
 use crate::run::{Outcome, Run};
 use crate::verbs::writing::write_text;
 use command_line::Verb;
 use mpi_model::Write;
+use run_inputs::{Opener, RunFault, Watcher, announce};
 use trace_check::Checker;
 use trace_know::join_laws;
 
 /// Writes the two lines of a check, and looks whether both say that it held.
-pub(crate) fn check<O: Opener, V: Watcher, W: Write>(
+pub fn check<O: Opener, V: Watcher, W: Write>(
     run: &Run<'_, O>,
     watcher: &mut V,
     out: &mut W,

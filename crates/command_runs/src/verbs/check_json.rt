@@ -3,17 +3,15 @@
 ghost use Rattle.std.specs.Prelude.{◌≡◌, IfErr, IfOk};
 ghost use Rattle.dumpi_text.specs.Failing.{Fails};
 ghost use Rattle.command_runs.specs.CheckJson.{check_json, end_text, key, next, of_scan, with_digit};
-ghost use Rattle.command_runs.specs.Files.{NamesFailed};
+ghost use Rattle.run_inputs.specs.Files.{NamesFailed};
 ghost use Rattle.command_runs.specs.Verbs.{Ran};
 
-use crate::faults::fault::RunFault;
-use crate::load::opener::Opener;
-use crate::load::watch::Watcher;
 use crate::run::{Outcome, Run};
 use crate::verbs::check::{checker_of, outcome_of};
 use crate::verbs::writing::write_text;
 use command_line::Verb;
 use mpi_model::Write;
+use run_inputs::{Opener, RunFault, Watcher};
 use std::alloc::{AllocError, Global};
 
 /// What was made of the bytes so far: the JSON, how many numbers it has, and whether the last byte was a digit.
@@ -109,7 +107,7 @@ fn check_json(alloc: Global, lines: &[u8], held: bool) -> Result<Vec<u8>, AllocE
 }
 
 /// Writes a check as one JSON object.
-pub(crate) fn check_as_json<O: Opener, V: Watcher, W: Write>(
+pub fn check_as_json<O: Opener, V: Watcher, W: Write>(
     run: &Run<'_, O>,
     watcher: &mut V,
     out: &mut W,

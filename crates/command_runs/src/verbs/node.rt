@@ -1,28 +1,25 @@
-//! The node of a run: all that its pieces tell, with the answer to it.
+//! The node of a run: all that its pieces tell, with the answer to it, and what is noted of their texts.
 
 ghost use Rattle.std.specs.Prelude.{◌≡◌, false, IfErr, IfOk};
 ghost use Rattle.dumpi_text.specs.Failing.{Fails};
 ghost use Rattle.trace_node.specs.Node.{IsWithin, held};
-ghost use Rattle.command_runs.specs.Files.{NamesFailed};
-ghost use Rattle.command_runs.specs.Nodes.{IsNodeOf};
+ghost use Rattle.command_runs.specs.Explains.{IsNotedNodeOf};
+ghost use Rattle.run_inputs.specs.Files.{NamesFailed};
 ghost use Rattle.command_runs.specs.Refusals.{RefusesNamed};
 
-use crate::faults::fault::RunFault;
-use crate::load::opener::Opener;
-use crate::load::watch::Watcher;
-use crate::pieces::known::known_of;
+use crate::pieces::gatherer::Gathered;
+use crate::pieces::noted::noted_of;
+use crate::pieces::packed::{joined, packed_of};
 use crate::run::Run;
 use mpi_model::Layout;
+use run_inputs::{Opener, RunFault, Watcher};
 use std::alloc::{AllocError, Global};
+use text_notes::TextNote;
 use trace_know::Knowledge;
 use trace_node::{Node, NodeFault};
 
 /// A node of the layout that knows this.
-pub(crate) fn node_with<'a>(
-    alloc: Global,
-    layout: &'a Layout,
-    know: Knowledge,
-) -> Result<Node<'a>, AllocError>
+fn node_with<'a>(alloc: Global, layout: &'a Layout, know: Knowledge) -> Result<Node<'a>, AllocError>
     requires within { IsWithin layout.now know }
     ensures { IfOk result (λ node. node ≡ held layout.now know false) }
 {
@@ -35,16 +32,20 @@ pub(crate) fn node_with<'a>(
     }
 }
 
-/// The node of the layout that knows all that the pieces tell.
-pub(crate) fn node_of<'a, O: Opener, V: Watcher>(
+/// The node of the layout that knows all that the pieces tell, and what is noted of their texts.
+pub fn noted_node<'a, O: Opener, V: Watcher>(
     run: &Run<'a, O>,
     watcher: &mut V,
-) -> Result<Node<'a>, RunFault>
-    ensures ok { IfOk result (λ node. IsNodeOf (O.file run.now.files.now) run.now.layout.now run.now.manifest.now node) }
+) -> Result<(Node<'a>, Vec<TextNote>), RunFault>
+    ensures ok { IfOk result (λ noted. IsNotedNodeOf (O.file run.now.files.now) run.now.layout.now run.now.manifest.now noted.0 noted.1.items) }
     ensures err { IfErr result (RefusesNamed (O.file run.now.files.now) run.now.layout.now.ranks run.now.manifest.now) }
     ensures failed { IfErr result (NamesFailed (Fails O.R.failures)) }
 {
-    let know = known_of(run, watcher)?;
+    let packed = packed_of(run, run.manifest.packed())?;
+    let nothing = Gathered::new(run.alloc, run.layout);
+    let (gathered, notes) = noted_of(run, run.manifest.pieces(), watcher, nothing)?;
+    let texts = gathered.know.into_knowledge()?;
+    let know = joined(run.layout, packed, texts)?;
     let node = node_with(run.alloc, run.layout, know)?;
-    Ok(node)
+    Ok((node, notes))
 }

@@ -3,24 +3,22 @@
 ghost use Rattle.std.specs.Prelude.{IfErr, OnOk};
 ghost use Rattle.dumpi_text.specs.Failing.{Fails};
 ghost use Rattle.trace_wire.specs.Packed.{IsPacked};
-ghost use Rattle.command_runs.specs.Files.{NamesFailed};
+ghost use Rattle.run_inputs.specs.Files.{NamesFailed};
 ghost use Rattle.command_runs.specs.Packs.{IsUnwritten};
 ghost use Rattle.command_runs.specs.Verbs.{Ran};
-ghost use Rattle.command_runs.specs.Writing.{Writes};
+ghost use Rattle.run_inputs.specs.Writing.{Writes};
 
-use crate::faults::fault::RunFault;
-use crate::load::opener::Opener;
-use crate::load::watch::Watcher;
 use crate::pieces::known::known_of;
 use crate::run::{Outcome, Run};
 use command_line::Verb;
 use mpi_model::Write;
+use run_inputs::{Opener, RunFault, Watcher};
 use std::alloc::Global;
 use trace_know::Knowledge;
 use trace_wire::{WireFault, write_frames};
 
 /// Writes what the pieces tell as frames, which [`read_frames`](trace_wire::read_frames) gives back.
-pub(crate) fn pack<O: Opener, V: Watcher, W: Write>(
+pub fn pack<O: Opener, V: Watcher, W: Write>(
     run: &Run<'_, O>,
     watcher: &mut V,
     out: &mut W,

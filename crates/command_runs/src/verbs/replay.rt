@@ -4,14 +4,11 @@ ghost use Rattle.std.specs.Prelude.{◌≡◌, IfErr, IfOk, OnErr, OnOk};
 ghost use Rattle.std.specs.Io.KnownBytes.{Appends};
 ghost use Rattle.mpi_model.specs.Failures.{CountsFailure, HasFailed};
 ghost use Rattle.dumpi_text.specs.Failing.{Fails};
-ghost use Rattle.command_runs.specs.Files.{NamesFailed};
+ghost use Rattle.run_inputs.specs.Files.{NamesFailed};
 ghost use Rattle.command_runs.specs.Replays.{AreLeft, AreNodesOf, BeginsTextOf, IsTextOf, NoneStale, RefusesReplay, RefusesSteps, node_line, node_text, stop_of};
 ghost use Rattle.command_runs.specs.Verbs.{Ran};
-ghost use Rattle.command_runs.specs.Writing.{AppendsFront, Writes, WritesFront};
+ghost use Rattle.run_inputs.specs.Writing.{AppendsFront, Writes, WritesFront};
 
-use crate::faults::fault::RunFault;
-use crate::load::opener::Opener;
-use crate::load::watch::Watcher;
 use crate::pieces::segments::segments_of_all;
 use crate::run::{Outcome, Run};
 use crate::verbs::schedule::world_steps;
@@ -19,13 +16,14 @@ use crate::verbs::writing::write_piece;
 use command_line::Verb;
 use itoa::Buffer;
 use mpi_model::{Failed, Layout, Write};
+use run_inputs::{Opener, RunFault, StepCause, Watcher};
 use std::alloc::Global;
 use trace_node::Answer;
 use trace_report::write_report;
 use trace_world::{Step, World, WorldFault, states_refuse};
 
 /// Writes, for each node that the schedule leaves, its line and its report.
-pub(crate) fn replay<O: Opener, V: Watcher, W: Write>(
+pub fn replay<O: Opener, V: Watcher, W: Write>(
     run: &Run<'_, O>,
     watcher: &mut V,
     out: &mut W,
@@ -87,10 +85,16 @@ fn world_after<'a>(
 fn stop_of(fault: WorldFault, step: usize) -> RunFault
     ensures { result ≡ stop_of fault step }
 {
-    match fault {
-        WorldFault::Memory | WorldFault::Stale => RunFault::Memory,
-        _ => RunFault::Step { fault, step },
-    }
+    let cause = match fault {
+        WorldFault::Memory | WorldFault::Stale => return RunFault::Memory,
+        WorldFault::NoNode => StepCause::NoNode,
+        WorldFault::NoMail => StepCause::NoMail,
+        WorldFault::EmptyInbox => StepCause::EmptyInbox,
+        WorldFault::Rank => StepCause::Rank,
+        WorldFault::FrameLength => StepCause::FrameLength,
+        WorldFault::NodeCount => StepCause::NodeCount,
+    };
+    RunFault::Step { cause, step }
 }
 
 /// Writes the line and the report of each node.

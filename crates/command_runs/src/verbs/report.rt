@@ -2,20 +2,18 @@
 
 ghost use Rattle.std.specs.Prelude.{IfErr};
 ghost use Rattle.dumpi_text.specs.Failing.{Fails};
-ghost use Rattle.command_runs.specs.Files.{NamesFailed};
+ghost use Rattle.run_inputs.specs.Files.{NamesFailed};
 ghost use Rattle.command_runs.specs.Verbs.{Ran};
 
-use crate::faults::fault::RunFault;
-use crate::load::opener::Opener;
-use crate::load::watch::Watcher;
 use crate::pieces::answering::answer_of;
 use crate::run::{Outcome, Run};
 use command_line::Verb;
 use mpi_model::Write;
+use run_inputs::{Opener, RunFault, Watcher};
 use trace_report::{write_json, write_report};
 
 /// Writes the report.
-pub(crate) fn report<O: Opener, V: Watcher, W: Write>(
+pub fn report<O: Opener, V: Watcher, W: Write>(
     run: &Run<'_, O>,
     watcher: &mut V,
     out: &mut W,
@@ -31,7 +29,7 @@ pub(crate) fn report<O: Opener, V: Watcher, W: Write>(
 }
 
 /// Writes the same report as one JSON object.
-pub(crate) fn report_as_json<O: Opener, V: Watcher, W: Write>(
+pub fn report_as_json<O: Opener, V: Watcher, W: Write>(
     run: &Run<'_, O>,
     watcher: &mut V,
     out: &mut W,

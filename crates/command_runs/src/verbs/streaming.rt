@@ -3,9 +3,9 @@
 ghost use Rattle.std.specs.Prelude.{◌≡◌, IfErr};
 ghost use Rattle.command_runs.specs.Streams.{WritesOn};
 
-use crate::faults::fault::RunFault;
 use crate::verbs::writing::write_piece;
 use mpi_model::Write;
+use run_inputs::RunFault;
 
 /// The bytes from which on lines are written.
 const FULL: usize = 65_536;

@@ -3,15 +3,11 @@
 
 ghost use Rattle.std.specs.Prelude.{◌+◌, IfErr, IfOk, OnOk};
 ghost use Rattle.dumpi_text.specs.Failing.{Fails};
-ghost use Rattle.command_runs.specs.Files.{NamesFailed};
+ghost use Rattle.run_inputs.specs.Files.{NamesFailed};
 ghost use Rattle.command_runs.specs.Nodes.{AnswersAll};
 ghost use Rattle.command_runs.specs.Refusals.{RefusesNamed};
 ghost use Rattle.command_runs.specs.Tables.{HoldsRanks, RefusesAgain};
 
-use crate::faults::fault::RunFault;
-use crate::load::opener::Opener;
-use crate::load::second_look::reopened;
-use crate::load::watch::{Unwatched, Watcher};
 use crate::pieces::answering::answer_of;
 use crate::pieces::any_order::have_lengths;
 use crate::pieces::gatherer::Gathered;
@@ -22,6 +18,7 @@ use crate::run::Run;
 use call_table::RankTexts;
 use mpi_model::Layout;
 use run_files::Piece;
+use run_inputs::{Opener, RunFault, Unwatched, Watcher, reopened};
 use std::alloc::{AllocError, Global};
 use trace_know::Knowledge;
 use trace_node::{Answer, RankByRank};
@@ -146,4 +143,19 @@ pub(crate) fn push_own(
     let own = ops_of(alloc, layout, know, rank)?;
     ops.push(own)?;
     Ok(())
+}
+
+/// What all ranks did, by what is known of them. Fails with `AllocError` when memory is refused.
+pub fn ops_of_all(
+    alloc: Global,
+    layout: &Layout,
+    know: &Knowledge,
+) -> Result<Vec<RankOps>, AllocError>
+    ensures { IfOk result (λ ops. HoldsRanks layout.now.ranks ops.items) }
+{
+    let mut ops = Vec::new(alloc);
+    for rank in 0..layout.ranks() {
+        push_own(alloc, layout, know, rank, &mut ops)?;
+    }
+    Ok(ops)
 }

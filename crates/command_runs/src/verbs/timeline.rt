@@ -2,14 +2,11 @@
 
 ghost use Rattle.std.specs.Prelude.{◌≡◌, ◌⊎◌, ◌+◌, IfErr, IfOk, OnOk};
 ghost use Rattle.dumpi_text.specs.Failing.{Fails};
-ghost use Rattle.command_runs.specs.Files.{NamesFailed};
+ghost use Rattle.run_inputs.specs.Files.{NamesFailed};
 ghost use Rattle.command_runs.specs.Refusals.{RefusesNamed};
 ghost use Rattle.command_runs.specs.Streams.{RanOn, WritesOn};
 ghost use Rattle.command_runs.specs.Tables.{HoldsRanks, IsTableOf, RefusesAgain};
 
-use crate::faults::fault::RunFault;
-use crate::load::opener::Opener;
-use crate::load::watch::Watcher;
 use crate::run::{Outcome, Run};
 use crate::verbs::streaming::{write_full, write_gathered};
 use crate::verbs::survey::{Events, answered, known_in, push_own, read_again, texts_of_rank};
@@ -18,6 +15,7 @@ use call_table::{
     put_slice, put_stuck, put_timeline_end, put_timeline_head, put_track, span_of, times_of,
 };
 use mpi_model::{OpName, Write};
+use run_inputs::{Opener, RunFault, Watcher};
 use trace_know::Knowledge;
 use trace_node::Answer;
 use trace_ops::RankOps;
@@ -262,7 +260,7 @@ fn write_events<O: Opener, W: Write>(
 
 /// Writes the calls of all ranks in time, as far as they are shown. A piece that was read before and is refused when it
 /// is read again ends the output where it stands.
-pub(crate) fn timeline<O: Opener, V: Watcher, W: Write>(
+pub fn timeline<O: Opener, V: Watcher, W: Write>(
     cut: command_line::Window,
     run: &Run<'_, O>,
     watcher: &mut V,

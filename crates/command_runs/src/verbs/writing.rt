@@ -3,11 +3,11 @@
 ghost use Rattle.std.specs.Prelude.{◌≡◌, IfErr, IfOk, OnErr, OnOk};
 ghost use Rattle.std.specs.Io.KnownBytes.{Appends};
 ghost use Rattle.mpi_model.specs.Failures.{CountsFailure};
-ghost use Rattle.command_runs.specs.Writing.{AppendsFront, BreaksOff};
+ghost use Rattle.run_inputs.specs.Writing.{AppendsFront, BreaksOff};
 
-use crate::faults::fault::RunFault;
 use crate::run::Outcome;
 use mpi_model::{Failed, Write, write_all};
+use run_inputs::RunFault;
 
 /// Writes the whole piece. A failure doesn't say how much of it was written.
 pub(crate) fn write_piece<W: Write>(piece: &[u8], out: &mut W) -> Result<(), Failed>
@@ -22,7 +22,7 @@ pub(crate) fn write_piece<W: Write>(piece: &[u8], out: &mut W) -> Result<(), Fai
 }
 
 /// Writes a text that is the whole output of a run.
-pub(crate) fn write_text<W: Write>(text: &[u8], out: &mut W) -> Result<Outcome, RunFault>
+pub fn write_text<W: Write>(text: &[u8], out: &mut W) -> Result<Outcome, RunFault>
     ensures ok { IfOk result (λ outcome. (outcome ≡ Outcome.Good) × Appends (W.written out.old) (W.written out.new) text.now) }
     ensures err { IfErr result (λ fault. (fault ≡ RunFault.Write) × BreaksOff (λ t. t ≡ text.now) W.written W.failures out.old out.new) }
 {

@@ -2,8 +2,8 @@
 
 use crate::functions::sort_word;
 use crate::writer::Writer;
+use diagnosis_value::{Doubts, Foreign};
 use mpi_model::Sends;
-use trace_diagnosis::{Doubts, Foreign};
 
 /// The most functions, texts or objects of a line that are told.
 const MOST_NAMED: usize = 10;

@@ -1,8 +1,8 @@
 //! What is said first: how it stands with the run.
 
 use crate::writer::Writer;
+use diagnosis_value::{Root, RootKind, Stand};
 use std::alloc::AllocError;
-use trace_diagnosis::{Root, RootKind, Stand};
 
 /// What the first line says.
 #[derive(Clone, Copy)]

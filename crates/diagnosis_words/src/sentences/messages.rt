@@ -1,8 +1,8 @@
 //! What is said of messages, receives and requests that found no end.
 
 use crate::writer::Writer;
+use diagnosis_value::{LeftOver, NearMessage, NearReceive, Starving, Why};
 use mpi_model::OpName;
-use trace_diagnosis::{LeftOver, NearMessage, NearReceive, Starving, Why};
 
 /// The most nearest misses of a message or a receive that are told.
 const MOST_NEAR: usize = 2;

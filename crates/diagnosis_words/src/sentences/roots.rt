@@ -4,10 +4,10 @@ use crate::groups::{Group, groups_of, singles_of};
 use crate::needed::{takes_all, takes_one};
 use crate::source::Source;
 use crate::writer::Writer;
-use std::alloc::AllocError;
-use trace_diagnosis::{
+use diagnosis_value::{
     CallGroup, Held, LastCall, MismatchedRound, Need, Root, RootKind, RoundName, Stand, Standing,
 };
+use std::alloc::AllocError;
 use trace_stuck::Condition;
 
 /// The most groups of a round that are told.

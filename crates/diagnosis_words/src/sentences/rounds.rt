@@ -1,7 +1,7 @@
 //! What is said of rounds.
 
 use crate::writer::Writer;
-use trace_diagnosis::{MismatchedRound, OpenRound};
+use diagnosis_value::{MismatchedRound, OpenRound};
 
 impl<'a> Writer<'a> {
     /// A round whose calls don't match.

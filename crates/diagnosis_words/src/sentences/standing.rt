@@ -2,7 +2,7 @@
 
 use crate::groups::Group;
 use crate::writer::Writer;
-use trace_diagnosis::{Beyond, LastCall, Polling, RootKind, Stand, Standing};
+use diagnosis_value::{Beyond, LastCall, Polling, RootKind, Stand, Standing};
 
 /// The most calls of a polling rank that are told.
 const MOST_POLLED: usize = 2;

@@ -3,9 +3,9 @@
 //! An answer `Result<Option<T>, AllocError>` has want of memory on its outside, and inside whether
 //! the value has the form.
 
-ghost use Rattle.std.specs.Prelude.{◌≡◌, IfErr, IfOk, IfSome, IsNone, Some, option_and_then, option_map};
+ghost use Rattle.std.specs.Prelude.{◌≡◌, IfErr, IfOk, IfSome, IsNone, Some, false, option_and_then, option_map};
 ghost use Rattle.serde_json.specs.Data.{item, no_items};
-ghost use Rattle.serde_json.specs.Find.{as_array, as_str, get};
+ghost use Rattle.serde_json.specs.Find.{as_array, as_bool, as_str, get};
 ghost use Rattle.serde_json.specs.View.{items_view, view};
 ghost use Rattle.run_files.specs.Fields.{HasNoValue, IsJson, bit_in, or_absent, u32_in, u32s_in, u64_in};
 
@@ -59,6 +59,16 @@ pub(crate) fn bit_or_0(value: &Value, name: &str) -> Option<u8>
     match value.get(name) {
         Some(found) => bit_of(found),
         None => Some(0),
+    }
+}
+
+/// Whether a field is true, and false where it is absent.
+pub(crate) fn bool_or_false(value: &Value, name: &str) -> Option<bool>
+    ensures { result ≡ or_absent false as_bool (get name.now (view value.now)) }
+{
+    match value.get(name) {
+        Some(found) => found.as_bool(),
+        None => Some(false),
     }
 }
 

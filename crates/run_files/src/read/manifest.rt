@@ -8,7 +8,9 @@ ghost use Rattle.run_files.specs.Manifests.{IsManifestOf, RefusesManifest, all_p
 
 use crate::fault::{Field, InputFault};
 use crate::manifest::{Manifest, PackedPiece, Piece, PlannedStep};
-use crate::read::fields::{bit_or_0, list_at, str_at, u32_at, u64_at, usize_or, value_of};
+use crate::read::fields::{
+    bit_or_0, bool_or_false, list_at, str_at, u32_at, u64_at, usize_or, value_of,
+};
 use crate::read::schedule::{posts_packed_of, posts_past_of, renumbered_by, steps_of};
 use serde_json::Value;
 use std::alloc::{AllocError, Global};
@@ -257,8 +259,11 @@ fn piece_of(alloc: Global, value: &Value) -> Result<Option<Piece>, AllocError>
     let Some(worker) = bit_or_0(value, "worker") else {
         return Ok(None);
     };
+    let Some(cut) = bool_or_false(value, "cut") else {
+        return Ok(None);
+    };
     let file = file.to_string(alloc)?;
-    Ok(Some(Piece::new(rank, first, file, node, worker)))
+    Ok(Some(Piece::new(rank, first, file, (node, worker), cut)))
 }
 
 /// The packed file that a piece of the manifest names.

@@ -3,10 +3,10 @@
 ghost use Rattle.std.specs.Prelude.{◌≡◌, ◌∷◌, IfOk};
 ghost use Rattle.json.specs.Token.{begin_array};
 ghost use Rattle.json.specs.Tree.{items_tokens, json_tokens};
-ghost use Rattle.run_files.specs.Values.{Puts, items_of, line_of, manifest_value, piece_value};
+ghost use Rattle.run_files.specs.Values.{Puts, cut_tokens, items_of, line_of, manifest_value, piece_value};
 
 use crate::manifest::Piece;
-use crate::write::values::{line_of, put_number_field, put_string_field};
+use crate::write::values::{line_of, put_number_field, put_string_field, put_true_field};
 use json::Writer;
 use std::alloc::{AllocError, Global};
 
@@ -42,7 +42,7 @@ fn put_pieces(out: &mut Writer, texts: &[Piece]) -> Result<(), AllocError>
     out.end_array()
 }
 
-/// Puts a text: its rank, the number of its first call, and the name of its file.
+/// Puts a text: its rank, the number of its first call, the name of its file, and whether it was cut off.
 fn put_piece(out: &mut Writer, text: &Piece) -> Result<(), AllocError>
     ensures { Puts result out.old out.new (json_tokens (piece_value text.now)) }
 {
@@ -50,5 +50,17 @@ fn put_piece(out: &mut Writer, text: &Piece) -> Result<(), AllocError>
     put_number_field(out, "rank", text.rank() as u64)?;
     put_number_field(out, "first", text.first())?;
     put_string_field(out, "file", text.file())?;
+    put_cut(out, text.is_cut())?;
     out.end_object()
+}
+
+/// Puts the field of a text that was cut off.
+fn put_cut(out: &mut Writer, cut: bool) -> Result<(), AllocError>
+    ensures { Puts result out.old out.new (cut_tokens cut) }
+{
+    if cut {
+        put_true_field(out, "cut")
+    } else {
+        Ok(())
+    }
 }

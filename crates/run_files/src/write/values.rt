@@ -1,8 +1,8 @@
 //! Numbers, lists of numbers, and the line that a value makes.
 
-ghost use Rattle.std.specs.Prelude.{◌≡◌, ◌++◌, ◌∷◌, [], OnOk, IfOk};
+ghost use Rattle.std.specs.Prelude.{◌≡◌, ◌++◌, ◌∷◌, [], OnOk, IfOk, true};
 ghost use Rattle.json.specs.Print.{print};
-ghost use Rattle.json.specs.Token.{begin_array, key, string};
+ghost use Rattle.json.specs.Token.{begin_array, boolean, key, string};
 ghost use Rattle.json.specs.Tree.{items_tokens, json_tokens};
 ghost use Rattle.run_files.specs.Values.{Puts, items_of, number_of};
 
@@ -42,6 +42,14 @@ pub fn put_string_field(out: &mut Writer, name: &str, text: &str) -> Result<(), 
 {
     out.key(name)?;
     out.string(text)
+}
+
+/// Puts a field that is true.
+pub(crate) fn put_true_field(out: &mut Writer, name: &str) -> Result<(), AllocError>
+    ensures { Puts result out.old out.new (key name.now ∷ boolean true ∷ []) }
+{
+    out.key(name)?;
+    out.boolean(true)
 }
 
 /// The text of what was put, and a line feed. Fails with `AllocError` when memory is refused.

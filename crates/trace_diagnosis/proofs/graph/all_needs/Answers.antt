@@ -2,7 +2,7 @@ use Rattle.std.proofs.Common.{◌∙◌, ◌++◌, ◌∷◌, [], Global, List, 
 use Rattle.std.specs.List.{range_with_len}
 use Rattle.trace_diagnosis.specs.Askers.{shapes}
 use Rattle.trace_diagnosis.specs.Graph.{needs_at}
-use Rattle.trace_diagnosis.specs.declared.diagnosis.Need.{Need}
+use Rattle.diagnosis_value.specs.declared.diagnosis.Need.{Need}
 use Rattle.trace_diagnosis.proofs.Ranges.{map_more, map_push}
 use Rattle.trace_diagnosis.proofs.graph.all_needs.Goals as goal
 

@@ -5,7 +5,7 @@ use Rattle.std.specs.List.{flat_map}
 use Rattle.trace_diagnosis.specs.Holding.{going}
 use Rattle.trace_diagnosis.specs.Needs.{needs_of}
 use Rattle.trace_diagnosis.specs.Parts.{of_parts, of_rank, of_ranks, unmet}
-use Rattle.trace_diagnosis.specs.declared.diagnosis.Need.{Need}
+use Rattle.diagnosis_value.specs.declared.diagnosis.Need.{Need}
 use Rattle.trace_diagnosis.proofs.Needing.{needs_Yes, needs_Rank, needs_Mismatched, needs_All, needs_One, needs_OneRank, needs_AllRanks}
 use Rattle.trace_diagnosis.proofs.holding.+needs.Goals as goal
 

@@ -1,6 +1,6 @@
 use Rattle.std.proofs.Common.{List, subst, sym}
 use Rattle.trace_diagnosis.specs.Roots.{AddsRoot}
-use Rattle.trace_diagnosis.specs.declared.diagnosis.Root.{Root}
+use Rattle.diagnosis_value.specs.declared.diagnosis.Root.{Root}
 use Rattle.trace_diagnosis.proofs.Rooted.{adds_push}
 use Rattle.trace_diagnosis.proofs.roots.add.Goals as goal
 

@@ -1,6 +1,6 @@
 use Rattle.std.proofs.Common.{All, List, subst}
 use Rattle.trace_diagnosis.specs.Roots.{IsSound}
-use Rattle.trace_diagnosis.specs.declared.diagnosis.Root.{Root}
+use Rattle.diagnosis_value.specs.declared.diagnosis.Root.{Root}
 use Rattle.trace_diagnosis.proofs.Rooted.{all_front, all_last}
 use Rattle.trace_diagnosis.proofs.roots.joined.Goals as goal
 

@@ -2,7 +2,7 @@ use Rattle.std.proofs.Common.{◌∷◌, [], All, List, ℕ, subst, sym}
 use Rattle.std.proofs.lemmas.List.Elements.{All-append, All-cons, All-nil}
 use Rattle.trace_stuck.specs.Hearts.{IsInHeart}
 use Rattle.trace_diagnosis.specs.Roots.{IsRoot}
-use Rattle.trace_diagnosis.specs.declared.diagnosis.Root.{Root}
+use Rattle.diagnosis_value.specs.declared.diagnosis.Root.{Root}
 use Rattle.trace_diagnosis.proofs.Leading.{held_up, members_in_heart}
 use Rattle.trace_diagnosis.proofs.roots.push_root.Goals as goal
 

@@ -1,6 +1,6 @@
 use Rattle.std.proofs.Common.{List, subst, sym}
 use Rattle.trace_diagnosis.specs.Roots.{KeepRoots}
-use Rattle.trace_diagnosis.specs.declared.diagnosis.Root.{Root}
+use Rattle.diagnosis_value.specs.declared.diagnosis.Root.{Root}
 use Rattle.trace_diagnosis.proofs.Rooted.{keeps_push}
 use Rattle.trace_diagnosis.proofs.roots.push_roots_of_rounds.Goals as goal
 

@@ -14,7 +14,7 @@ use Rattle.trace_diagnosis.specs.Rounds.{AreTold}
 use Rattle.trace_diagnosis.specs.Standing.{stands_at, stands_told}
 use Rattle.trace_diagnosis.specs.Tails.{polling_at, polling_told}
 use Rattle.trace_diagnosis.specs.declared.conditions.Poller.{Poller}
-use Rattle.trace_diagnosis.specs.declared.diagnosis.Diagnosis.{Diagnosis}
+use Rattle.diagnosis_value.specs.declared.diagnosis.Diagnosis.{Diagnosis}
 use Rattle.trace_diagnosis.proofs.Composing.{both, given_same, three, unmatched_same, waiting_same}
 use Rattle.trace_diagnosis.proofs.Stuck.{stuck_rise}
 use Rattle.trace_diagnosis.proofs.whole.diagnose.Goals as goal

@@ -1,5 +1,5 @@
 use Rattle.command_runs.specs.Refusals.{RefusesInSomeOrder}
-use Rattle.command_runs.specs.declared.faults.fault.RunFault.TheVariants.{Rank}
+use Rattle.run_inputs.specs.declared.faults.fault.RunFault.TheVariants.{Rank}
 use Rattle.command_runs.proofs.AnyOrder.{one_refused, stranger_elsewhere, whole_elsewhere}
 use Rattle.command_runs.proofs.pieces.any_order.fault_in_order.Goals as goal
 

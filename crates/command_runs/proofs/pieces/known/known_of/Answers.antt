@@ -5,7 +5,7 @@ use Rattle.trace_wire.specs.Packed.{IsOfRanks}
 use Rattle.command_runs.specs.Packed.{RefusesFirstPacked, TellPacked}
 use Rattle.command_runs.specs.Traces.{IsInside, IsKnown}
 use Rattle.command_runs.specs.Refusals.{RefusesPieces}
-use Rattle.command_runs.specs.declared.faults.fault.RunFault.TheVariants.{Memory}
+use Rattle.run_inputs.specs.declared.faults.fault.RunFault.TheVariants.{Memory}
 use Rattle.command_runs.proofs.AllTold.{all_told, packed_named, texts_named}
 use Rattle.command_runs.proofs.Runs.{handed_on}
 use Rattle.command_runs.proofs.pieces.known.known_of.Goals as goal

@@ -5,13 +5,13 @@ use Rattle.std.proofs.lemmas.List.Elements.{All-append, All-cons, All-nil}
 use Rattle.std.proofs.lemmas.List.{take_more}
 use Rattle.trace_crew.specs.declared.piece.TextPiece.{TextPiece}
 use Rattle.run_files.specs.Manifests.{PieceParts}
-use Rattle.command_runs.specs.Files.{IsFile}
-use Rattle.command_runs.specs.Inputs.{RefusesFile}
+use Rattle.run_inputs.specs.Files.{IsFile}
+use Rattle.run_inputs.specs.Inputs.{RefusesFile}
 use Rattle.command_runs.proofs.Sharing.{Adds, shares_more}
 use Rattle.command_runs.proofs.Traces.{begins}
 use Rattle.command_runs.proofs.Unread.{file_untold, fits}
 use Rattle.command_runs.specs.NodeTexts.{AreShares, WasRead}
-use Rattle.command_runs.specs.declared.load.whole.TheConstants.{LONGEST_PIECE}
+use Rattle.run_inputs.specs.declared.load.whole.TheConstants.{LONGEST_PIECE}
 use Rattle.command_runs.proofs.Runs.{handed_on}
 use Rattle.command_runs.proofs.pieces.node_texts.texts_of_all.Goals as goal
 

@@ -2,7 +2,7 @@ use Rattle.std.proofs.Common.{◌≡◌}
 use Rattle.dumpi_calls.specs.Collected.{piece_of}
 use Rattle.dumpi_calls.specs.Walks.{IsWalked}
 use Rattle.text_notes.specs.Noted.{noted, nothing_noted}
-use Rattle.command_runs.specs.Files.{StandsAtFirst}
+use Rattle.run_inputs.specs.Files.{StandsAtFirst}
 use Rattle.command_runs.proofs.Told.{walked_piece_told}
 use Rattle.command_runs.proofs.pieces.noted.noted_piece.Goals as goal
 

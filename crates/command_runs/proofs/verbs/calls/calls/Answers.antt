@@ -1,6 +1,6 @@
 use Rattle.std.proofs.Common.{List, inl, refl, subst, sym}
 use Rattle.trace_ops.specs.Ops.{AreOwn, Ops}
-use Rattle.command_runs.specs.declared.faults.fault.RunFault.TheVariants.{Memory}
+use Rattle.run_inputs.specs.declared.faults.fault.RunFault.TheVariants.{Memory}
 use Rattle.command_runs.proofs.Runs.{handed_on}
 use Rattle.command_runs.proofs.Streaming.{is_table, refused_again, refused_first, stopped_writing}
 use Rattle.command_runs.proofs.verbs.calls.calls.Goals as goal

@@ -1,6 +1,6 @@
 use Rattle.std.proofs.Common.{rules, ◌≡◌, ℕ, List, inl, refl, string_bytes, subst, sym}
 use Rattle.trace_check.specs.Checker.{Held, IsCheckOf}
-use Rattle.command_runs.specs.declared.faults.fault.RunFault.TheVariants.{Memory}
+use Rattle.run_inputs.specs.declared.faults.fault.RunFault.TheVariants.{Memory}
 use Rattle.command_runs.proofs.Runs.{handed_on, run_refused, text_broken, want_untold}
 use Rattle.command_runs.proofs.verbs.check.check.Goals as goal
 

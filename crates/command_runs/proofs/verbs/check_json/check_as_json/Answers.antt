@@ -1,7 +1,7 @@
 use Rattle.std.proofs.Common.{rules, ◌≡◌, ◌∙◌, ℕ, Bool, List, ap, ap₂, inl, refl, string_bytes, subst, sym, true}
 use Rattle.trace_check.specs.Checker.{Held, IsCheckOf}
 use Rattle.command_runs.specs.CheckJson.{check_json}
-use Rattle.command_runs.specs.declared.faults.fault.RunFault.TheVariants.{Memory}
+use Rattle.run_inputs.specs.declared.faults.fault.RunFault.TheVariants.{Memory}
 use Rattle.command_runs.proofs.Runs.{handed_on, run_refused, text_broken, want_untold}
 use Rattle.command_runs.proofs.verbs.check_json.check_as_json.Goals as goal
 

@@ -6,7 +6,7 @@ use Rattle.command_runs.specs.Clusters.{IsFaultFor}
 use Rattle.command_runs.specs.NodeTexts.{AreShares, RefusesBytes}
 use Rattle.command_runs.specs.Packed.{RefusesFirstPacked, TellPacked}
 use Rattle.command_runs.specs.Shares.{TellShares, told_to}
-use Rattle.command_runs.specs.declared.faults.fault.RunFault.TheVariants.{Memory}
+use Rattle.run_inputs.specs.declared.faults.fault.RunFault.TheVariants.{Memory}
 use Rattle.command_runs.proofs.OwnPieces.{own_known}
 use Rattle.command_runs.proofs.PackedShares.{shares_known}
 use Rattle.command_runs.proofs.Runs.{handed_on}

@@ -2,7 +2,7 @@ use Rattle.std.proofs.Common.{rules, ◌⊎◌, ◌≡◌}
 use Rattle.std.proofs.lemmas.Result.{IfErr-weaker, IfOk-weaker}
 use Rattle.command_runs.specs.Refusals.{RefusesFirst}
 use Rattle.command_runs.specs.Schedules.{TellSegments, held_lists, world_steps}
-use Rattle.command_runs.specs.declared.faults.fault.RunFault.TheVariants.{Memory}
+use Rattle.run_inputs.specs.declared.faults.fault.RunFault.TheVariants.{Memory}
 use Rattle.command_runs.proofs.Replaying.{nodes_left, piece_refused, steps_refused}
 use Rattle.command_runs.proofs.Runs.{handed_on}
 use Rattle.command_runs.proofs.verbs.replay.world_of.Goals as goal

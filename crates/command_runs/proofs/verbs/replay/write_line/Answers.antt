@@ -1,7 +1,7 @@
 use Rattle.std.proofs.Common.{rules, ◌≡◌, ◌++◌, codes, decimal}
 use Rattle.std.specs.Io.KnownBytes.{Appends}
 use Rattle.std.proofs.lemmas.Result.{on_err_weaker}
-use Rattle.command_runs.specs.Writing.{AppendsFront}
+use Rattle.run_inputs.specs.Writing.{AppendsFront}
 use Rattle.command_runs.proofs.Nodes.{front_after, front_before, on_err}
 use Rattle.command_runs.proofs.verbs.replay.write_line.Goals as goal
 

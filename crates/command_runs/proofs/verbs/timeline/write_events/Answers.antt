@@ -1,7 +1,7 @@
 use Rattle.std.proofs.Common.{inl, inr}
 use Rattle.command_runs.proofs.Streaming.{or_again, own_untold, stays, stopped_by, stopped_on, streams_both, want_on, want_unwritten}
 use Rattle.command_runs.proofs.Runs.{handed_on}
-use Rattle.command_runs.specs.declared.faults.fault.RunFault.TheVariants.{Memory}
+use Rattle.run_inputs.specs.declared.faults.fault.RunFault.TheVariants.{Memory}
 use Rattle.command_runs.proofs.verbs.timeline.write_events.Goals as goal
 
 pub returns-in_err-put_timeline_head-clause-written : goal.returns-in_err-put_timeline_head-clause-written

@@ -1,7 +1,7 @@
 use Rattle.std.proofs.Common.{inl}
 use Rattle.command_runs.proofs.Streaming.{stays, stopped_by, stopped_on, streams_both}
 use Rattle.command_runs.proofs.Runs.{handed_on}
-use Rattle.command_runs.specs.declared.faults.fault.RunFault.TheVariants.{Memory}
+use Rattle.run_inputs.specs.declared.faults.fault.RunFault.TheVariants.{Memory}
 use Rattle.command_runs.proofs.verbs.timeline.write_slices.Goals as goal
 
 pub loop-number-init : goal.loop-number-init

@@ -1,7 +1,7 @@
 use Rattle.std.proofs.Common.{All, List, subst, sym}
 use Rattle.std.proofs.lemmas.List.Elements.{All-nil}
 use Rattle.trace_diagnosis.specs.Missed.{IsNearMessage}
-use Rattle.trace_diagnosis.specs.declared.diagnosis.NearMessage.{NearMessage}
+use Rattle.diagnosis_value.specs.declared.diagnosis.NearMessage.{NearMessage}
 use Rattle.trace_diagnosis.proofs.unmatched.AllMessages.near.Goals as goal
 
 pub returns : goal.returns

@@ -1,7 +1,7 @@
 use Rattle.std.proofs.Common.{All, List, subst, sym}
 use Rattle.std.proofs.lemmas.List.Elements.{All-nil}
 use Rattle.trace_diagnosis.specs.Missed.{IsNearReceive}
-use Rattle.trace_diagnosis.specs.declared.diagnosis.NearReceive.{NearReceive}
+use Rattle.diagnosis_value.specs.declared.diagnosis.NearReceive.{NearReceive}
 use Rattle.trace_diagnosis.proofs.unmatched.AllReceives.near.Goals as goal
 
 pub returns : goal.returns

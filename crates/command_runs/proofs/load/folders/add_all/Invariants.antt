@@ -1,5 +1,0 @@
-use Rattle.std.proofs.Common.{◌≡◌, ◌++◌, map, take, string_bytes}
-use Rattle.command_runs.proofs.load.folders.add_all.Given as goal
-
-abbrev pub invariant-loop-name : goal.invariant-loop-name
-invariant-loop-name l = map string_bytes l.names.items ≡ map string_bytes l.fn.names.items ++ map string_bytes (take l.name-index l.more)

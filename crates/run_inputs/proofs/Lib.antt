@@ -1,0 +1,13 @@
+pub mod Ended
+pub mod Folders
+pub mod Fronts
+pub mod Looks
+pub mod Notes
+pub mod OneByOne
+pub mod Opening
+pub mod Ordered
+pub mod Preparing
+pub mod Reading
+pub mod Runs
+pub mod Seen
+pub mod SeenTexts
