@@ -7,28 +7,38 @@ _mpimatch() {
     done
     COMPREPLY=()
     case $verb:$before in
+        explain:--threads) return ;;
         explain:--rank) return ;;
+        graph:--threads) return ;;
+        page:--threads) return ;;
+        report:--threads) return ;;
+        calls:--threads) return ;;
+        timeline:--threads) return ;;
         timeline:--from) return ;;
         timeline:--to) return ;;
         timeline:--ranks) return ;;
+        replay:--threads) return ;;
+        check:--threads) return ;;
+        pack:--threads) return ;;
         init:--sends) words="wait buffer" ;;
         init:--layout) files=yes ;;
         init:--manifest) files=yes ;;
+        init:--threads) return ;;
         *)
             case $verb in
                 "") words="$verbs -h --help -V --version" ;;
                 help) words="$verbs" ;;
-                explain) words="-q --quiet --verbose --json --all --rank -h --help" files=yes ;;
-                graph) words="-q --quiet --verbose --all -h --help" files=yes ;;
-                page) words="-q --quiet --verbose -h --help" files=yes ;;
-                report) words="-q --quiet --verbose --json -h --help" files=yes ;;
-                calls) words="-q --quiet --verbose --csv --json -h --help" files=yes ;;
-                timeline) words="-q --quiet --verbose --from --to --ranks -h --help" files=yes ;;
-                replay) words="-q --quiet -h --help" files=yes ;;
+                explain) words="-q --quiet --verbose --threads --json --all --rank -h --help" files=yes ;;
+                graph) words="-q --quiet --verbose --threads --all -h --help" files=yes ;;
+                page) words="-q --quiet --verbose --threads -h --help" files=yes ;;
+                report) words="-q --quiet --verbose --threads --json -h --help" files=yes ;;
+                calls) words="-q --quiet --verbose --threads --csv --json -h --help" files=yes ;;
+                timeline) words="-q --quiet --verbose --threads --from --to --ranks -h --help" files=yes ;;
+                replay) words="-q --quiet --threads -h --help" files=yes ;;
                 cluster) words="-q --quiet -h --help" files=yes ;;
-                check) words="-q --quiet --verbose --json -h --help" files=yes ;;
-                pack) words="-q --quiet -h --help" files=yes ;;
-                init) words="--sends --layout --manifest --force -q --quiet --json -h --help" files=yes ;;
+                check) words="-q --quiet --verbose --threads --json -h --help" files=yes ;;
+                pack) words="-q --quiet --threads -h --help" files=yes ;;
+                init) words="--sends --layout --manifest --force -q --quiet --threads --json -h --help" files=yes ;;
             esac
             [[ $word == -* ]] && files= || { [[ $files ]] && words=; }
             ;;

@@ -18,6 +18,7 @@ complete -c mpimatch -n '__fish_seen_subcommand_from help' -a 'explain graph pag
 complete -c mpimatch -n '__fish_seen_subcommand_from explain' -F
 complete -c mpimatch -n '__fish_seen_subcommand_from explain' -s q -l quiet -d 'Writes nothing on standard error but faults'
 complete -c mpimatch -n '__fish_seen_subcommand_from explain' -l verbose -d 'Names the communicators that the texts make, and those that are left out'
+complete -c mpimatch -n '__fish_seen_subcommand_from explain' -l threads -x -d 'Reads texts by N threads, 1 to 1024; without it by one for each processor'
 complete -c mpimatch -n '__fish_seen_subcommand_from explain' -l json -d 'Prints the same facts as one JSON object'
 complete -c mpimatch -n '__fish_seen_subcommand_from explain' -l all -d 'Cuts no list'
 complete -c mpimatch -n '__fish_seen_subcommand_from explain' -l rank -x -d 'Says what is known of this rank alone'
@@ -25,32 +26,38 @@ complete -c mpimatch -n '__fish_seen_subcommand_from explain' -s h -l help -d 'P
 complete -c mpimatch -n '__fish_seen_subcommand_from graph' -F
 complete -c mpimatch -n '__fish_seen_subcommand_from graph' -s q -l quiet -d 'Writes nothing on standard error but faults'
 complete -c mpimatch -n '__fish_seen_subcommand_from graph' -l verbose -d 'Names the communicators that the texts make, and those that are left out'
+complete -c mpimatch -n '__fish_seen_subcommand_from graph' -l threads -x -d 'Reads texts by N threads, 1 to 1024; without it by one for each processor'
 complete -c mpimatch -n '__fish_seen_subcommand_from graph' -l all -d 'Draws all nodes, also more than 200'
 complete -c mpimatch -n '__fish_seen_subcommand_from graph' -s h -l help -d 'Print help'
 complete -c mpimatch -n '__fish_seen_subcommand_from page' -F
 complete -c mpimatch -n '__fish_seen_subcommand_from page' -s q -l quiet -d 'Writes nothing on standard error but faults'
 complete -c mpimatch -n '__fish_seen_subcommand_from page' -l verbose -d 'Names the communicators that the texts make, and those that are left out'
+complete -c mpimatch -n '__fish_seen_subcommand_from page' -l threads -x -d 'Reads texts by N threads, 1 to 1024; without it by one for each processor'
 complete -c mpimatch -n '__fish_seen_subcommand_from page' -s h -l help -d 'Print help'
 complete -c mpimatch -n '__fish_seen_subcommand_from report' -F
 complete -c mpimatch -n '__fish_seen_subcommand_from report' -s q -l quiet -d 'Writes nothing on standard error but faults'
 complete -c mpimatch -n '__fish_seen_subcommand_from report' -l verbose -d 'Names the communicators that the texts make, and those that are left out'
+complete -c mpimatch -n '__fish_seen_subcommand_from report' -l threads -x -d 'Reads texts by N threads, 1 to 1024; without it by one for each processor'
 complete -c mpimatch -n '__fish_seen_subcommand_from report' -l json -d 'Prints the report as one JSON object'
 complete -c mpimatch -n '__fish_seen_subcommand_from report' -s h -l help -d 'Print help'
 complete -c mpimatch -n '__fish_seen_subcommand_from calls' -F
 complete -c mpimatch -n '__fish_seen_subcommand_from calls' -s q -l quiet -d 'Writes nothing on standard error but faults'
 complete -c mpimatch -n '__fish_seen_subcommand_from calls' -l verbose -d 'Names the communicators that the texts make, and those that are left out'
+complete -c mpimatch -n '__fish_seen_subcommand_from calls' -l threads -x -d 'Reads texts by N threads, 1 to 1024; without it by one for each processor'
 complete -c mpimatch -n '__fish_seen_subcommand_from calls' -l csv -d 'Prints CSV, as it does without a flag'
 complete -c mpimatch -n '__fish_seen_subcommand_from calls' -l json -d 'Prints a JSON object a line'
 complete -c mpimatch -n '__fish_seen_subcommand_from calls' -s h -l help -d 'Print help'
 complete -c mpimatch -n '__fish_seen_subcommand_from timeline' -F
 complete -c mpimatch -n '__fish_seen_subcommand_from timeline' -s q -l quiet -d 'Writes nothing on standard error but faults'
 complete -c mpimatch -n '__fish_seen_subcommand_from timeline' -l verbose -d 'Names the communicators that the texts make, and those that are left out'
+complete -c mpimatch -n '__fish_seen_subcommand_from timeline' -l threads -x -d 'Reads texts by N threads, 1 to 1024; without it by one for each processor'
 complete -c mpimatch -n '__fish_seen_subcommand_from timeline' -l from -x -d 'Leaves out what ends before so many seconds of the run'
 complete -c mpimatch -n '__fish_seen_subcommand_from timeline' -l to -x -d 'Leaves out what begins after so many seconds of the run'
 complete -c mpimatch -n '__fish_seen_subcommand_from timeline' -l ranks -x -d 'Shows the ranks from A to B alone'
 complete -c mpimatch -n '__fish_seen_subcommand_from timeline' -s h -l help -d 'Print help'
 complete -c mpimatch -n '__fish_seen_subcommand_from replay' -F
 complete -c mpimatch -n '__fish_seen_subcommand_from replay' -s q -l quiet -d 'Writes nothing on standard error but faults'
+complete -c mpimatch -n '__fish_seen_subcommand_from replay' -l threads -x -d 'Reads texts by N threads, 1 to 1024; without it by one for each processor'
 complete -c mpimatch -n '__fish_seen_subcommand_from replay' -s h -l help -d 'Print help'
 complete -c mpimatch -n '__fish_seen_subcommand_from cluster' -F
 complete -c mpimatch -n '__fish_seen_subcommand_from cluster' -s q -l quiet -d 'Writes nothing on standard error but faults'
@@ -58,10 +65,12 @@ complete -c mpimatch -n '__fish_seen_subcommand_from cluster' -s h -l help -d 'P
 complete -c mpimatch -n '__fish_seen_subcommand_from check' -F
 complete -c mpimatch -n '__fish_seen_subcommand_from check' -s q -l quiet -d 'Writes nothing on standard error but faults'
 complete -c mpimatch -n '__fish_seen_subcommand_from check' -l verbose -d 'Names the communicators that the texts make, and those that are left out'
+complete -c mpimatch -n '__fish_seen_subcommand_from check' -l threads -x -d 'Reads texts by N threads, 1 to 1024; without it by one for each processor'
 complete -c mpimatch -n '__fish_seen_subcommand_from check' -l json -d 'Prints the same as one JSON object'
 complete -c mpimatch -n '__fish_seen_subcommand_from check' -s h -l help -d 'Print help'
 complete -c mpimatch -n '__fish_seen_subcommand_from pack' -F
 complete -c mpimatch -n '__fish_seen_subcommand_from pack' -s q -l quiet -d 'Writes nothing on standard error but faults'
+complete -c mpimatch -n '__fish_seen_subcommand_from pack' -l threads -x -d 'Reads texts by N threads, 1 to 1024; without it by one for each processor'
 complete -c mpimatch -n '__fish_seen_subcommand_from pack' -s h -l help -d 'Print help'
 complete -c mpimatch -n '__fish_seen_subcommand_from init' -F
 complete -c mpimatch -n '__fish_seen_subcommand_from init' -l sends -x -a 'wait buffer' -d 'Says how a send of standard mode completes: wait or buffer [default: wait]'
@@ -69,5 +78,6 @@ complete -c mpimatch -n '__fish_seen_subcommand_from init' -l layout -r -F -d 'N
 complete -c mpimatch -n '__fish_seen_subcommand_from init' -l manifest -r -F -d 'Names the file for the manifest [default: manifest.json]'
 complete -c mpimatch -n '__fish_seen_subcommand_from init' -l force -d 'Writes over files of these names that are there'
 complete -c mpimatch -n '__fish_seen_subcommand_from init' -s q -l quiet -d 'Writes nothing on standard error but faults'
+complete -c mpimatch -n '__fish_seen_subcommand_from init' -l threads -x -d 'Reads texts by N threads, 1 to 1024; without it by one for each processor'
 complete -c mpimatch -n '__fish_seen_subcommand_from init' -l json -d 'Prints what was found as one JSON object'
 complete -c mpimatch -n '__fish_seen_subcommand_from init' -s h -l help -d 'Print help'

@@ -4,17 +4,11 @@ const answer = new Answer(JSON.parse(document.getElementById("answer").textConte
 const at = (id) => document.getElementById(id);
 let tables = [];
 
-function isSeveral(root) {
-  return root.kind === "mismatch" || root.ranks.length > 1;
-}
-
 /** Groups of ranks with their words, the first of them where there are many. */
 function listOf(groups, most) {
-  const lines = groups.slice(0, most).map((it) => made("li", "", named(`${rankWords(it.ranks)} ${it.words}`)));
-  if (groups.length > most) {
-    lines.push(made("li", "", `and ${counted(groups.length - most, "group")} more, which stand in the table below`));
-  }
-  return made("ul", "", ...lines);
+  const lines = groups.slice(0, most).map((it) => named(`${rankWords(it.ranks)} ${it.words}`));
+  const more = groups.length > most ? [`and ${counted(groups.length - most, "group")} more, which stand in the table below`] : [];
+  return list([...lines, ...more]);
 }
 
 /** What holds up the run: each root with its ranks, and who waits for it. */
@@ -28,37 +22,32 @@ function showRoots() {
     const head = made("p", "", made("span", "kind", `${i + 1} ${root.kind}${proved}`), made("strong", "", answer.rootWords(root)));
     const members = listOf(answer.membersOf(root), 12);
     const count = root.holds_up.length;
-    const those = `${counted(count, "rank waits", "ranks wait")} for ${isSeveral(root) ? "them" : "it"}: ${rankWords(root.holds_up)}`;
+    const whom = root.kind === "mismatch" || root.ranks.length > 1 ? "them" : "it";
+    const those = `${counted(count, "rank waits", "ranks wait")} for ${whom}: ${rankWords(root.holds_up)}`;
     const waiting = answer.groupsOf(root.holds_up).map((it) => ({ ranks: it.ranks, words: answer.groupWords(it) }));
     return made("li", "", head, members, ...(count === 0 ? [] : [made("p", "", those), listOf(waiting, 6)]));
   });
-  if (all.length > MOST_BOXES) {
-    roots.push(made("li", "", `and ${all.length - MOST_BOXES} more: the table below has their ranks`));
-  }
+  if (all.length > MOST_BOXES) roots.push(made("li", "", `and ${all.length - MOST_BOXES} more: the table below has their ranks`));
   at("roots").replaceChildren(...(roots.length > 0 ? roots : [made("li", "", "Nothing holds it up.")]));
 }
 
 /** Tells which ranks a box of the picture has; where it is chosen, the tables show those alone. */
 function point(box, isChosen) {
-  const groups = answer.groupsOf(box.ranks);
-  const lines = groups.slice(0, 8).map((group) => {
+  const lines = answer.groupsOf(box.ranks).slice(0, 8).map((group) => {
     const moment = answer.moment(group.first);
     const times = moment === null ? "" : `; the first stands there since ${moment.since} s, for ${moment.lasts} s, in ${traceWords(group.first)}`;
-    return made("li", "", named(`${rankWords(group.ranks)} ${answer.groupWords(group)}${times}`));
+    return named(`${rankWords(group.ranks)} ${answer.groupWords(group)}${times}`);
   });
-  at("pointed").replaceChildren(made("ul", "", ...lines));
-  if (isChosen) {
-    at("ranks-wanted").value = stretchesOf(box.ranks).map(([first, last]) => (first === last ? `${first}` : `${first} to ${last}`)).join(", ");
-    filterTables();
-    at("tables").scrollIntoView();
-  }
+  at("pointed").replaceChildren(list(lines));
+  if (!isChosen) return;
+  at("ranks-wanted").value = stretchesOf(box.ranks).join(", ");
+  filterTables();
+  at("tables").scrollIntoView();
 }
 
 /** What the picture's signs mean, of those that it has. */
 function legendOf(roots) {
-  if (roots.length === 0) {
-    return "No rank is seen to wait for another.";
-  }
+  if (roots.length === 0) return "No rank is seen to wait for another.";
   const signs = [
     [["cycle"], "An arrow back: they wait for one another."], [["mismatch"], "A double frame: calls that don't match."],
     [["ended", "silent"], "A bold frame: ended, or no sign."],
@@ -71,81 +60,56 @@ function legendOf(roots) {
 function showPicture() {
   const { roots } = answer.value;
   at("legend").textContent = legendOf(roots);
-  if (roots.length > 0) {
-    at("picture").replaceChildren(pictureOf(answer, point));
-    at("pointed").textContent = "Point at a box, or go there by the tab key: its ranks and calls stand here.";
-  }
   at("pointed").hidden = roots.length === 0;
-}
-
-function button(words, act) {
-  const it = made("button", "plain", words);
-  it.type = "button";
-  it.addEventListener("click", act);
-  return it;
+  if (roots.length === 0) return;
+  at("picture").replaceChildren(pictureOf(answer, point));
+  at("pointed").textContent = "Point at a box, or go there by the tab key: its ranks and calls stand here.";
 }
 
 /** The last calls of some ranks against time, where the value has them. */
 function showMoments() {
   const rows = answer.value.last_calls ?? [];
   at("last-moments").hidden = rows.length === 0;
-  if (rows.length === 0) {
-    return;
-  }
+  if (rows.length === 0) return;
   const moments = new Moments(answer, (call) => {
-    const lines = call.rows.map(rowWords).filter((it) => it !== "").map((it) => made("li", "", named(it)));
-    at("moment").replaceChildren(named(moments.wordsOf(call)), made("ul", "", ...lines));
+    const lines = call.rows.map(rowWords).filter((it) => it !== "").map(named);
+    at("moment").replaceChildren(named(moments.wordsOf(call)), list(lines));
   });
-  const more = button(`Show all ${moments.lanes.length} lanes`, () => {
-    moments.most = Infinity;
-    more.hidden = true;
+  const change = (changes) => {
+    Object.assign(moments, changes);
+    more.hidden = moments.lanes.length <= moments.most;
+    having(isTimely, { "aria-pressed": moments.isTrue });
+    at("moments-mode").textContent = moments.isTrue ? "Lengths are true to time."
+      : "Each begin or end is a step, all steps are equally long: not true to time.";
     moments.show(0, 1);
-  });
-  const turn = (isTrue) => {
-    moments.isTrue = isTrue;
-    isTimely.setAttribute("aria-pressed", isTrue);
-    at("moments-mode").textContent = isTrue ? "Lengths are true to time." : "Each begin or end is a step, all steps are equally long: not true to time.";
   };
-  const isTimely = button("True to time", () => {
-    turn(!moments.isTrue);
-    moments.show(0, 1);
-  });
-  more.hidden = moments.lanes.length <= FIRST_LANES;
+  const more = button(`Show all ${moments.lanes.length} lanes`, () => change({ most: Infinity }));
+  const isTimely = button("True to time", () => change({ isTrue: !moments.isTrue }));
   at("moments").replaceChildren(moments.element);
   at("moments-buttons").replaceChildren(button("Zoom in", () => moments.zoom(0.5)), button("Zoom out", () => moments.zoom(2)),
     button("All", () => moments.show(0, 1)), button("Earlier", () => moments.move(-1)), button("Later", () => moments.move(1)), isTimely, more);
-  turn(false);
-  moments.draw();
+  change({});
   window.addEventListener("resize", () => moments.draw());
 }
 
 /** Leaves out the rows of all tables that don't fit the words of the filter. */
 function filterTables() {
   const isWanted = ranksWanted(at("ranks-wanted").value);
-  const text = at("text-wanted").value.trim().toLowerCase();
-  const object = at("object-wanted").value.trim();
+  const [text, object] = [at("text-wanted").value.trim().toLowerCase(), at("object-wanted").value.trim()];
   const fits = (row) => (isWanted === null || row.ranks.some(isWanted)) && row.text.includes(text)
     && (object === "" || (row.object !== undefined && `${row.object}` === object));
-  const counts = tables.map((it) => it.filter(fits));
+  const counts = tables.map((it) => it.show(fits));
   at("fitting").textContent = `${counted(counts.reduce((a, b) => a + b, 0), "row")} in ${counted(counts.filter((it) => it > 0).length, "table")}`;
 }
 
 function field(id, label) {
-  const input = made("input", "");
-  input.id = id;
-  input.type = "text";
-  input.spellcheck = false;
-  input.addEventListener("input", filterTables);
-  return made("label", "", label, input);
+  const input = having(made("input", ""), { id, type: "text", spellcheck: false });
+  return made("label", "", label, listening(input, { input: filterTables }));
 }
 
 function showFilter() {
-  const each = made("input", "");
-  each.id = "each-rank";
-  each.type = "checkbox";
-  each.addEventListener("change", showTables);
-  const count = made("output", "");
-  count.id = "fitting";
+  const each = listening(having(made("input", ""), { id: "each-rank", type: "checkbox" }), { change: showTables });
+  const count = having(made("output", ""), { id: "fitting" });
   at("filter").replaceChildren(field("ranks-wanted", "Ranks, as 3, 8 to 11"), field("text-wanted", "Function, call site or other text"),
     field("object-wanted", "Object (its id in the layout)"), made("label", "", each, " a row for each rank"), count);
 }
@@ -171,13 +135,9 @@ function showMade() {
     ["Ranks", `${ranks}`], ["Files", `${files}, in which the last calls of ranks stand`], ["Sends", sentence],
     ["Begins", begin === null ? "no call can be read" : wallWords(begin)], ["Ends", end === null ? "" : wallWords(end)],
     ["Lasts", begin === null ? "" : `${secondsBetween(answer.begin, answer.end)} s`],
+    ["Other sends", other === null ? "" : `with the other kind of sends ${other.length === 0 ? "no rank" : rankWords(other)} would be stuck`],
   ];
-  if (other !== null) {
-    rows.push(["Other sends", `with the other kind of sends ${other.length === 0 ? "no rank" : rankWords(other)} would be stuck`]);
-  }
   at("made").replaceChildren(...rows.filter(([, text]) => text !== "").flatMap(([name, text]) => [made("dt", "", name), made("dd", "", named(text))]));
 }
 
-for (const part of [showRoots, showPicture, showMoments, showFilter, showTables, showMade]) {
-  part();
-}
+[showRoots, showPicture, showMoments, showFilter, showTables, showMade].forEach((part) => part());

@@ -1,26 +1,17 @@
 // The last moments, drawn: the last calls of some ranks against time, with their messages and their rounds.
 
-const FIRST_LANES = 12;
-const LANE = 24; // the height of a lane, and of a bar in it
-const BAR = 14;
-const NAMES = 76; // the width of the names of lanes, and of what lies behind the end, where calls go on that haven't returned
-const AFTER = 104;
-const TICKS = 5;
+const [FIRST_LANES, TICKS] = [12, 5];
+// the height of a lane, and of a bar in it
+const [LANE, BAR] = [24, 14];
+// the width of the names of lanes, and of what lies behind the end, where calls go on that haven't returned
+const [NAMES, AFTER] = [76, 104];
 
 /** The lanes of rows: of each rank its calls, each with its rows. */
 function lanesOf(rows) {
-  const lanes = new Map();
-  for (const row of rows) {
-    const { rank, call } = row;
-    const lane = lanes.get(rank) ?? [];
-    lanes.set(rank, lane);
-    if (lane.at(-1)?.call === call) {
-      lane.at(-1).rows.push(row);
-    } else {
-      lane.push({ rank, call, rows: [row], enter: nanoseconds(row.enter), leaves: row.return === null ? null : nanoseconds(row.return) });
-    }
-  }
-  return [...lanes.values()];
+  return Array.from(grouped(rows, (it) => it.rank).values(), (ofRank) => Array.from(grouped(ofRank, (it) => it.call).values(), (own) => {
+    const [{ rank, call, enter, return: leaves }] = own;
+    return { rank, call, rows: own, enter: nanoseconds(enter), leaves: leaves === null ? null : nanoseconds(leaves) };
+  }));
 }
 
 /** What a row says beside its times. */
@@ -37,16 +28,10 @@ function rowWords(row) {
 /** The lanes, of whose time a stretch is shown; `tell(call)` is told at which call somebody points. */
 class Moments {
   constructor(answer, tell) {
-    this.answer = answer;
-    this.tell = tell;
+    // (time is shown between its parts `from` and `to`)
+    Object.assign(this, { answer, tell, most: FIRST_LANES, isTrue: false, from: 0, to: 1, chosen: null, times: [] });
     this.lanes = lanesOf(answer.value.last_calls);
-    this.most = FIRST_LANES;
-    this.isTrue = false;
-    this.from = 0; // the parts of all time between which it is shown
-    this.to = 1;
-    this.chosen = null;
-    this.element = drawn("svg", { tabindex: 0, role: "group" });
-    this.element.addEventListener("keydown", (event) => this.press(event));
+    this.element = listening(drawn("svg", { tabindex: 0, role: "group" }), { keydown: (event) => this.press(event) });
   }
 
   /** Where a moment lies in all time, from 0 to 1. */
@@ -105,10 +90,9 @@ class Moments {
       ArrowLeft: () => this.go(-1, 0), ArrowRight: () => this.go(1, 0), ArrowUp: () => this.go(0, -1), ArrowDown: () => this.go(0, 1),
       "+": () => this.zoom(0.5), "=": () => this.zoom(0.5), "-": () => this.zoom(2), 0: () => this.show(0, 1),
     }[event.key];
-    if (act !== undefined && !event.ctrlKey && !event.metaKey && !event.altKey) {
-      event.preventDefault();
-      act();
-    }
+    if (act === undefined || event.ctrlKey || event.metaKey || event.altKey) return;
+    event.preventDefault();
+    act();
   }
 
   /** Goes to the call before or behind the chosen one, or to that of the next lane that is as far from the last one. */
@@ -118,32 +102,25 @@ class Moments {
     const at = this.laneOf.get(from.rank);
     const lane = bound(at + down, this.seen);
     this.chosen = bound(lane.length - this.seen[at].length + this.seen[at].indexOf(from) + across, lane);
-    const part = this.partOf(this.chosen.enter);
-    if (part < this.from || part > this.to) {
-      const half = (this.to - this.from) / 2;
-      this.show(part - half, part + half);
-    }
+    const [part, half] = [this.partOf(this.chosen.enter), (this.to - this.from) / 2];
+    if (part < this.from || part > this.to) this.show(part - half, part + half);
     this.bars.get(this.chosen).focus();
   }
 
   bar(call) {
     const [x, end] = this.stretchOf(call);
-    const y = this.yOf(call.rank);
-    const isOpen = call.leaves === null;
+    const [y, isOpen] = [this.yOf(call.rank), call.leaves === null];
     const box = drawn("path", { class: "box", d: `M ${end} ${y - BAR / 2} H ${x} v ${BAR} H ${end}${isOpen ? "" : " z"}` });
     const group = drawn("g", { class: isOpen ? "bar open" : "bar", role: "img", tabindex: -1, "aria-label": this.wordsOf(call) }, box);
     const name = shown(call.rows[0].function ?? "", 40).replace(/^MPI_/, "");
     const front = Math.max(x, NAMES) + 5;
-    if (Math.min(end, this.width) - front > name.length * CHARACTER) {
-      group.append(drawn("text", { x: front, y: y + 4 }, name));
-    }
-    group.addEventListener("pointerenter", () => this.tell(call));
-    group.addEventListener("focus", () => {
+    if (Math.min(end, this.width) - front > name.length * CHARACTER) group.append(drawn("text", { x: front, y: y + 4 }, name));
+    this.bars.set(call, group);
+    const choose = () => {
       this.chosen = call;
       this.tell(call);
-    });
-    this.bars.set(call, group);
-    return group;
+    };
+    return listening(group, { pointerenter: () => this.tell(call), focus: choose });
   }
 
   lane(calls) {
@@ -155,14 +132,9 @@ class Moments {
 
   /** A band behind the calls of each round that two lanes have at least. */
   bands() {
-    const rounds = new Map();
-    for (const { call, row: { object, round } } of this.rows.values()) {
-      if (object !== null && round !== null) {
-        const key = `${object} ${round}`;
-        rounds.set(key, [...(rounds.get(key) ?? []), call]);
-      }
-    }
-    return [...rounds.values()].filter((calls) => calls.some((it) => it.rank !== calls[0].rank)).map((calls) => {
+    const own = [...this.rows.values()].filter(({ row }) => row.object !== null && row.round !== null);
+    const rounds = Array.from(grouped(own, ({ row }) => `${row.object} ${row.round}`).values(), (alike) => alike.map((it) => it.call));
+    return rounds.filter((calls) => calls.some((it) => it.rank !== calls[0].rank)).map((calls) => {
       const x = Math.min(...calls.map((it) => this.stretchOf(it)[0])) - 2;
       const width = Math.max(...calls.map((it) => this.stretchOf(it)[1])) + 2 - x;
       const rows = calls.map((it) => this.yOf(it.rank));
@@ -180,9 +152,7 @@ class Moments {
   messages() {
     return [...this.rows.values()].filter(({ row }) => row.side === "send").flatMap(({ call, row }) => {
       const to = this.rowAt(row.partner_rank, row.partner_call, row.partner_part, "receive");
-      if (to === undefined) {
-        return [];
-      }
+      if (to === undefined) return [];
       const last = this.seen[this.laneOf.get(to.call.rank)].find((it) => it.call === to.row.completed_by) ?? to.call;
       const [x, y, end, bottom] = [this.xOf(call.enter), this.yOf(call.rank), this.stretchOf(last)[1], this.yOf(last.rank)];
       const angle = Math.atan2(bottom - y, end - x);
@@ -220,20 +190,16 @@ class Moments {
     this.placeOf = new Map(this.times.map((it, i) => [it, i]));
     this.bars = new Map();
     this.width = Math.max(620, this.element.parentElement.clientWidth);
-    const bottom = LANE * this.seen.length;
-    const height = bottom + LANE;
+    const [bottom, height] = [LANE * this.seen.length, LANE * (this.seen.length + 1)];
     const isWithin = this.element.contains(document.activeElement) && this.element !== document.activeElement;
     const ticks = this.ticks().map((it) => [this.xOf(it), `${secondsBetween(this.answer.begin, it, 6)} s`]);
     const names = this.seen.map(([{ rank }]) =>
       drawn("text", { class: this.answer.ownRoots.has(rank) ? "strong" : "plain", x: 2, y: this.yOf(rank) + 4 }, `rank ${rank}`));
     const about = `The last ${counted(calls.length, "call")} of ${counted(this.seen.length, "rank")} against time`;
-    const attributes = { viewBox: `0 0 ${this.width} ${height}`, width: this.width, height, "aria-label": about };
-    Object.entries(attributes).forEach(([name, value]) => this.element.setAttribute(name, value));
+    having(this.element, { viewBox: `0 0 ${this.width} ${height}`, width: this.width, height, "aria-label": about });
     this.element.replaceChildren(...this.bands(), ...ticks.map(([x]) => drawn("path", { class: "grid", d: `M ${x} 0 V ${bottom + 5}` })),
       ...this.seen.map((it) => this.lane(it)), ...this.messages(), ...this.lost(), drawn("rect", { class: "cover", width: NAMES - 3, height }), ...names,
       ...ticks.map(([x, text]) => drawn("text", { class: "tick", x, y: bottom + 18 }, text)));
-    if (isWithin) {
-      this.bars.get(this.chosen).focus();
-    }
+    if (isWithin) this.bars.get(this.chosen).focus();
   }
 }

@@ -1,20 +1,15 @@
 // Who waits for whom, drawn: on the left ranks that wait and stand alike, on the right what holds them up.
 
-const CHARACTER = 7.25; // the width of a character of the fixed font, the height of a line, and what lies around the lines
-const LINE = 16;
-const AROUND = 9;
+// the width of a character of the fixed font, the height of a line, and what lies around the lines
+const [CHARACTER, LINE, AROUND] = [7.25, 16, 9];
 const LONGEST_LINE = 46;
-const MOST_BOXES = 40;
-const MOST_MEMBERS = 8;
-const COLUMN_GAP = 84;
-const BOX_GAP = 18;
+const PARTS_OF_LINE = new RegExp(`.{1,${LONGEST_LINE}}`, "gsu");
+const [MOST_BOXES, MOST_MEMBERS] = [40, 8];
+const [COLUMN_GAP, BOX_GAP] = [84, 18];
 
 /** An element of SVG with these attributes. */
 function drawn(name, attributes = {}, ...children) {
-  const element = document.createElementNS("http://www.w3.org/2000/svg", name);
-  for (const [key, value] of Object.entries(attributes)) {
-    element.setAttribute(key, String(value));
-  }
+  const element = having(document.createElementNS("http://www.w3.org/2000/svg", name), attributes);
   element.append(...children);
   return element;
 }
@@ -22,20 +17,12 @@ function drawn(name, attributes = {}, ...children) {
 /** Words as lines of a box: broken between words, where they are too long, and within one that is longer than a line. */
 function linesOf(words) {
   const lines = [];
-  let line = "";
   for (const word of words.split(" ")) {
-    let rest = Array.from(word);
-    if (line !== "" && line.length + 1 + rest.length > LONGEST_LINE) {
-      lines.push(line);
-      line = "";
-    }
-    while (rest.length > LONGEST_LINE) {
-      lines.push(rest.slice(0, LONGEST_LINE).join(""));
-      rest = rest.slice(LONGEST_LINE);
-    }
-    line = line === "" ? rest.join("") : `${line} ${rest.join("")}`;
+    const isFit = lines.length > 0 && lines.at(-1).length + 1 + word.length <= LONGEST_LINE;
+    const line = isFit ? `${lines.pop()} ${word}` : word;
+    lines.push(...(line.match(PARTS_OF_LINE) ?? [""]));
   }
-  return [...lines, line];
+  return lines;
 }
 
 /** A box of a picture: its lines, each strong or not, and what it has. */
@@ -45,8 +32,7 @@ function boxOf(parts, about) {
   return { ...about, lines, width: longest * CHARACTER + 2 * AROUND, height: lines.length * LINE + 2 * AROUND - 4 };
 }
 
-/** The boxes of ranks that wait: alike, and for the same roots. They stand by the middle of their roots; the last one is for those that
- * are too many. */
+/** The boxes of ranks that wait: alike, and for the same roots, by the middle of those; the last one has those that are too many. */
 function waitingBoxes(answer) {
   const ranks = [...answer.holders.keys()].sort((a, b) => a - b);
   const middle = ({ ranks: [rank] }) => answer.holders.get(rank).reduce((sum, it) => sum + it, 0) / answer.holders.get(rank).length;
@@ -65,66 +51,49 @@ function waitingBoxes(answer) {
 
 /** The box of a root: what it is, and its ranks with where they stand. */
 function rootBox(answer, root, at) {
-  const members = answer.membersOf(root);
-  const parts = [{ words: `${at + 1} ${root.kind}: ${answer.rootWords(root)}`, strong: true }];
-  for (const { ranks, words } of members.slice(0, MOST_MEMBERS)) {
-    parts.push({ words: `${rankWords(ranks)} ${words}` });
-  }
-  if (members.length > MOST_MEMBERS) {
-    parts.push({ words: `and ${counted(members.length - MOST_MEMBERS, "group")} more` });
-  }
-  return boxOf(parts, { ranks: root.ranks, root: at, kind: root.kind });
+  const members = answer.membersOf(root).map(({ ranks, words }) => ({ words: `${rankWords(ranks)} ${words}` }));
+  const more = members.splice(MOST_MEMBERS).length;
+  if (more > 0) members.push({ words: `and ${counted(more, "group")} more` });
+  const head = { words: `${at + 1} ${root.kind}: ${answer.rootWords(root)}`, strong: true };
+  return boxOf([head, ...members], { ranks: root.ranks, root: at, kind: root.kind });
 }
 
 /** Puts boxes below one another, the column in the middle of this height. */
 function place(boxes, x, height) {
   let y = (height - columnHeight(boxes)) / 2;
   for (const box of boxes) {
-    box.x = x;
-    box.y = y;
+    Object.assign(box, { x, y });
     y += box.height + BOX_GAP;
   }
 }
 
-function columnHeight(boxes) {
-  return boxes.reduce((sum, it) => sum + it.height, BOX_GAP * Math.max(0, boxes.length - 1));
-}
+const columnHeight = (boxes) => boxes.reduce((sum, it) => sum + it.height, BOX_GAP * Math.max(0, boxes.length - 1));
 
 /** A box as it is drawn: a button that tells its ranks. */
 function drawnBox(box, point) {
-  const rows = box.lines.map(({ text, strong }, i) =>
-    drawn("text", { x: box.x + AROUND, y: box.y + AROUND + 10 + i * LINE, class: strong ? "strong" : "plain" }, text));
-  const outline = { x: box.x, y: box.y, width: box.width, height: box.height, rx: 4 };
-  const isBold = box.kind === "ended" || box.kind === "silent";
+  const { x, y, width, height, kind, root, lines } = box;
+  const texts = lines.map(({ text, strong }, i) =>
+    drawn("text", { x: x + AROUND, y: y + AROUND + 10 + i * LINE, class: strong ? "strong" : "plain" }, text));
+  const frame = drawn("rect", { class: "frame", x: x - 4, y: y - 4, width: width + 8, height: height + 8, rx: 6 });
   const group = drawn("g", {
-    class: `${box.root === undefined ? "waits" : "root"}${isBold ? " bold" : ""}`, role: "button", tabindex: 0,
-    "aria-label": box.lines.map((it) => it.text).join(" "), "aria-describedby": "pointed",
-  }, drawn("rect", { class: "box", ...outline }), ...rows);
-  if (box.kind === "mismatch") {
-    group.append(drawn("rect", { class: "frame", x: box.x - 4, y: box.y - 4, width: box.width + 8, height: box.height + 8, rx: 6 }));
-  }
-  const tell = (isChosen) => point(box, isChosen);
-  group.addEventListener("pointerenter", () => tell(false));
-  group.addEventListener("focus", () => tell(false));
-  group.addEventListener("click", () => tell(true));
-  group.addEventListener("keydown", (event) => {
-    if (event.key === "Enter" || event.key === " ") {
-      event.preventDefault();
-      tell(true);
-    }
-  });
-  return group;
+    class: `${root === undefined ? "waits" : "root"}${kind === "ended" || kind === "silent" ? " bold" : ""}`, role: "button", tabindex: 0,
+    "aria-label": lines.map((it) => it.text).join(" "), "aria-describedby": "pointed",
+  }, drawn("rect", { class: "box", x, y, width, height, rx: 4 }), ...texts, ...(kind === "mismatch" ? [frame] : []));
+  const [look, choose] = [() => point(box, false), () => point(box, true)];
+  const press = (event) => {
+    if (event.key !== "Enter" && event.key !== " ") return;
+    event.preventDefault();
+    choose();
+  };
+  return listening(group, { pointerenter: look, focus: look, click: choose, keydown: press });
 }
 
 /** The tip of an arrow that comes from the left, or from the right. */
-function tip(x, y, side) {
-  return drawn("path", { class: "tip", d: `M ${x} ${y} l ${-9 * side} -4.5 v 9 z` });
-}
+const tip = (x, y, side) => drawn("path", { class: "tip", d: `M ${x} ${y} l ${-9 * side} -4.5 v 9 z` });
 
 /** An arrow from a box that waits to a root. */
 function arrow(from, to, enters) {
-  const x = from.x + from.width;
-  const y = from.y + from.height / 2;
+  const [x, y] = [from.x + from.width, from.y + from.height / 2];
   const end = to.x - (to.kind === "mismatch" ? 4 : 0);
   const bend = (x + end) / 2;
   return [drawn("path", { class: "edge", d: `M ${x} ${y} C ${bend} ${y} ${bend} ${enters} ${end - 8} ${enters}` }), tip(end, enters, 1)];
@@ -132,8 +101,7 @@ function arrow(from, to, enters) {
 
 /** The arrow of ranks that wait for one another, back to their own box. */
 function loop(box) {
-  const x = box.x + box.width;
-  const y = box.y + box.height / 2;
+  const [x, y] = [box.x + box.width, box.y + box.height / 2];
   return [drawn("path", { class: "edge", d: `M ${x} ${y - 9} C ${x + 42} ${y - 22} ${x + 42} ${y + 22} ${x + 8} ${y + 9}` }), tip(x, y + 9, -1)];
 }
 
@@ -146,14 +114,11 @@ function pictureOf(answer, point) {
   place(waiting, 0, height);
   place(roots, waiting.length > 0 ? left + COLUMN_GAP : 0, height);
   const right = Math.max(...roots.map((it) => it.x + it.width)) + 46;
-  const edges = [];
-  for (const root of roots) {
+  const edges = roots.flatMap((root) => {
     const from = waiting.filter((it) => it.roots.includes(root.root));
-    from.forEach((it, i) => edges.push(...arrow(it, root, root.y + (root.height * (i + 1)) / (from.length + 1))));
-    if (root.kind === "cycle") {
-      edges.push(...loop(root));
-    }
-  }
+    const arrows = from.flatMap((it, i) => arrow(it, root, root.y + (root.height * (i + 1)) / (from.length + 1)));
+    return root.kind === "cycle" ? [...arrows, ...loop(root)] : arrows;
+  });
   const boxes = [...waiting, ...roots].map((it) => drawnBox(it, point));
   return drawn("svg", {
     viewBox: `-8 -8 ${right + 16} ${height + 16}`, width: right + 16, height: height + 16, role: "group",

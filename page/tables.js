@@ -5,31 +5,34 @@ const FIRST_ROWS = 50;
 /** An element of HTML with this class, and text or elements in it. */
 function made(name, className, ...children) {
   const element = document.createElement(name);
-  if (className !== "") {
-    element.className = className;
-  }
+  if (className !== "") element.className = className;
   element.append(...children);
   return element;
 }
 
-/** A name that comes from a trace: a short one stays on its line. */
-function named(text) {
-  return made("span", text.length <= 36 ? "name short" : "name", text);
+/** An element, with these attributes too. */
+function having(element, attributes) {
+  Object.entries(attributes).forEach(([name, value]) => element.setAttribute(name, `${value}`));
+  return element;
 }
 
-/** A list of names, one below the other; of one the name, of none nothing. */
-function listed(names) {
-  return names.length > 1 ? made("ul", "", ...names.map((it) => made("li", "", named(it)))) : named(names.join(""));
+/** An element that does so where such events come. */
+function listening(element, acts) {
+  Object.entries(acts).forEach(([event, act]) => element.addEventListener(event, act));
+  return element;
 }
+
+const button = (text, act, className = "plain") => listening(having(made("button", className, text), { type: "button" }), { click: act });
+
+/** A name that comes from a trace: a short one stays on its line. */
+const named = (text) => made("span", text.length <= 36 ? "name short" : "name", text);
+
+/** Items one below the other. */
+const list = (items) => made("ul", "", ...items.map((it) => made("li", "", it)));
 
 /** What two cells are sorted by: numbers by their size and before texts, texts by their characters. */
 function compared(a, b) {
-  if (typeof a === "number" && typeof b === "number") {
-    return a - b;
-  }
-  if (typeof a === "number" || typeof b === "number") {
-    return typeof a === "number" ? -1 : 1;
-  }
+  if (typeof a !== typeof b) return typeof a === "number" ? -1 : 1;
   return a < b ? -1 : Number(a > b);
 }
 
@@ -39,10 +42,8 @@ function ranksWanted(words) {
   return stretches.length === 0 ? null : (rank) => stretches.some(([first, last]) => first <= rank && rank <= last);
 }
 
-/**
- * A table. A row has its cells in the order of the columns, its ranks, and perhaps the object that it is about. A cell has what is
- * shown, and a number or a text by which it is sorted. A column in which nothing stands is left out.
- */
+/** A table. A row has its cells in the order of the columns, its ranks, and perhaps the object that it is about. A cell has what is
+ * shown, and a number or a text by which it is sorted. A column in which nothing stands is left out. */
 class Table {
   constructor(name, columns, rows, about = "") {
     const isUsed = (_, at) => at === 0 || rows.some((it) => it.cells[at].by !== "");
@@ -53,87 +54,57 @@ class Table {
     this.most = FIRST_ROWS;
     this.fits = () => true;
     this.count = made("span", "count");
-    this.heads = this.columns.map((head, at) => this.headOf(head, at));
+    this.heads = this.columns.map((head, at) => {
+      const isNumber = this.rows.some((it) => it.cells[at].isNumber);
+      return having(made("th", isNumber ? "number" : "", button(head, () => this.sortBy(at), "")), { scope: "col" });
+    });
     this.body = made("tbody", "");
-    this.more = made("button", "plain");
-    this.more.type = "button";
-    this.more.addEventListener("click", () => this.showAll());
+    this.more = button("", () => {
+      this.most = Infinity;
+      this.show();
+    });
     const caption = made("caption", "", `${name} `, this.count);
     const table = made("table", "", caption, made("thead", "", made("tr", "", ...this.heads)), this.body);
-    this.element = made("div", "rows", table, this.more);
-    this.element.tabIndex = 0;
-    this.element.setAttribute("role", "region");
-    this.element.setAttribute("aria-label", name);
+    this.element = having(made("div", "rows", table, this.more), { tabindex: 0, role: "region", "aria-label": name });
     this.show();
-  }
-
-  headOf(head, at) {
-    const button = made("button", "", head);
-    button.type = "button";
-    button.addEventListener("click", () => this.sortBy(at));
-    const cell = made("th", this.rows.some((it) => it.cells[at].isNumber) ? "number" : "", button);
-    cell.scope = "col";
-    return cell;
   }
 
   sortBy(column) {
     const isRising = this.sorted.column !== column || !this.sorted.isRising;
     this.sorted = { column, isRising };
+    const [order, sign] = isRising ? ["ascending", " \u25b2"] : ["descending", " \u25bc"];
     this.heads.forEach((cell, at) => {
-      cell.removeAttribute("aria-sort");
-      cell.firstChild.textContent = this.columns[at];
+      having(cell, { "aria-sort": at === column ? order : "none" }).firstChild.textContent = `${this.columns[at]}${at === column ? sign : ""}`;
     });
-    this.heads[column].setAttribute("aria-sort", isRising ? "ascending" : "descending");
-    this.heads[column].firstChild.textContent = `${this.columns[column]} ${isRising ? "\u25b2" : "\u25bc"}`;
-    this.show();
-  }
-
-  showAll() {
-    this.most = Infinity;
     this.show();
   }
 
   /** Shows the rows that fit, and answers how many there are. */
-  filter(fits) {
+  show(fits = this.fits) {
     this.fits = fits;
-    return this.show();
-  }
-
-  show() {
-    const rows = this.rows.filter((it) => this.fits(it));
+    const rows = this.rows.filter(fits);
     const { column, isRising } = this.sorted;
-    if (column >= 0) {
-      rows.sort((a, b) => compared(a.cells[column].by, b.cells[column].by) * (isRising ? 1 : -1));
+    if (column >= 0) rows.sort((a, b) => compared(a.cells[column].by, b.cells[column].by) * (isRising ? 1 : -1));
+    this.body.replaceChildren();
+    for (const { cells } of rows.slice(0, this.most)) {
+      const shownCells = cells.map(({ shown: it, isNumber }, at) => made(at === 0 ? "th" : "td", isNumber ? "number" : "", it));
+      having(shownCells[0], { scope: "row" });
+      this.body.append(made("tr", "", ...shownCells));
     }
-    const fragment = document.createDocumentFragment();
-    rows.slice(0, this.most).forEach((it) => fragment.append(this.shownRow(it)));
-    this.body.replaceChildren(fragment);
     this.count.textContent = rows.length < this.rows.length ? `(${rows.length} of ${this.rows.length} rows) ${this.about}` : this.about;
     this.more.textContent = `Show all ${rows.length} rows`;
     this.more.hidden = rows.length <= this.most;
     return rows.length;
   }
-
-  shownRow(row) {
-    return made("tr", "", ...row.cells.map(({ shown: content, isNumber }, at) => {
-      const cell = made(at === 0 ? "th" : "td", isNumber ? "number" : "", content);
-      if (at === 0) {
-        cell.scope = "row";
-      }
-      return cell;
-    }));
-  }
 }
 
 /** A cell of a number, or of none. */
-function number(n, text = `${n}`) {
-  return n === null || n === undefined ? { by: "", shown: "" } : { by: Number(n), shown: text, isNumber: true };
-}
+const number = (n, text = `${n}`) => (n === null || n === undefined ? { by: "", shown: "" } : { by: Number(n), shown: text, isNumber: true });
 
 /** A cell of words, or of several, one below the other. */
 function words(...parts) {
   const all = parts.filter((it) => it !== "");
-  return { by: all.join(" "), shown: listed(all) };
+  return { by: all.join(" "), shown: all.length > 1 ? list(all.map(named)) : named(all.join("")) };
 }
 
 /** A cell of ranks. */
@@ -143,32 +114,20 @@ function ranksCell(ranks) {
 }
 
 /** A row, with the text in which a filter looks. */
-function rowOf(ranks, object, ...cells) {
-  return { ranks, object, cells, text: cells.map((it) => `${it.by}`).join("\n").toLowerCase() };
-}
+const rowOf = (ranks, object, ...cells) => ({ ranks, object, cells, text: cells.map((it) => `${it.by}`).join("\n").toLowerCase() });
 
 /** What ranks are in the diagnosis: proved to be stuck, of a root, behind roots, polling. */
 function partsOf(answer, { first, ranks }) {
-  const parts = [];
   const stuck = ranks.filter((rank) => answer.stuck.has(rank)).length;
-  if (stuck > 0) {
-    parts.push(stuck === ranks.length ? "proved to be stuck" : `${stuck} of ${ranks.length} proved to be stuck`);
-  }
-  const numbers = (roots) => roots.map((at) => at + 1).slice(0, 8).join(", ");
-  const own = [...new Set(ranks.flatMap((rank) => answer.ownRoots.get(rank) ?? []))];
-  const behind = [...new Set(ranks.flatMap((rank) => answer.holders.get(rank) ?? []))];
-  if (own.length > 0) {
-    parts.push(`holds up the run (${numbers(own)})`);
-  }
-  if (behind.length > 0) {
-    parts.push(`held up by ${numbers(behind)}`);
-  }
-  const polls = answer.polls.get(first.rank);
-  if (polls !== undefined) {
-    parts.push(`polls: ${polls.count} tests or probes without success, ${polls.calls.map(callWords).slice(0, 3).join("; ")}`);
-  }
-  const beyond = answer.beyondWords(first).slice(2);
-  return beyond === "" ? parts : [...parts, beyond];
+  const numbers = (roots) => [...new Set(ranks.flatMap((rank) => roots.get(rank) ?? []))].map((at) => at + 1).slice(0, 8).join(", ");
+  const [own, behind, polls] = [numbers(answer.ownRoots), numbers(answer.holders), answer.polls.get(first.rank)];
+  return [
+    stuck === 0 ? "" : `${stuck === ranks.length ? "" : `${stuck} of ${ranks.length} `}proved to be stuck`,
+    own === "" ? "" : `holds up the run (${own})`, behind === "" ? "" : `held up by ${behind}`,
+    polls === undefined ? ""
+      : `polls: ${polls.count} tests or probes without success, ${polls.calls.map(callWords).slice(0, 3).join("; ")}`,
+    answer.beyondWords(first).slice(2),
+  ];
 }
 
 /** How ranks stand that stand alike. */

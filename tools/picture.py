@@ -16,7 +16,7 @@ PICTURE = TOP / "docs" / "crates.svg"
 # what belongs together, by the layers of docs/architecture.md
 GROUPS = {
     "texts": ("dumpi_text", "dumpi_calls", "text_cuts"),
-    "the input of a run": ("command_line", "comm_groups", "comm_calls", "comm_makings", "text_layouts", "run_files", "run_inputs"),
+    "the input of a run": ("command_line", "comm_groups", "comm_calls", "comm_makings", "text_layouts", "run_files", "side_by_side", "run_inputs"),
     "knowledge and its answer": ("trace_know", "trace_ops", "trace_pair", "trace_stuck", "trace_wait", "trace_node", "trace_check"),
     "nodes that exchange what they know": ("trace_wire", "trace_world", "trace_crew", "trace_cluster"),
     "for people": ("call_words", "text_notes", "diagnosis_value", "trace_diagnosis", "trace_report", "diagnosis_words", "page_words", "call_table"),

@@ -1,11 +1,14 @@
 """What the scripts of tests/run share: the built program, runs of it, texts of calls, sizes of frames, and the count of
 checks."""
+import functools
 import importlib.machinery
 import importlib.util
+import itertools
 import json
 import os
 import pathlib
 import pickle
+import signal
 import struct
 import subprocess
 import sys
@@ -19,6 +22,10 @@ SECONDS = 300
 NOBODY = 65534
 # the kind of the part of an ELF file that names its loader
 LOADER = 3
+# the verbs that read texts by several threads
+READING = ["explain", "graph", "page", "report", "calls", "timeline", "replay", "check", "pack", "init"]
+# by how many they are told to, from run to run
+TURNS = itertools.cycle([1, 3])
 # a segment has at most 65,536 events, two for each call
 CALLS_OF_A_SEGMENT = 32_768
 # bytes of a frame that may follow its length field, and those of the count of runs
@@ -157,14 +164,79 @@ def script(name, folder=TESTS / "run"):
     return module
 
 
-def run(program, room, *words, manifest=None, **how):
+def by_threads(words, count):
+    """The words of a run, told to read texts by so many threads; as they are where they ask for no such verb, or for
+    its help."""
+    plain = [os.fsdecode(it) for it in words]
+    if plain[:1] == [] or plain[0] not in READING or {"--threads", "-h", "--help"} & {*plain}:
+        return [*words]
+    more = ["--threads", str(count)]
+    return [words[0], *([os.fsencode(it) for it in more] if isinstance(words[0], bytes) else more), *words[1:]]
+
+
+def in_turn(words):
+    """The words of a run, told to read texts by one thread and by three in turn."""
+    return by_threads(words, next(TURNS))
+
+
+def in_memory(name):
+    """A file that is nowhere but in memory."""
+    return open(os.memfd_create(name), "rb+", buffering=0)
+
+
+@functools.cache
+def streams_of(process):
+    """The files of a process for the two streams of the programs that it runs, one after another."""
+    return in_memory("out"), in_memory("err")
+
+
+def overdue(*_):
+    raise TimeoutError(f"it has run for {SECONDS} s")
+
+
+def finished(program, folder, words):
+    """The status of the program in a folder, and its two streams as bytes. This takes a third of the time of
+    `subprocess.run`, which counts where a program runs for a millisecond."""
+    streams = streams_of(os.getpid())
+    given = [(os.POSIX_SPAWN_OPEN, 0, os.devnull, os.O_RDONLY, 0)]
+    for at, file in enumerate(streams, 1):
+        file.seek(0)
+        file.truncate()
+        given.append((os.POSIX_SPAWN_DUP2, file.fileno(), at))
+    here = os.open(".", os.O_PATH)
+    signal.signal(signal.SIGALRM, overdue)
+    os.chdir(folder)
+    try:
+        process = os.posix_spawn(program, [program, *words], os.environ, file_actions=given, setsigdef=[signal.SIGPIPE, signal.SIGXFSZ])
+    finally:
+        os.fchdir(here)
+        os.close(here)
+    signal.alarm(SECONDS)
+    try:
+        _, status = os.waitpid(process, 0)
+    except TimeoutError:
+        os.kill(process, signal.SIGKILL)
+        os.waitpid(process, 0)
+        raise
+    finally:
+        signal.alarm(0)
+    for file in streams:
+        file.seek(0)
+    return os.waitstatus_to_exitcode(status), *(it.read() for it in streams)
+
+
+def run(program, room, *words, manifest=None, plain=False, **how):
     """The status of the program in a folder, and its two streams; with a manifest, that is written first, and named
-    last."""
+    last. Texts are read by one thread and by three in turn, unless the words are to stay as they are."""
     if manifest is not None:
         (room / "manifest.json").write_text(json.dumps(manifest))
         words = [*words, "layout.json", "manifest.json"]
-    done = subprocess.run([program, *words], cwd=room, stdin=subprocess.DEVNULL, capture_output=True, timeout=SECONDS, **how)
-    return done.returncode, done.stdout.decode(), done.stderr.decode()
+    words = words if plain else in_turn(words)
+    if how:
+        done = subprocess.run([program, *words], cwd=room, stdin=subprocess.DEVNULL, capture_output=True, timeout=SECONDS, **how)
+        return done.returncode, done.stdout.decode(), done.stderr.decode()
+    status, out, err = finished(program, room, words)
+    return status, out.decode(), err.decode()
 
 
 def call(name, at, *parameters, shift=0, returns=True):

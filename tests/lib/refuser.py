@@ -1,5 +1,6 @@
 """Runs of the built program in which the system refuses one request: what tests/run/run_refusals and
 tests/run/run_devices share."""
+import ctypes
 import itertools
 import mmap
 import os
@@ -10,15 +11,24 @@ import struct
 import subprocess
 from collections import Counter, namedtuple
 
-from program import CASES, LIB, TOP, is_alone
+from program import CASES, LIB, TOP, in_memory, is_alone
 
-SECONDS, STACK = 120, 4096
-HEAD = struct.Struct("5Q256sQ")
+SECONDS = 300
+# `struct seen` of tests/lib/refuse.c
+KINDS = ["memory", "system", "thread", "net", "open", "read", "write", "recv", "send", "stranger"]
+HEAD, STACK = struct.Struct(f"=Q {len(KINDS)}Q 8Q 256s Q"), 8 * 4096
+# the descriptors on which its forks look for their files
+LOG, OUTS, ERRS = 200, 201, 202
+# how many forks one run makes at most (their numbers are one word of its environment)
+FORKS = 10_000
 
-# how a run ended: its status, its two streams, what was met of the kind in all and before a file was opened; whether
-# one was refused, its file, what that had moved before, the stack and where the program lies; and the most memory of
-# the run, in KB
+# how a run ended: its status, its two streams, how many requests of each kind were met, and for memory before a file was
+# opened; which one was refused (0: none), its file, what that had moved before, the stack and where the program lies;
+# and the most memory of the run, in KB
 Ran = namedtuple("Ran", "status out err met before refused file moved stack base memory")
+# what the library notes of a run: beside that how its fork ended, what the run had said before, and where the two files
+# of the forks end
+Seen = namedtuple("Seen", "base met before refused moved status said ends file stack")
 # a name, the words of the run, and the folder in which it runs
 Case = namedtuple("Case", "name words room")
 
@@ -54,31 +64,73 @@ def compiled(room):
     return None
 
 
-class Refuser:
-    """Runs the program, with one request refused by a compiled library, in the folder of a case; what it notes lies in
-    a room."""
+def seen_of(noted, at=0):
+    base, *counts = HEAD.unpack_from(noted, at)
+    met, (before, refused, moved, status, *ends, path, words) = counts[:len(KINDS)], counts[len(KINDS):]
+    stack = memoryview(noted)[at + HEAD.size:at + HEAD.size + 8 * words].cast("Q")
+    return Seen(base, dict(zip(KINDS, met)), before, refused, moved, status, ends[:2], ends[2:], os.fsdecode(path.rstrip(b"\0")), stack)
 
-    def __init__(self, program, library, room):
+
+def contents(file):
+    file.seek(0)
+    return file.read()
+
+
+class Refuser:
+    """Runs the program, with one request refused by a compiled library, or each of several in a fork of its own, in the
+    folder of a case; what that notes lies in a room. It runs on one processor, unless it is to run on all: several threads
+    would make their requests in another order each time."""
+
+    def __init__(self, program, library, room, on_all=False):
         self.program, self.library, self.room, self.runs = program, library, room, 0
+        # (the one on which this waits for it is free)
+        self.processor = None if on_all else ctypes.CDLL(None).sched_getcpu
+        self.streams = [in_memory(it) for it in ("out", "err")]
+        self.of_forks = [in_memory(it) for it in ("log", "outs", "errs")]
         with open(room / "seen", "wb+") as file:
-            file.truncate(HEAD.size + 8 * STACK)
+            file.truncate(HEAD.size + STACK)
             self.seen = mmap.mmap(file.fileno(), 0)
 
     def run(self, case, kind="none", at=0, how="fail"):
+        status, memory = self.start(case, f"{kind}:{at}:{how}", zip(self.streams, (1, 2)))
+        return ran_of(seen_of(self.seen[:]), status, *map(contents, self.streams), memory)
+
+    def forks(self, case, kind, numbers, how):
+        """How a run ends that starts no thread, and how its forks end, in each of which one of these requests is refused."""
+        files = zip([*self.streams, *self.of_forks], (1, 2, LOG, OUTS, ERRS))
+        status, memory = self.start(case, f"{kind}:{','.join(map(str, numbers))}:{how}", files, REFUSE_FORKS="yes")
+        said, (log, *written) = [*map(contents, self.streams)], map(contents, self.of_forks)
+        forked, at, begins = [], 0, [0, 0]
+        while at < len(log):
+            seen = seen_of(log, at)
+            both = (first[:end] + more[begin:stop] for first, end, more, begin, stop in zip(said, seen.said, written, begins, seen.ends))
+            forked.append(ran_of(seen, seen.status, *both, memory))
+            at, begins = at + HEAD.size + 8 * len(seen.stack), seen.ends
+        return ran_of(seen_of(self.seen[:]), status, *said, memory), forked
+
+    def start(self, case, refused, files, **more):
+        """Runs the program with these descriptors of its own, and gives its status and its memory."""
         self.runs += 1
         self.seen[:HEAD.size] = bytes(HEAD.size)
+        given = [(os.POSIX_SPAWN_OPEN, 0, os.devnull, os.O_RDONLY, 0)]
+        for file, descriptor in files:
+            file.seek(0)
+            file.truncate()
+            given.append((os.POSIX_SPAWN_DUP2, file.fileno(), descriptor))
+        told = {"LD_PRELOAD": str(self.library), "REFUSE": refused, "REFUSE_SEEN": str(self.room / "seen"), "REFUSE_SECONDS": str(SECONDS), **more}
         os.chdir(case.room)
-        out, err = self.room / "out", self.room / "err"
-        streams = [(os.POSIX_SPAWN_OPEN, 0, os.devnull, os.O_RDONLY, 0)]
-        streams += [(os.POSIX_SPAWN_OPEN, n, it, os.O_WRONLY | os.O_CREAT | os.O_TRUNC, 0o644) for n, it in ((1, out), (2, err))]
-        told = {"LD_PRELOAD": str(self.library), "REFUSE": f"{kind}:{at}:{how}", "REFUSE_SEEN": str(self.room / "seen"),
-                "REFUSE_SECONDS": str(SECONDS)}
-        process = os.posix_spawn(self.program, ["mpimatch", *case.words], told, file_actions=streams)
+        processors = os.sched_getaffinity(0)
+        if self.processor:
+            os.sched_setaffinity(0, [self.processor()])
+        process = os.posix_spawn(self.program, ["mpimatch", *case.words], told, file_actions=given)
+        if self.processor:
+            os.sched_setaffinity(0, processors)
         _, status, used = os.wait4(process, 0)
-        base, met, before, refused, moved, path, count = HEAD.unpack_from(self.seen)
-        stack = struct.unpack_from(f"{count}Q", self.seen, HEAD.size)
-        return Ran(os.waitstatus_to_exitcode(status), out.read_bytes().decode(), err.read_bytes().decode(), met, before,
-                   bool(refused), os.fsdecode(path.rstrip(b"\0")), moved, stack, base, used.ru_maxrss)
+        return status, used.ru_maxrss
+
+
+def ran_of(seen, status, out, err, memory):
+    return Ran(os.waitstatus_to_exitcode(status), out.decode(), err.decode(), seen.met, seen.before, seen.refused, seen.file, seen.moved, seen.stack, seen.base, memory)
 
 
 def ended(ran):
@@ -125,25 +177,48 @@ class Sweep:
     def __init__(self, checks, refuser):
         self.checks, self.refuser, self.refused = checks, refuser, Counter()
 
-    def over(self, case, kind, how, wanted, numbers=None, note=None, share=(0, 1)):
-        """Refuses the requests of these numbers (None: each) until a run meets none, and looks how each run ends.
-        `wanted` tells by the case, the run without a refusal and the one with it, how that may end, with words below a
-        fault's line or without; `note` gets the latter. Of a share (K, N) every Nth of the numbers is refused, from the
-        Kth on."""
-        whole, wrong = self.refuser.run(case, kind), []
-        for at in itertools.islice(numbers(whole) if numbers else itertools.count(1), share[0], None, share[1]):
-            ran = self.refuser.run(case, kind, at, how)
+    def over(self, case, kind, how, wanted, numbers=None, note=None, share=(0, 1), whole=None):
+        """Refuses the requests of these numbers (None: each), and looks how each run ends; then one in which none is
+        refused. `wanted` tells by the case, the run without a refusal and the one with it, how that may end, with words
+        below a fault's line or without; `note` gets the latter. Of a share (K, N) every Nth of the numbers is refused, from
+        the Kth on. A run without a refusal may be given, if there is one."""
+        whole = whole or self.refuser.run(case)
+        numbers = itertools.islice(numbers(whole) if numbers else itertools.count(1), share[0], None, share[1])
+        wrong, is_sound = [], {}
+        for ran in self.each(case, kind, how, whole, numbers):
             if not ran.refused:
-                break
+                if ended(ran) != ended(whole):
+                    wrong.append(f"none of {kind}: came {ended(ran)}, wanted {ended(whole)}")
+                continue
             self.refused[kind, how] += 1
             if note:
                 note(ran)
-            if not {ended(ran), without_words(ended(ran))} & {*wanted(case, whole, ran)}:
-                wrong.append(f"{kind} {at} {ran.file} {ran.moved}: came {ended(ran)}, wanted {wanted(case, whole, ran)}")
-        if not ran.refused and ended(ran) != ended(whole):
-            wrong.append(f"none of {kind}: came {ended(ran)}, wanted {ended(whole)}")
+            # (most of them end in one of a few ways)
+            way = (ended(ran), ran.file, ran.moved)
+            if way not in is_sound:
+                is_sound[way] = not {ended(ran), without_words(ended(ran))}.isdisjoint(wanted(case, whole, ran))
+            if not is_sound[way]:
+                wrong.append(f"{kind} {ran.refused} {ran.file} {ran.moved}: came {ended(ran)}, wanted {wanted(case, whole, ran)}")
         of = f", {share[0] + 1} of {share[1]}" if share[1] > 1 else ""
         self.checks.told(f"{case.name}: {kind} {how}{of}", not wrong, f"{len(wrong)} of them: {wrong[:1]}")
+
+    def each(self, case, kind, how, whole, numbers):
+        """The runs in which these requests are refused, and one that meets none of them. They are forks of one run, unless
+        that starts a thread."""
+        if whole.met["thread"]:
+            for at in numbers:
+                ran = self.refuser.run(case, kind, at, how)
+                yield ran
+                if not ran.refused:
+                    break
+            return
+        numbers = list(itertools.takewhile(lambda at: at <= whole.met[kind], numbers))
+        for some in (numbers[at:at + FORKS] for at in range(0, len(numbers), FORKS)):
+            none, forked = self.refuser.forks(case, kind, some, how)
+            if [it.refused for it in forked] != some:
+                raise AssertionError(f"{case.name}: of {some} {[it.refused for it in forked]} were refused")
+            yield from forked
+            yield none
 
 
 def folders(room):

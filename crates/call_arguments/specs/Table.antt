@@ -1,5 +1,5 @@
 -- Which arguments are compared, by the kind of the collective call (MPI 4.0, 6.4 to 6.12).
-use Rattle.std.specs.Prelude.{ℕ, Bool, true, false, List, [], ◌∷◌, codes, if◌then◌else◌}
+use Rattle.std.specs.Prelude.{ℕ, Bool, true, false, List, [], ◌∷◌, codes, ◌||◌, if◌then◌else◌}
 use Rattle.mpi_model.specs.declared.kind.Kind.{Kind}
 use Rattle.mpi_model.specs.declared.kind.Kind.TheVariants as kinds
 use Rattle.call_arguments.specs.declared.table.Compared.{Compared}
@@ -46,6 +46,15 @@ line_by (Listed members root) = lines.Listed ∷ []
 -- the lines of a kind, in their order
 abbrev pub lines_of : Compared → List Line
 lines_of compared = if compared.operation then lines.Operation ∷ line_by compared.counts else line_by compared.counts
+
+-- counts are compared
+abbrev pub compares_counts : Rule → Bool
+compares_counts Nothing = false
+compares_counts _ = true
+
+-- something is compared of the calls of a round of this kind
+abbrev pub is_compared : Kind → Bool
+is_compared kind = (compared_of kind).operation || compares_counts (compared_of kind).counts
 
 -- the first name of the parameter that has the count or the counts
 abbrev pub count_name : Parameters → List ℕ

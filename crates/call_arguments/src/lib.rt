@@ -23,5 +23,5 @@ mod told;
 
 pub use known::{Known, Told};
 pub use shared::{LastTold, SharedTold};
-pub use table::{Compared, Line, Parameters, Rule, compared_of, lines_of};
+pub use table::{Compared, Line, Parameters, Rule, compared_of, is_compared, lines_of};
 pub use told::told_of;

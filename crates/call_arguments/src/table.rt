@@ -1,7 +1,10 @@
 //! Which arguments are compared, by the kind of the collective call: one table.
 
-ghost use Rattle.std.specs.Prelude.{◌≡◌};
-ghost use Rattle.call_arguments.specs.Table.{compared_of, count_name, counted, is_list, line_by, lines_of, other_count_name, other_type_name, reduced, type_name};
+ghost use Rattle.std.specs.Prelude.{◌≡◌, false, true};
+ghost use Rattle.dumpi_text.specs.Call.{TextCall};
+ghost use Rattle.call_arguments.specs.Known.{is_empty};
+ghost use Rattle.call_arguments.specs.Told.{told_of};
+ghost use Rattle.call_arguments.specs.Table.{compared_of, count_name, counted, compares_counts, is_compared, is_list, line_by, lines_of, other_count_name, other_type_name, reduced, type_name};
 
 use mpi_model::Kind;
 
@@ -130,6 +133,26 @@ pub fn lines_of(compared: Compared) -> &'static [Line]
     } else {
         line_by(compared.counts)
     }
+}
+
+/// Whether counts are compared.
+fn compares_counts(rule: Rule) -> bool
+    ensures { result ≡ compares_counts rule }
+{
+    match rule {
+        Rule::Nothing => false,
+        _ => true,
+    }
+}
+
+/// Whether something is compared of the calls of a kind. Of others a call tells nothing.
+#[tactic(auto, using(crate::proofs::Nothing::nothing_told))]
+pub fn is_compared(kind: Kind) -> bool
+    ensures compared { result ≡ is_compared kind }
+    ensures nothing { result ≡ false → (raw : TextCall) → is_empty (told_of kind raw) ≡ true }
+{
+    let compared = compared_of(kind);
+    compared.operation || compares_counts(compared.counts)
 }
 
 impl Parameters {

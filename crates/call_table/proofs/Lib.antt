@@ -1,4 +1,2 @@
-pub mod BothEnds
 pub mod Ordered
-pub mod Own
 pub mod TwoRows

@@ -1,7 +1,7 @@
 //! The table as text: a line for each row, as CSV or as JSON.
 
 use crate::fields::Fields;
-use crate::put::{put, put_number, put_seconds, put_signed, put_string, shown};
+use crate::put::{is_plain, put, put_number, put_seconds, put_signed, put_string, shown};
 use crate::slot::Side;
 use mpi_model::OpName;
 use std::alloc::AllocError;
@@ -94,6 +94,9 @@ fn needs_quotes(value: &[u8]) -> bool {
 
 /// Adds a text as a field of CSV: what isn't a printed character of ASCII stands as `?`.
 fn put_csv_text(out: &mut Vec<u8>, value: &[u8]) -> Result<(), AllocError> {
+    if is_plain(value) {
+        return put(out, value);
+    }
     let quoted = needs_quotes(value);
     if quoted {
         put(out, b"\"")?;

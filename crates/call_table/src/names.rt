@@ -2,12 +2,30 @@
 
 use std::alloc::{AllocError, Global};
 
+/// How many names are looked for at one place each before all are searched: calls of a text repeat few.
+const RECENT: usize = 64;
+
 /// Names by their numbers, which begin with 1: 0 is none.
 #[derive(Drop)]
 pub(crate) struct Names {
     list: Vec<Vec<u8>>,
     /// The numbers of the names, in order of the names.
     order: Vec<u32>,
+    /// The number that was told last of the names with each place; 0 where none was.
+    recent: [u32; RECENT],
+}
+
+/// The place of a name among the recent ones: by its length and two of its bytes.
+fn recent_place(name: &[u8]) -> usize {
+    match name {
+        [first, .., last] => {
+            let mixed = name.len().wrapping_mul(7)
+                ^ (*first as usize)
+                ^ (*last as usize).wrapping_mul(3);
+            mixed % RECENT
+        }
+        _ => 0,
+    }
 }
 
 /// The name of a number.
@@ -32,6 +50,7 @@ impl Names {
         Names {
             list: Vec::new(alloc),
             order: Vec::new(alloc),
+            recent: [0; RECENT],
         }
     }
 
@@ -45,6 +64,20 @@ impl Names {
 
     /// The number of a name, which is kept if it is new. Fails with `AllocError` when memory is refused.
     pub fn number(&mut self, name: &[u8]) -> Result<u32, AllocError> {
+        let place = recent_place(name);
+        let recent = self.recent.get(place).copied().unwrap_or(0);
+        if recent != 0 && name_in(&self.list, recent) == name {
+            return Ok(recent);
+        }
+        let number = self.searched(name)?;
+        if let Some(recent) = self.recent.get_mut(place) {
+            *recent = number;
+        }
+        Ok(number)
+    }
+
+    /// The same, by a search among all names.
+    fn searched(&mut self, name: &[u8]) -> Result<u32, AllocError> {
         match place_of(&self.list, &self.order, name) {
             Ok(at) => Ok(self.order.get(at).copied().unwrap_or(0)),
             Err(at) => self.keep(at, name),

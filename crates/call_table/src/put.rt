@@ -43,9 +43,20 @@ pub(crate) fn shown(byte: u8) -> u8 {
     if 32 <= byte && byte < 127 { byte } else { b'?' }
 }
 
+/// Whether a text stands as it is, in CSV and in a string of JSON.
+pub(crate) fn is_plain(text: &[u8]) -> bool {
+    text.iter().all(|byte| {
+        shown(*byte) == *byte && *byte != b'"' && *byte != b'\\' && *byte != b','
+    })
+}
+
 /// Adds a text as a string of JSON.
 pub(crate) fn put_string(out: &mut Vec<u8>, text: &[u8]) -> Result<(), AllocError> {
     put(out, b"\"")?;
+    if is_plain(text) {
+        put(out, text)?;
+        return put(out, b"\"");
+    }
     for byte in text {
         if *byte == b'"' || *byte == b'\\' {
             put(out, b"\\")?;

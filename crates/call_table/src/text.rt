@@ -4,7 +4,9 @@
 use crate::names::Names;
 use crate::slot::Side;
 use dumpi_calls::next_call;
-use dumpi_text::{Field, Group, RawCall, TextFault, Texts, Value, ValueFault, parse_value};
+use dumpi_text::{
+    Field, Group, RawCall, TextFault, Texts, Value, ValueFault, parse_value, read_word, strip,
+};
 use mpi_model::Read;
 use std::alloc::{AllocError, Global};
 
@@ -38,9 +40,14 @@ const NO_TEXT: CallText = CallText {
     told: 0,
 };
 
+/// The number that stands for the function of a call where names aren't kept.
+const SOME_FUNCTION: u32 = 1;
+
 /// What the texts of a rank say of its calls. It takes some forty bytes a call.
 #[derive(Drop)]
 pub struct RankTexts {
+    /// Whether more is kept than the bytes that statuses tell.
+    is_whole: bool,
     names: Names,
     calls: Vec<CallText>,
     /// The numbers of datatypes, with the numbers of their names.
@@ -48,11 +55,62 @@ pub struct RankTexts {
     bytes: Vec<u64>,
 }
 
-/// The first of these parameters that a call has.
-fn first_of<'a>(raw: &'a RawCall, one: &[u8], other: &[u8]) -> Option<&'a [u8]> {
-    match raw.param(one) {
-        Some(value) => Some(value),
-        None => raw.param(other),
+/// The parameters of a call that are told, the first of each name.
+#[derive(Clone, Copy)]
+struct ToldParameters<'a> {
+    count: Option<&'a [u8]>,
+    sendcount: Option<&'a [u8]>,
+    datatype: Option<&'a [u8]>,
+    sendtype: Option<&'a [u8]>,
+    recvtype: Option<&'a [u8]>,
+    status: Option<&'a [u8]>,
+    statuses: Option<&'a [u8]>,
+    caller: Option<&'a [u8]>,
+    starred_caller: Option<&'a [u8]>,
+}
+
+impl<'a> ToldParameters<'a> {
+    /// With one parameter more of a call, where it is told and the first of its name. Names are told apart by their
+    /// length first.
+    #[inline(always)]
+    fn with(self, name: &[u8], value: &'a [u8]) -> ToldParameters<'a> {
+        let mut told = self;
+        match name.len() {
+            5 if name == b"count".as_slice() => told.count = told.count.or(Some(value)),
+            6 if name == b"status".as_slice() => told.status = told.status.or(Some(value)),
+            6 if name == b"caller".as_slice() => told.caller = told.caller.or(Some(value)),
+            7 if name == b"*caller".as_slice() => {
+                told.starred_caller = told.starred_caller.or(Some(value));
+            }
+            8 if name == b"datatype".as_slice() => told.datatype = told.datatype.or(Some(value)),
+            8 if name == b"statuses".as_slice() => told.statuses = told.statuses.or(Some(value)),
+            8 if name == b"sendtype".as_slice() => told.sendtype = told.sendtype.or(Some(value)),
+            8 if name == b"recvtype".as_slice() => told.recvtype = told.recvtype.or(Some(value)),
+            9 if name == b"sendcount".as_slice() => told.sendcount = told.sendcount.or(Some(value)),
+            _ => {}
+        }
+        told
+    }
+
+    /// Those of a call.
+    fn of(raw: &'a RawCall) -> ToldParameters<'a> {
+        let mut told = ToldParameters {
+            count: None,
+            sendcount: None,
+            datatype: None,
+            sendtype: None,
+            recvtype: None,
+            status: None,
+            statuses: None,
+            caller: None,
+            starred_caller: None,
+        };
+        for place in 0..raw.params_len() {
+            if let Some((name, value)) = raw.param_at(place) {
+                told = told.with(name, value);
+            }
+        }
+        told
     }
 }
 
@@ -125,11 +183,55 @@ fn bytes_in(group: &Group) -> u64 {
     NOT_TOLD
 }
 
+/// The number of at most 18 digits in front of a text, and what follows them.
+fn digits_front(text: &[u8]) -> Option<(u64, &[u8])> {
+    let mut number: u64 = 0;
+    for (at, byte) in text.iter().enumerate() {
+        if *byte < b'0' || b'9' < *byte {
+            return if at == 0 {
+                None
+            } else {
+                Some((number, &text[at..]))
+            };
+        }
+        if at >= 18 {
+            return None;
+        }
+        number = number.wrapping_mul(10).wrapping_add((*byte - b'0') as u64);
+    }
+    None
+}
+
+/// What follows one more field of a status, as `, source=3`.
+fn behind_field(text: &[u8]) -> Option<&[u8]> {
+    let field = strip(b", ", text)?;
+    let (_, rest) = read_word(field)?;
+    let rest = strip(b"=", rest)?;
+    let rest = strip(b"-", rest).unwrap_or(rest);
+    let (_, rest) = digits_front(rest)?;
+    Some(rest)
+}
+
+/// The most fields of a status that is read in one pass.
+const MOST_FIELDS: u32 = 8;
+
+/// The bytes that the only status of a call tells, where it stands as tracers write it: `[1] {{bytes=8, source=0,
+/// tag=1}}`. A status in another form is left to the functions that read any value.
+fn usual_bytes(text: &[u8]) -> Option<u64> {
+    let rest = strip(b"[1] {{bytes=", text)?;
+    let (bytes, rest) = digits_front(rest)?;
+    let mut rest = rest;
+    for _ in 0..MOST_FIELDS {
+        if rest == b"}}".as_slice() {
+            return Some(bytes);
+        }
+        rest = behind_field(rest)?;
+    }
+    None
+}
+
 /// The statuses of a call, where it has some.
-fn statuses_of(alloc: Global, raw: &RawCall) -> Result<Option<Value>, AllocError> {
-    let Some(text) = first_of(raw, b"status", b"statuses") else {
-        return Ok(None);
-    };
+fn statuses_in(alloc: Global, text: &[u8]) -> Result<Option<Value>, AllocError> {
     match parse_value(alloc, text) {
         Ok(value) => Ok(Some(value)),
         Err(ValueFault::BadValue) => Ok(None),
@@ -141,11 +243,19 @@ impl RankTexts {
     /// What is said of so many calls before a text is read: nothing. Fails with `AllocError` when memory is refused.
     pub fn new(alloc: Global, calls: u64) -> Result<RankTexts, AllocError> {
         Ok(RankTexts {
+            is_whole: true,
             names: Names::new(alloc),
             calls: Vec::from_elem(alloc, NO_TEXT, calls as usize)?,
             types: Vec::new(alloc),
             bytes: Vec::new(alloc),
         })
+    }
+
+    /// The same, where of the texts nothing is kept but the bytes that statuses tell.
+    pub fn of_statuses(alloc: Global, calls: u64) -> Result<RankTexts, AllocError> {
+        let mut texts = RankTexts::new(alloc, calls)?;
+        texts.is_whole = false;
+        Ok(texts)
     }
 
     /// Adds what one more text of the rank says, whose first call has this number. A call of which an earlier text has
@@ -242,21 +352,48 @@ impl RankTexts {
 
     /// What a text says of a call that stands there so.
     fn text_of(&mut self, alloc: Global, raw: &RawCall) -> Result<CallText, AllocError> {
+        let told = ToldParameters::of(raw);
         let statuses = self.bytes.len();
-        self.push_statuses(alloc, raw)?;
-        let told = self.bytes.len().saturating_sub(statuses);
-        let function = self.names.number(raw.name())?;
-        let caller = self.names.number_of(first_of(raw, b"caller", b"*caller"))?;
-        let datatype = self.type_of(first_of(raw, b"datatype", b"sendtype"))?;
-        let received = self.type_of(first_of(raw, b"recvtype", b"datatype"))?;
+        self.push_statuses(alloc, told.status.or(told.statuses))?;
+        let count = self.bytes.len().saturating_sub(statuses);
+        let text = CallText {
+            function: SOME_FUNCTION,
+            caller: 0,
+            datatype: 0,
+            received: 0,
+            count: 0,
+            statuses,
+            told: u32::try_from(count).unwrap_or(0),
+        };
+        if self.is_whole {
+            self.with_names(raw.name(), &told, text)
+        } else {
+            Ok(text)
+        }
+    }
+
+    /// With the names and the count that a call has.
+    fn with_names(
+        &mut self,
+        function: &[u8],
+        told: &ToldParameters<'_>,
+        text: CallText,
+    ) -> Result<CallText, AllocError> {
+        let function = self.names.number(function)?;
+        let caller = self.names.number_of(told.caller.or(told.starred_caller))?;
+        let datatype = self.type_of(told.datatype.or(told.sendtype))?;
+        let received = match (told.recvtype, told.datatype) {
+            (None, Some(_)) => datatype,
+            (recvtype, _) => self.type_of(recvtype)?,
+        };
         Ok(CallText {
             function,
             caller,
             datatype,
             received,
-            count: number_in(first_of(raw, b"count", b"sendcount")),
-            statuses,
-            told: u32::try_from(told).unwrap_or(0),
+            count: number_in(told.count.or(told.sendcount)),
+            statuses: text.statuses,
+            told: text.told,
         })
     }
 
@@ -274,8 +411,15 @@ impl RankTexts {
     }
 
     /// Keeps the bytes that the statuses of a call tell.
-    fn push_statuses(&mut self, alloc: Global, raw: &RawCall) -> Result<(), AllocError> {
-        let Some(Value::Groups(groups)) = statuses_of(alloc, raw)? else {
+    fn push_statuses(&mut self, alloc: Global, text: Option<&[u8]>) -> Result<(), AllocError> {
+        let Some(text) = text else {
+            return Ok(());
+        };
+        if let Some(bytes) = usual_bytes(text) {
+            self.bytes.push(bytes)?;
+            return Ok(());
+        }
+        let Some(Value::Groups(groups)) = statuses_in(alloc, text)? else {
             return Ok(());
         };
         for group in groups.as_slice() {

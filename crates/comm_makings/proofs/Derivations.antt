@@ -1,10 +1,11 @@
 -- What derives from what: a lemma for each step of the derivation.
-use Rattle.std.proofs.Common.{◌≡◌, ◌+◌, ℕ, ℤ, ◌++◌, false, true, is_some, List, [], ◌∷◌, Option, Some, None, All, Vec, length, ap, ◌∙◌, sym, inl, inr, refl, subst}
+use Rattle.std.proofs.Common.{◌≡◌, ◌+◌, ℕ, ◌++◌, false, true, is_some, List, [], ◌∷◌, Option, Some, None, All, Vec, length, ap, ◌∙◌, sym, inl, inr, refl, subst}
 use Rattle.std.specs.List.{list_any, slice_get}
 use Rattle.std.specs.declared.alloc.Global.{Global}
 use Rattle.comm_groups.specs.Groups.{has}
 use Rattle.comm_makings.specs.ByGroups.{AreFound, AreRightOffers, IsAmong, IsFound, IsRightOffer}
-use Rattle.comm_makings.specs.Derives.{ArePlaces, Derives, IsCreation, IsGroupCall, IsGroupMaking, IsMaking, IsOfOffered, by_group, communicator, created, kth_calls, made, member_with, members_at, own, ranks_in, ranks_of, read_creation, read_left, read_making, read_to, world, world_members}
+use Rattle.comm_makings.specs.Derives.{ArePlaces, Derives, IsCaller, IsCreation, IsGroupMaking, IsMaking, IsOfOffered, by_group, communicator, created, kth_calls, kth_with, made, member_with, members_at, own, ranks_in, ranks_of, read_creation, read_left, read_making, read_to, world, world_members}
+use Rattle.comm_makings.specs.GroupKeys.{key_with}
 use Rattle.comm_makings.specs.Here.{HasFunction, first_of, gives_later, gives_unknown}
 use Rattle.comm_makings.specs.Made.{IsMakingOrder, own_order, world_order}
 use Rattle.comm_makings.specs.Makes.{AreGiven, IsMadeBy, IsOneMaking}
@@ -26,6 +27,7 @@ use Rattle.comm_makings.specs.declared.state.Member.{Member}
 use Rattle.comm_makings.specs.declared.state.Order.{Order}
 use Rattle.comm_makings.specs.declared.view.RankView.{RankView}
 use Rattle.comm_makings.proofs.Lists.{each_more, get_join}
+use Rattle.comm_makings.proofs.KthCalls.{caller_is, kth_of_turn}
 use Rattle.comm_makings.proofs.Values.{group_derives}
 
 offered_of : Option (List ℕ) → List ℕ
@@ -240,24 +242,26 @@ module _ (ranks : List RankCalls) (views : List RankView) where
       → (comm : Made) → IsFound offers parent.members.items parent.ranks.items comm → IsDerivedComm ranks views comm
   found_derives comms rows parent offers derived groups right comm found =
       let members : List Member = parent.members.items in
-      let calls : (place : ℕ) (here : Here) → slice_get found.all place ≡ Some (Some here) → IsGroupCall ranks views members found.tag place here =
-      λ place here e. let among : IsAmong offers found.group found.tag place here = found.of_calls place here e in
-      let is : IsRightOffer ranks views rows comms members among.one.offer = right.each among.one.k among.one.offer among.one.noted in
-      subst (λ (h : Here). IsGroupCall ranks views members found.tag place h) among.one.same
-      (subst (λ (p : ℕ). IsGroupCall ranks views members found.tag p among.one.offer.here) among.one.same_place
-      (subst (λ (t : ℤ). IsGroupCall ranks views members t among.one.offer.place among.one.offer.here) among.same_tag is.call)) in
-      let each : (place : ℕ) (here : Here) → slice_get found.all place ≡ Some (Some here) → Derives ranks views (ranks_of here.rank here.group found.group) =
-      λ place here e. let among : IsAmong offers found.group found.tag place here = found.of_calls place here e in
-      let is : IsRightOffer ranks views rows comms members among.one.offer = right.each among.one.k among.one.offer among.one.noted in
-      group_derives ranks views comms rows groups here found.group
-      (subst (λ (h : Here). group_of rows comms h ≡ Some found.group) among.one.same (is.group ∙ ap Some among.same_group)) in
-      let making : IsGroupMaking ranks views members found.group found.tag found.places found.all = record {
+      let is_right : (place : ℕ) (here : Here) (among : IsAmong offers found.group found.tag found.turn place here) → IsRightOffer ranks views rows comms members among.one.offer =
+      λ place here among. right.each among.one.k among.one.offer among.one.noted in
+      let each : (place : ℕ) (here : Here) (member : Member) (handle : ℕ) → slice_get found.all place ≡ Some (Some here) → slice_get members place ≡ Some member
+      → member.handle ≡ Some handle → Derives ranks views (kth_with member.rank handle (key_with found.group found.tag) found.turn here) =
+      λ place here member handle e m h.
+      let among : IsAmong offers found.group found.tag found.turn place here = found.of_calls place here e in
+      kth_of_turn ranks views comms rows groups members found.group found.tag found.turn place among.one.offer here member handle (is_right place here among)
+      among.of_turn among.one.same_place among.one.same m h in
+      let callers : (place : ℕ) (here : Here) → slice_get found.all place ≡ Some (Some here) → IsCaller members place =
+      λ place here e.
+      let among : IsAmong offers found.group found.tag found.turn place here = found.of_calls place here e in
+      caller_is ranks views comms rows members place among.one.offer (is_right place here among) among.one.same_place in
+      let making : IsGroupMaking members found.group found.places found.all = record {
         within = subst (λ (l : List ℕ). ArePlaces l found.places found.group) derived.same_ranks found.within;
-        calls = calls;
+        callers = callers;
         readable = found.sound.readable;
         given = found.sound.given;
       } in
-      comm_is (members_at members found.all found.places) None comm.order comm (by_group members (dims_of parent) parent.order comm.order found.group found.tag found.places found.all derived.derives each making found.made.order)
+      comm_is (members_at members found.all found.places) None comm.order comm
+      (by_group members (dims_of parent) parent.order comm.order (key_with found.group found.tag) found.turn found.places found.all derived.derives each making found.made.order)
       found.made.chosen found.made.dims refl found.made.same_ranks found.made.one_group
 
   pub all_found : (comms : List Made) (rows : List (Vec GroupValue Global)) (parent : Made) (offers : List Offer) (found : List Made) → IsDerivedComm ranks views parent

@@ -52,7 +52,7 @@ pub record AreAccounted (ranks : List RankCalls) (views : List RankView) (uses :
 -- * A making of which nothing is made counts as read where its calls have one function and what they give can be read,
 --   whether or not their parameters agree.
 -- * The groups that the calls of one MPI_Comm_create name need not be equal or disjoint.
--- * One MPI_Comm_create_group may be made of any calls of the members with its group and tag, not of the k-th of each.
+-- * A communicator of MPI_Comm_create_group can come without the call of a member that has a k-th one too.
 -- * A communicator that may be ordered anew can come without dimensions or nodes though all calls, or some, tell them.
 -- * Two groups may be joined, and those of an intercommunicator merged, by any calls of the members that agree, not by
 --   the k-th of each; and an intercommunicator is duplicated whatever was made of it before.

@@ -3,6 +3,7 @@ use Rattle.std.specs.Prelude.{◌≡◌, ◌+◌, ◌++◌, ℕ, ℤ, List, [], 
 use Rattle.std.specs.List.{filter_map, list_any, range_with_len, slice_get}
 use Rattle.std.specs.Option.{option_and_then, option_map}
 use Rattle.comm_groups.specs.Groups.{has}
+use Rattle.comm_makings.specs.GroupKeys.{GroupKey, Times}
 use Rattle.comm_makings.specs.Groups.{made_of_one, made_of_two}
 use Rattle.comm_makings.specs.Here.{call_at, gives_later, gives_unknown, here_at, kth_at, making_at, meant_at}
 use Rattle.comm_makings.specs.Intercomms.{IsJoining, IsMerge, first_size, is_copy, side, whole}
@@ -28,13 +29,16 @@ use Rattle.comm_makings.specs.declared.view.RankView.{RankView}
 
 -- What may derive: a communicator, by its members in order, its dimensions and its order in a layout; that so many
 -- makings of a parent are read, each of which agrees or is merely left out; a group that a call of a rank names, by its
--- ranks; and an intercommunicator, by the members of its two groups, one behind the other, the size of the second, and
--- its order.
+-- ranks; an intercommunicator, by the members of its two groups, one behind the other, the size of the second, and its
+-- order; what the first calls of MPI_Comm_create_group of a rank on a handle name; and that one of these is the k-th,
+-- counted from 0, which names this group with this tag.
 pub data Thing : Type 0 where
   communicator : List Member → Option (List ℕ) → Order → Thing
   read_to : List Member → Option (List ℕ) → ℕ → Thing
   ranks_of : ℕ → GroupAt → List ℕ → Thing
   intercomm : List Member → ℕ → Order → Thing
+  keys_of : ℕ → ℕ → List GroupKey → Thing
+  kth_with : ℕ → ℕ → GroupKey → ℕ → Here → Thing
 
 -- a member of this rank, which names the communicator by this handle
 abbrev pub member_with : ℕ → ℕ → Member
@@ -123,22 +127,24 @@ pub record IsCreation (members : List Member) (all : List (Option Here)) (offere
   pub made : (at : ℕ) (part : Selection) → slice_get parts at ≡ Some part → IsOfOffered members all offered part
   pub given : AreGiven false all parts
 
--- a call of MPI_Comm_create_group of the member at this place of the parent, on the parent and with this tag
-pub record IsGroupCall (ranks : List RankCalls) (views : List RankView) (members : List Member) (tag : ℤ) (place : ℕ) (here : Here) : Type 0 where
+-- the call of MPI_Comm_create_group of a rank on a handle that has so many before it, with this tag
+pub record IsGroupCall (ranks : List RankCalls) (views : List RankView) (rank handle before : ℕ) (tag : ℤ) (here : Here) : Type 0 where
+  pub at : ℕ
+  pub among : by_group_at views rank handle before ≡ Some at
+  pub called : here_at ranks views rank at ≡ Some here
+  pub tagged : said_by tag_in (making_at ranks rank at) ≡ Some tag
+
+-- the member at this place of the parent, by its handle
+pub record IsCaller (members : List Member) (place : ℕ) : Type 0 where
   pub member : Member
   pub is_member : slice_get members place ≡ Some member
   pub handle : ℕ
   pub named : member.handle ≡ Some handle
-  pub k : ℕ
-  pub at : ℕ
-  pub among : by_group_at views member.rank handle k ≡ Some at
-  pub called : here_at ranks views member.rank at ≡ Some here
-  pub tagged : said_by tag_in (making_at ranks member.rank at) ≡ Some tag
 
--- One MPI_Comm_create_group: calls of members of one group, which lies in the parent, with one tag.
-pub record IsGroupMaking (ranks : List RankCalls) (views : List RankView) (members : List Member) (group : List ℕ) (tag : ℤ) (places : List ℕ) (all : List (Option Here)) : Type 0 where
+-- One MPI_Comm_create_group: calls of members of one group, which lies in the parent.
+pub record IsGroupMaking (members : List Member) (group places : List ℕ) (all : List (Option Here)) : Type 0 where
   pub within : ArePlaces (ranks_in members) places group
-  pub calls : (place : ℕ) (here : Here) → slice_get all place ≡ Some (Some here) → IsGroupCall ranks views members tag place here
+  pub callers : (place : ℕ) (here : Here) → slice_get all place ≡ Some (Some here) → IsCaller members place
   pub readable : list_any gives_unknown all ≡ false
   pub given : AreGiven false all (record { places = places; dims = None } ∷ [])
 
@@ -173,11 +179,21 @@ pub data Derives (ranks : List RankCalls) (views : List RankView) : Thing → Ty
   read_creation : (members : List Member) (dims : Option (List ℕ)) (k : ℕ) (offered : ℕ → List ℕ) (parts : List Selection) → Derives ranks views (read_to members dims k)
       → ((place : ℕ) (here : Here) → slice_get (kth_calls ranks views k members) place ≡ Some (Some here) → Derives ranks views (ranks_of here.rank here.group (offered place)))
       → IsCreation members (kth_calls ranks views k members) offered parts → Derives ranks views (read_to members dims (k + 1))
-  -- the calls of MPI_Comm_create_group that name one group
-  by_group : (members : List Member) (dims : Option (List ℕ)) (was order : Order) (group : List ℕ) (tag : ℤ) (places : List ℕ) (all : List (Option Here))
+  -- what the first calls of MPI_Comm_create_group of a rank on a handle name
+  keys_none : (rank handle : ℕ) → Derives ranks views (keys_of rank handle [])
+  keys_more : (rank handle : ℕ) (keys : List GroupKey) (key : GroupKey) (here : Here) → Derives ranks views (keys_of rank handle keys)
+      → IsGroupCall ranks views rank handle (length keys) key.tag here → Derives ranks views (ranks_of here.rank here.group key.group)
+      → Derives ranks views (keys_of rank handle (keys ++ key ∷ []))
+  -- the k-th of them with one group and tag: so many before it have these
+  kth : (rank handle : ℕ) (before : List GroupKey) (key : GroupKey) (k : ℕ) (here : Here) → Derives ranks views (keys_of rank handle before)
+      → IsGroupCall ranks views rank handle (length before) key.tag here → Derives ranks views (ranks_of here.rank here.group key.group) → Times key before k
+      → Derives ranks views (kth_with rank handle key k here)
+  -- the calls of MPI_Comm_create_group on the parent that are, each of its member, the k-th with one group and tag
+  by_group : (members : List Member) (dims : Option (List ℕ)) (was order : Order) (key : GroupKey) (k : ℕ) (places : List ℕ) (all : List (Option Here))
       → Derives ranks views (communicator members dims was)
-      → ((place : ℕ) (here : Here) → slice_get all place ≡ Some (Some here) → Derives ranks views (ranks_of here.rank here.group group))
-      → IsGroupMaking ranks views members group tag places all → IsMakingOrder places all order
+      → ((place : ℕ) (here : Here) (member : Member) (handle : ℕ) → slice_get all place ≡ Some (Some here) → slice_get members place ≡ Some member → member.handle ≡ Some handle
+      → Derives ranks views (kth_with member.rank handle key k here))
+      → IsGroupMaking members key.group places all → IsMakingOrder places all order
       → Derives ranks views (communicator (members_at members all places) None order)
   -- the group of a communicator
   of_comm : (members : List Member) (dims : Option (List ℕ)) (order : Order) (rank at handle : ℕ) (call : GroupCall)

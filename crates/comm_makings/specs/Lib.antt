@@ -17,6 +17,7 @@ pub mod Views
 pub mod Makes
 pub mod Untold
 pub mod Intercomms
+pub mod GroupKeys
 pub mod Derives
 pub mod Offers
 pub mod State

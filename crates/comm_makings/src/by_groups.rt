@@ -1,10 +1,12 @@
-//! MPI_Comm_create_group: collective over a group, not over its parent (MPI 4.0, 7.4.2).
+//! MPI_Comm_create_group: collective over a group, not over its parent (MPI 4.0, 7.4.2). The calls on one parent that
+//! name one group with one tag match in their order: the k-th of each member is one making with the k-th of the others.
 
-ghost use Rattle.std.specs.Prelude.{◌≡◌, ◌≤◌, ◌↔◌, [], IfOk, IsTrue, OnOk, Some, length, nat_eq, slice_set};
+ghost use Rattle.std.specs.Prelude.{◌≡◌, ◌≤◌, ◌↔◌, [], IfOk, IfSome, IsTrue, OnOk, Some, length, map, nat_eq, slice_set};
 ghost use Rattle.std.specs.List.{slice_get};
 ghost use Rattle.std.specs.Option.{option_copied};
 ghost use Rattle.indexmap.specs.IndexMap.{get};
-ghost use Rattle.comm_makings.specs.ByGroups.{AreFound, AreFoundSame, AreOfCalls, AreOffersIn, AreSame, AreSameTo, AreSomeOf, IsKnownOffer, IsListOn, IsSoundAt, part_at};
+ghost use Rattle.comm_makings.specs.ByGroups.{AddsCall, AreCounted, AreFound, AreOfCalls, AreOffersIn, AreOwnIn, AreSame, AreSameTo, AreSomeOf, IsFound, IsKnownOffer, IsListOn, IsSoundAt, IsTurnOf, key_of, part_at};
+ghost use Rattle.comm_makings.specs.GroupKeys.{Times, key_with};
 ghost use Rattle.comm_makings.specs.Derives.{tag_in};
 ghost use Rattle.comm_makings.specs.Makes.{said_by};
 ghost use Rattle.comm_makings.specs.Offers.{AreRanked};
@@ -30,19 +32,21 @@ pub(crate) struct Over {
     tag: i32,
 }
 
-/// A call that is not read yet.
+/// A call, with the members and the tag that it names.
 #[derive(Clone, Copy)]
 struct Offer<'a> {
     ranks: &'a [u32],
     tag: i32,
+    /// How many calls of its rank on the parent name the same before it.
+    turn: usize,
     /// The place of its rank in the parent.
     place: u32,
-    /// Its place in the rank's list.
-    at: usize,
     here: Here,
+    /// Whether it is read already.
+    read: bool,
 }
 
-/// The calls on one parent that are not read yet.
+/// The calls on one parent.
 #[derive(Drop)]
 struct Offers<'a> {
     calls: Vec<Offer<'a>>,
@@ -81,9 +85,17 @@ fn is_read(read: &[Vec<bool>], rank: u32, at: usize) -> bool {
     }
 }
 
+/// A call of MPI_Comm_create_group whose group and tag are known.
+#[derive(Clone, Copy)]
+struct Named<'a> {
+    ranks: &'a [u32],
+    tag: i32,
+    here: Here,
+}
+
 /// A call of MPI_Comm_create_group, as far as it is known.
 enum Offered<'a> {
-    Known(Offer<'a>),
+    Known(Named<'a>),
     /// Its group is not known yet.
     Waits,
     Unknown,
@@ -97,17 +109,16 @@ fn group_waits(values: &[Vec<GroupValue>], here: Here) -> bool {
     }
 }
 
-/// A call of the member at this place of the parent, where its group and tag are known.
+/// A call of a rank, where its group and tag are known.
 fn offer_at<'a>(
     ranks: &[RankCalls],
     views: &[RankView],
     values: &'a [Vec<GroupValue>],
     comms: &'a [Made],
     rank: u32,
-    place: u32,
     at: usize,
 ) -> Offered<'a>
-    ensures { IsKnownOffer ranks.now views.now values.now comms.now rank place at result }
+    ensures { IsKnownOffer ranks.now views.now values.now comms.now rank at result }
 {
     let Some(here) = here_at(ranks, views, rank, at) else {
         return Offered::Unknown;
@@ -116,13 +127,7 @@ fn offer_at<'a>(
         return Offered::Unknown;
     };
     match group_of(values, comms, here) {
-        Some(ranks) => Offered::Known(Offer {
-            ranks,
-            tag,
-            place,
-            at,
-            here,
-        }),
+        Some(ranks) => Offered::Known(Named { ranks, tag, here }),
         None => {
             if group_waits(values, here) {
                 Offered::Waits
@@ -133,37 +138,72 @@ fn offer_at<'a>(
     }
 }
 
-/// Adds the calls of a member, as far as their groups, tags and communicators are known. Says whether a group is not
-/// known yet.
-#[tactic(auto, using(crate::proofs::GroupCalls::offer_more))]
+/// Whether a call names the members and the tag of another.
+fn is_with(offer: Offer<'_>, named: Named<'_>) -> bool
+    ensures { IsTrue result ↔ ((offer.entry.ranks.now ≡ named.entry.ranks.now) × (offer.entry.tag ≡ named.entry.tag)) }
+{
+    offer.tag == named.tag && offer.ranks == named.ranks
+}
+
+/// How many of a member's calls name the members and the tag of this one: the last that does says how many do before
+/// it.
+#[tactic(auto, using(crate::proofs::Turns::times_no, crate::proofs::Turns::times_last))]
+fn turn_of(own: &[Offer<'_>], named: Named<'_>) -> usize
+    requires { AreCounted own.now }
+    ensures { Times (key_with named.entry.ranks.now named.entry.tag) (map key_of own.now) result }
+{
+    let mut behind = own.len();
+    while behind > 0 {
+        let at = behind - 1;
+        if is_with(own[at], named) {
+            return own[at].turn + 1;
+        }
+        behind = at;
+    }
+    0
+}
+
+/// Adds a call of the member at this place of the parent to those before it.
+fn add_call<'a>(
+    own: &mut Vec<Offer<'a>>,
+    named: Named<'a>,
+    place: u32,
+    read: bool,
+) -> Result<(), AllocError>
+    requires { AreCounted own.old.items }
+    ensures { OnOk result (AddsCall own.old.items own.new.items named.entry place) }
+{
+    let turn = turn_of(own, named);
+    own.push(Offer {
+        ranks: named.ranks,
+        tag: named.tag,
+        turn,
+        place,
+        here: named.here,
+        read,
+    })?;
+    Ok(())
+}
+
+/// The calls of a member, as far as their groups and tags are known, up to the first of which it isn't known what it
+/// gives. Says whether a group is not known yet.
 fn offer_all<'a>(
     ranks: &[RankCalls],
     views: &[RankView],
     run: &'a Run,
-    members: &[Member],
     member: Member,
     place: u32,
-    offers: &mut Vec<Offer<'a>>,
+    own: &mut Vec<Offer<'a>>,
 ) -> Result<bool, AllocError>
-    requires member { slice_get members.now place ≡ Some member }
-    requires offers { AreOffersIn ranks.now views.now run.now members.now offers.old.items }
-    ensures { OnOk result (AreOffersIn ranks.now views.now run.now members.now offers.new.items) }
+    requires { own.old.items ≡ [] }
+    ensures { OnOk result (AreOwnIn ranks.now views.now run.now member place own.new.items) }
 {
     for at in calls_of(views, member) {
-        match offer_at(
-            ranks,
-            views,
-            &run.values,
-            &run.comms,
-            member.rank,
-            place,
-            *at,
-        ) {
-            Offered::Known(offer) => {
-                if !is_read(&run.taken, member.rank, *at) {
-                    offers.push(offer)?;
-                }
-                if is_unreadable(offer.here.gives) {
+        match offer_at(ranks, views, &run.values, &run.comms, member.rank, *at) {
+            Offered::Known(named) => {
+                let read = is_read(&run.taken, member.rank, *at);
+                add_call(own, named, place, read)?;
+                if is_unreadable(named.here.gives) {
                     return Ok(false);
                 }
             },
@@ -190,6 +230,7 @@ fn calls_of(views: &[RankView], member: Member) -> &[usize]
 /// Adds the calls of the members, as far as they are known, and of each member whether a group is not known yet. At
 /// last no group is waited for.
 fn offer_members<'a>(
+    alloc: Global,
     ranks: &[RankCalls],
     views: &[RankView],
     run: &'a Run,
@@ -203,14 +244,16 @@ fn offer_members<'a>(
 {
     for (at, member) in members.iter().enumerate() {
         if let Ok(place) = u32::try_from(at) {
-            let waited = offer_all(ranks, views, run, members, *member, place, calls)?;
+            let mut own = Vec::new(alloc);
+            let waited = offer_all(ranks, views, run, *member, place, &mut own)?;
+            calls.append(&mut own)?;
             waits.push(waited && !last)?;
         }
     }
     Ok(())
 }
 
-/// The calls on a parent that are not read yet, by their members, tag and place. At last no group is waited for.
+/// The calls on a parent by their members, tag, turn and place. At last no group is waited for.
 fn offers_of<'a>(
     alloc: Global,
     ranks: &[RankCalls],
@@ -223,23 +266,25 @@ fn offers_of<'a>(
 {
     let mut calls = Vec::new(alloc);
     let mut waits = Vec::new(alloc);
-    offer_members(ranks, views, run, members, last, &mut calls, &mut waits)?;
-    calls.sort_by_key(|offer| (offer.ranks, offer.tag, offer.place))?;
+    offer_members(
+        alloc, ranks, views, run, members, last, &mut calls, &mut waits,
+    )?;
+    calls.sort_by_key(|offer| (offer.ranks, offer.tag, offer.turn, offer.place))?;
     Ok(Offers { calls, waits })
 }
 
-/// Whether a call has the members and the tag of another.
+/// Whether a call has the members, the tag and the turn of another.
 fn is_same(offer: Offer<'_>, first: Offer<'_>) -> bool
-    ensures { IsTrue result ↔ ((offer.entry.ranks.now ≡ first.entry.ranks.now) × (offer.entry.tag ≡ first.entry.tag)) }
+    ensures { IsTrue result ↔ ((offer.entry.ranks.now ≡ first.entry.ranks.now) × (offer.entry.tag ≡ first.entry.tag) × (offer.entry.turn ≡ first.entry.turn)) }
 {
-    offer.ranks == first.ranks && offer.tag == first.tag
+    offer.ranks == first.ranks && offer.tag == first.tag && offer.turn == first.turn
 }
 
-/// How many calls at the front have the members and the tag of this one.
+/// How many calls at the front have the members, the tag and the turn of this one.
 #[tactic(auto, using(crate::proofs::GroupCalls::same_more))]
 fn same_length(calls: &[Offer<'_>], first: Offer<'_>) -> usize
     ensures within { result ≤ length calls.now }
-    ensures same { AreSameTo calls.now first.entry.ranks.now first.entry.tag result }
+    ensures same { AreSameTo calls.now first.entry.ranks.now first.entry.tag first.entry.turn result }
 {
     for (at, offer) in calls.iter().enumerate() {
         if !is_same(*offer, first) {
@@ -249,48 +294,33 @@ fn same_length(calls: &[Offer<'_>], first: Offer<'_>) -> usize
     calls.len()
 }
 
-/// How often the place came before.
-fn count_at(seen: &mut Vec<usize>, place: usize) -> Option<usize> {
-    let count = *seen.get(place)?;
-    if let Some(before) = seen.get_mut(place) {
-        *before = count.saturating_add(1);
-    }
-    Some(count)
-}
-
-/// The k-th call of each place.
+/// The call of each place.
 #[tactic(auto, using(crate::proofs::GroupCalls::of_calls_more))]
-fn kth_calls(
+fn calls_by_place(
     alloc: Global,
     calls: &[Offer<'_>],
     members: usize,
-    k: usize,
 ) -> Result<Vec<Option<Here>>, AllocError>
     ensures { IfOk result (λ v. AreOfCalls calls.now v.items) }
 {
-    let mut seen = vec![in alloc; 0usize; members]?;
-    let mut kth: Vec<Option<Here>> = vec![in alloc; None; members]?;
+    let mut all: Vec<Option<Here>> = vec![in alloc; None; members]?;
     for offer in calls {
-        let place = offer.place as usize;
-        if count_at(&mut seen, place) == Some(k) {
-            put(&mut kth, place, Some(offer.here));
-        }
+        put(&mut all, offer.place as usize, Some(offer.here));
     }
-    Ok(kth)
+    Ok(all)
 }
 
-/// The k-th call of each of these places.
-fn kth_of(
+/// The call of each of these places.
+fn calls_at(
     alloc: Global,
     calls: &[Offer<'_>],
     places: &[u32],
     members: usize,
-    k: usize,
 ) -> Result<Vec<Option<Here>>, AllocError>
     ensures { IfOk result (λ v. AreOfCalls calls.now v.items) }
 {
-    let kth = kth_calls(alloc, calls, members, k)?;
-    only_at(alloc, &kth, places)
+    let all = calls_by_place(alloc, calls, members)?;
+    only_at(alloc, &all, places)
 }
 
 /// Sets what stands at this place, where the list has it.
@@ -383,6 +413,11 @@ pub(crate) struct Found {
     pub waits: bool,
 }
 
+/// Whether some call is read already.
+fn some_read(calls: &[Offer<'_>]) -> bool {
+    calls.iter().any(|offer| offer.read)
+}
+
 /// Notes that the calls are read of which a communicator was made.
 fn note_read(
     calls: &[Offer<'_>],
@@ -392,21 +427,23 @@ fn note_read(
     for offer in calls {
         if let Some(Some(here)) = all.get(offer.place as usize) {
             if here.call == offer.here.call {
-                read.push((offer.here.rank, offer.at))?;
+                read.push((offer.here.rank, offer.here.at))?;
             }
         }
     }
     Ok(())
 }
 
-/// Notes that the calls are read, and that the handles which they give are left out.
+/// Notes that the calls are read, and that the handles which they give are left out, but for those that were read.
 fn note_left(calls: &[Offer<'_>], found: &mut Found) -> Result<(), AllocError>
     ensures { found.new.made ≡ found.old.made }
 {
     for offer in calls {
-        found.read.push((offer.here.rank, offer.at))?;
-        if let Gives::Handle(handle) = offer.here.gives {
-            found.left.push((offer.here.rank, handle))?;
+        if !offer.read {
+            found.read.push((offer.here.rank, offer.here.at))?;
+            if let Gives::Handle(handle) = offer.here.gives {
+                found.left.push((offer.here.rank, handle))?;
+            }
         }
     }
     Ok(())
@@ -443,39 +480,41 @@ fn one_made(
     made_of(alloc, members, all, &part)
 }
 
-/// Reads the calls of one list of members and one tag, and notes those that are read. Says whether more may be made of
-/// them.
-#[tactic(auto, using(crate::proofs::GroupCalls::found_more))]
-fn read_each(
+/// What the calls of one turn make.
+#[derive(Drop)]
+enum Turn {
+    /// A communicator, of these calls.
+    Made { comm: Made, all: Vec<Option<Here>> },
+    /// A call may still come, or none is there.
+    Waits,
+    Unsound,
+}
+
+/// The communicator of the calls of one turn, unless one of them waits.
+fn turn_made(
     alloc: Global,
     parent: &Made,
     calls: &[Offer<'_>],
     places: &[u32],
     waits: &[bool],
-    read: &mut Vec<(u32, usize)>,
-    made: &mut Vec<Made>,
-) -> Result<bool, AllocError>
-    requires { AreFoundSame calls.now parent.now.members.items parent.now.ranks.items places.now made.old.items }
-    ensures { OnOk result (AreFoundSame calls.now parent.now.members.items parent.now.ranks.items places.now made.new.items) }
+) -> Result<Turn, AllocError>
+    ensures { IfOk result (IsTurnOf calls.now parent.now.members.items places.now) }
 {
-    for k in 0..calls.len() {
-        let all = kth_of(alloc, calls, places, parent.members.len(), k)?;
-        if may_come(&all, places, waits) || !some_here(&all) {
-            return Ok(true);
-        }
-        if !is_sound(alloc, &all, places)? {
-            return Ok(false);
-        }
-        note_read(calls, &all, read)?;
-        let comm = one_made(alloc, &parent.members, &all, places)?;
-        made.push(comm)?;
+    let all = calls_at(alloc, calls, places, parent.members.len())?;
+    if may_come(&all, places, waits) || !some_here(&all) {
+        return Ok(Turn::Waits);
     }
-    Ok(true)
+    if !is_sound(alloc, &all, places)? {
+        return Ok(Turn::Unsound);
+    }
+    let comm = one_made(alloc, &parent.members, &all, places)?;
+    Ok(Turn::Made { comm, all })
 }
 
-/// Reads the calls of one list of members and one tag, unless nothing more is made of them.
-#[tactic(auto, using(crate::proofs::GroupCalls::found_none, crate::proofs::OfferLemmas::places_are))]
-fn read_key(
+/// Reads the calls of one list of members, tag and turn, unless they are read or nothing more is made of these members
+/// and this tag.
+#[tactic(auto, using(crate::proofs::GroupCalls::found_none))]
+fn read_turn(
     alloc: Global,
     parent: &Made,
     ranked: &IndexMap<u32, u32>,
@@ -484,33 +523,34 @@ fn read_key(
     first: Offer<'_>,
     waits: &[bool],
     found: &mut Found,
-) -> Result<Vec<Made>, AllocError>
-    requires same { AreSame calls.now first.ranks.now first.tag }
+) -> Result<Option<Made>, AllocError>
+    requires same { AreSame calls.now first.ranks.now first.tag first.turn }
     requires ranked { AreRanked (get nat_eq ranked.now) parent.now.ranks.items }
-    ensures made { IfOk result (λ made. AreFound calls.now parent.now.members.items parent.now.ranks.items made.items) }
+    ensures made { IfOk result (λ made. IfSome made (IsFound calls.now parent.now.members.items parent.now.ranks.items)) }
     ensures kept { found.new.made ≡ found.old.made }
 {
-    if is_over(over, first.ranks, first.tag) {
+    if is_over(over, first.ranks, first.tag) || is_over(&found.over, first.ranks, first.tag) {
         note_left(calls, found)?;
-        return Ok(Vec::new(alloc));
+        return Ok(None);
+    }
+    if some_read(calls) {
+        return Ok(None);
     }
     let Some(places) = places_of(alloc, ranked, first.ranks)? else {
         end(alloc, calls, first.ranks, first.tag, found)?;
-        return Ok(Vec::new(alloc));
+        return Ok(None);
     };
-    let mut made = Vec::new(alloc);
-    if !read_each(
-        alloc,
-        parent,
-        calls,
-        &places,
-        waits,
-        &mut found.read,
-        &mut made,
-    )? {
-        end(alloc, calls, first.ranks, first.tag, found)?;
+    match turn_made(alloc, parent, calls, &places, waits)? {
+        Turn::Made { comm, all } => {
+            note_read(calls, &all, &mut found.read)?;
+            Ok(Some(comm))
+        },
+        Turn::Waits => Ok(None),
+        Turn::Unsound => {
+            end(alloc, calls, first.ranks, first.tag, found)?;
+            Ok(None)
+        },
     }
-    Ok(made)
 }
 
 /// Nothing is found yet.
@@ -526,7 +566,7 @@ fn nothing_found(alloc: Global) -> Found
     }
 }
 
-/// Finds what the calls of each list of members and each tag make, one after the other.
+/// Finds what the calls of each list of members, tag and turn make, one after the other.
 #[tactic(auto, using(crate::proofs::GroupCalls::found_none, crate::proofs::GroupCalls::found_from, crate::proofs::GroupCalls::same_from))]
 fn find_all(
     alloc: Global,
@@ -547,14 +587,15 @@ fn find_all(
         let behind = at + 1;
         let end = behind + same_length(&calls[behind..], first);
         let same = &calls[at..end];
-        let mut made = read_key(alloc, parent, ranked, over, same, first, waits, found)?;
-        found.made.append(&mut made)?;
+        if let Some(comm) = read_turn(alloc, parent, ranked, over, same, first, waits, found)? {
+            found.made.push(comm)?;
+        }
         at = end;
     }
     Ok(())
 }
 
-/// What the calls on one parent make, in the order of their members and tags.
+/// What the calls on one parent make, in the order of their members, tags and turns.
 fn found_in(
     alloc: Global,
     parent: &Made,

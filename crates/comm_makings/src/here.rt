@@ -26,7 +26,7 @@ pub(crate) struct Here {
 }
 
 /// The function of a making.
-pub(crate) fn function_of(making: &Making) -> MadeBy
+pub fn function_of(making: &Making) -> MadeBy
     ensures { result ≡ function_of making.now }
 {
     match making {

@@ -64,3 +64,4 @@ pub use calls::{
     RankCalls, RankRange, Uses, object_made,
 };
 pub use derivation::derive;
+pub use here::function_of;

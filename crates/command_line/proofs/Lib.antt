@@ -1,3 +1,4 @@
 pub mod Ends
 pub mod Ranks
 pub mod Rows
+pub mod Threads

@@ -17,6 +17,7 @@ use Rattle.command_line.specs.declared.Wanted.{Wanted}
 use Rattle.command_line.specs.declared.Extent.{Extent}
 use Rattle.command_line.specs.declared.Extent.TheVariants.{Cut, Whole}
 use Rattle.command_line.specs.Ranks.{rank_in, rank_parser}
+use Rattle.command_line.specs.Threads.{threads_rule}
 use Rattle.command_line.specs.Windows.{calls_asked, window_in}
 use Rattle.command_line.specs.declared.Verb.{Verb}
 use Rattle.command_line.specs.declared.Verbosity.{Verbosity}
@@ -51,9 +52,13 @@ verbose_rule = record (new_rule (codes "verbose")) { long = Some (codes "verbose
 abbrev pub pair_app : Text → App
 pair_app name = with_rule (with_rule (with_rule (new_app name) (file_rule (codes "LAYOUT"))) (file_rule (codes "MANIFEST"))) quiet_rule
 
+-- a verb that reads the pieces of a layout and a manifest
+abbrev pub pieces_app : Text → App
+pieces_app name = with_rule (pair_app name) threads_rule
+
 -- a verb over its files
 abbrev pub files_app : Text → App
-files_app name = with_rule (with_rule (with_rule (new_app name) (several_rule (codes "FILE"))) quiet_rule) verbose_rule
+files_app name = with_rule (with_rule (with_rule (with_rule (new_app name) (several_rule (codes "FILE"))) quiet_rule) verbose_rule) threads_rule
 
 -- the flag for a report as JSON
 abbrev pub json_rule : Rule
@@ -95,6 +100,10 @@ with_report app = with_subcommand app report_app.top
 abbrev pub with_pair : App → Text → App
 with_pair app name = with_subcommand app (pair_app name).top
 
+-- the program with a verb that reads the pieces of a layout and a manifest
+abbrev pub with_pieces : App → Text → App
+with_pieces app name = with_subcommand app (pieces_app name).top
+
 -- the program with a verb over texts or a layout and a manifest
 abbrev pub with_files : App → Text → App
 with_files app name = with_subcommand app (files_app name).top
@@ -129,7 +138,7 @@ force_rule = record (new_rule (codes "force")) { long = Some (codes "force"); ac
 
 -- `init` over texts, with its options
 abbrev pub init_app : App
-init_app = with_rule (with_rule (with_rule (with_rule (with_rule (with_rule (with_rule (new_app (codes "init")) (several_rule (codes "TEXT"))) sends_rule) layout_rule) manifest_rule) force_rule) quiet_rule) json_rule
+init_app = with_rule (with_rule (with_rule (with_rule (with_rule (with_rule (with_rule (with_rule (new_app (codes "init")) (several_rule (codes "TEXT"))) sends_rule) layout_rule) manifest_rule) force_rule) quiet_rule) threads_rule) json_rule
 
 -- the program with `init`
 abbrev pub with_init : App → App
@@ -185,7 +194,7 @@ telling = with_timeline (with_calls answering)
 
 -- all verbs of the program
 abbrev pub program : App
-program = with_init (with_pair (with_check (with_pair (with_pair telling (codes "replay")) (codes "cluster"))) (codes "pack"))
+program = with_init (with_pieces (with_check (with_pair (with_pieces telling (codes "replay")) (codes "cluster"))) (codes "pack"))
 
 -- the verb of a name
 abbrev pub verb_named : Text → Option Verb

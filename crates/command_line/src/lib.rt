@@ -1,4 +1,5 @@
-//! The command line of mpimatch: its verbs, each with the names of its files, and `init`.
+//! The command line of mpimatch: its verbs, each with the names of its files, and `init`; and by how many threads
+//! they read texts.
 //!
 //! `clap` reads the words. `specs/Program.antt` writes the command line down by `clap`'s own
 //! builders, so what the words ask for, and the kind of each mistake, is `clap`'s meaning of that
@@ -9,11 +10,12 @@
 //! Its tests are rows of `tests/rows/inputs.txt` and cases of `tests/cases/`, which the built program runs.
 #![tactic(auto)]
 
-ghost use Rattle.std.specs.Prelude.{◌≡◌, [], IfErr, IfOk, OnOk, Some, codes, false, option_and_then, option_map};
+ghost use Rattle.std.specs.Prelude.{◌≡◌, ◌≤◌, [], IfErr, IfOk, IfSome, None, OnOk, Some, codes, false, option_and_then, option_map};
 ghost use Rattle.clap.specs.Words.{app_of, fault_of, found_of, new_app, rows_of, rule_of, subcommand_of, subcommand_rows_of};
 ghost use Rattle.clap.specs.declared.builder.command.Command.TheViews.{out-Command};
-ghost use Rattle.command_line.specs.Program.{Refuses, all_rule, answering, bare, check_app, check_in, calls_app, calls_in, calls_named, cluster_in, cluster_of, csv_rule, explain_app, extent_in, explain_in, file_rule, files_app, files_in, force_rule, form_in, free_rule, from_rule, graph_app, in_form, init_app, init_in, json_rule, layout_rule, wanted_of, wish_in, wish_of, manifest_rule, is_set, option_rule, pair_app, pair_in, pair_of, program, quiet_rule, rank_rule, ranks_rule, report_app, report_in, request_in, request_of, sends_named, sends_rule, several_rule, shown_status_of, telling, text_of, timeline_app, timeline_in, to_rule, told_in, verb_in, verbose_rule, verbosity_in, verbosity_of, texts_of, verb_named, with_calls as and_calls, with_check as and_check, with_explain as and_explain, with_files as and_files, with_graph as and_graph, with_init as and_init, with_pair as and_pair, with_report as and_report, with_timeline as and_timeline};
+ghost use Rattle.command_line.specs.Program.{Refuses, all_rule, answering, bare, check_app, check_in, calls_app, calls_in, calls_named, cluster_in, cluster_of, csv_rule, explain_app, extent_in, explain_in, file_rule, files_app, files_in, force_rule, form_in, free_rule, from_rule, graph_app, in_form, init_app, init_in, json_rule, layout_rule, wanted_of, wish_in, wish_of, manifest_rule, is_set, option_rule, pair_app, pair_in, pair_of, pieces_app, program, quiet_rule, rank_rule, ranks_rule, report_app, report_in, request_in, request_of, sends_named, sends_rule, several_rule, shown_status_of, telling, text_of, timeline_app, timeline_in, to_rule, told_in, verb_in, verbose_rule, verbosity_in, verbosity_of, texts_of, verb_named, with_calls as and_calls, with_check as and_check, with_explain as and_explain, with_files as and_files, with_graph as and_graph, with_init as and_init, with_pair as and_pair, with_pieces as and_pieces, with_report as and_report, with_timeline as and_timeline};
 ghost use Rattle.command_line.specs.Ranks.{rank_in};
+ghost use Rattle.command_line.specs.Threads.{thread_count, threads_by, threads_in, threads_rule};
 ghost use Rattle.command_line.specs.Windows.{both_of, calls_asked, ends_in, given_moment, given_ranks, moment_in, ranks_in, table_verb, window_by, window_in, window_of};
 
 use clap::builder::ValueParser;
@@ -171,6 +173,15 @@ impl<'a> Asked<'a> {
     }
 }
 
+/// What the words ask for, and by how many threads.
+#[derive(Drop)]
+pub struct CommandLine<'a> {
+    /// What the program is asked to do.
+    pub asked: Asked<'a>,
+    /// By how many threads texts are read, 1 to 1,024, where `--threads` says it: else by one for each processor.
+    pub threads: Option<u32>,
+}
+
 /// Why the words ask for nothing that can be run.
 #[derive(Debug, Drop, Error)]
 pub enum CommandFault {
@@ -215,8 +226,9 @@ fn shown_status(kind: ErrorKind) -> u8
 
 /// What the words ask for; the first word is the name of the program. [`CommandFault`] comes for a mistake, for the
 /// help and the version, whose text it has, and when memory is refused.
-pub fn command_of<'a>(alloc: Global, words: &'a [&'a str]) -> Result<Asked<'a>, CommandFault>
-    ensures asked { IfOk result (λ a. request_in (subcommand_of program (texts_of words.entry.now)) ≡ Some (request_of a)) }
+pub fn command_of<'a>(alloc: Global, words: &'a [&'a str]) -> Result<CommandLine<'a>, CommandFault>
+    ensures asked { IfOk result (λ line. request_in (subcommand_of program (texts_of words.entry.now)) ≡ Some (request_of line.asked)) }
+    ensures threads { IfOk result (λ line. line.threads ≡ threads_in (subcommand_of program (texts_of words.entry.now))) }
     ensures taken { OnOk result (fault_of program (texts_of words.entry.now) ≡ []) }
     ensures refused { IfErr result (Refuses (texts_of words.entry.now)) }
 {
@@ -230,7 +242,10 @@ pub fn command_of<'a>(alloc: Global, words: &'a [&'a str]) -> Result<Asked<'a>, 
         Err(error) => return Err(CommandFault::Shown(error)),
     };
     match asked_in(alloc, &matches) {
-        Ok(Some(asked)) => Ok(asked),
+        Ok(Some(asked)) => {
+            let threads = threads_of(&matches);
+            Ok(CommandLine { asked, threads })
+        }
         Ok(None) => Err(CommandFault::Unread),
         Err(_) => Err(CommandFault::Memory),
     }
@@ -450,7 +465,7 @@ fn program_command<'a>(alloc: Global) -> Result<Command<'a>, AllocError>
     ensures { IfOk result (λ c. app_of c ≡ program) }
 {
     let command = telling_command(alloc)?;
-    let command = with_pair(
+    let command = with_pieces(
         command,
         alloc,
         "replay",
@@ -465,7 +480,7 @@ fn program_command<'a>(alloc: Global) -> Result<Command<'a>, AllocError>
         CLUSTER_HELP,
     )?;
     let command = with_check(command, alloc)?;
-    let command = with_pair(
+    let command = with_pieces(
         command,
         alloc,
         "pack",
@@ -522,6 +537,20 @@ fn with_pair<'a>(
     ensures { IfOk result (λ c. app_of c ≡ and_pair (app_of command.entry) name.now) }
 {
     let verb = pair_command(alloc, name, about, more)?;
+    command.subcommand(verb)
+}
+
+/// Adds a verb that reads the pieces of a layout and a manifest.
+fn with_pieces<'a>(
+    command: Command<'a>,
+    alloc: Global,
+    name: &'a str,
+    about: &'a str,
+    more: &'a str,
+) -> Result<Command<'a>, AllocError>
+    ensures { IfOk result (λ c. app_of c ≡ and_pieces (app_of command.entry) name.now) }
+{
+    let verb = pieces_command(alloc, name, about, more)?;
     command.subcommand(verb)
 }
 
@@ -775,7 +804,8 @@ fn init_command<'a>(alloc: Global) -> Result<Command<'a>, AllocError>
     let manifest = layout.arg(manifest_argument(alloc))?;
     let force = manifest.arg(force_argument(alloc))?;
     let quiet = force.arg(quiet_argument(alloc))?;
-    quiet.arg(json_argument(alloc, "Prints what was found as one JSON object"))
+    let threads = quiet.arg(threads_argument(alloc))?;
+    threads.arg(json_argument(alloc, "Prints what was found as one JSON object"))
 }
 
 /// `init`, without its texts and options.
@@ -867,6 +897,32 @@ fn verbose_argument<'a>(alloc: Global) -> Arg<'a>
         .action(ArgAction::SetTrue)
 }
 
+/// `--threads`, a number.
+fn threads_argument<'a>(alloc: Global) -> Arg<'a>
+    ensures rule { rule_of result ≡ threads_rule }
+    ensures local { result.global ≡ false }
+{
+    Arg::new(alloc, "threads")
+        .long("threads")
+        .value_name("N")
+        .help("Reads texts by N threads, 1 to 1024; without it by one for each processor")
+        .value_parser(ValueParser::unsigned(1, 1024))
+}
+
+/// A verb that reads the pieces of a layout and a manifest.
+fn pieces_command<'a>(
+    alloc: Global,
+    name: &'a str,
+    about: &'a str,
+    more: &'a str,
+) -> Result<Command<'a>, AllocError>
+    ensures shape { IfOk result (λ c. app_of c ≡ pieces_app name.now) }
+    ensures local { IfOk result (λ c. (out-Command c).has_globals ≡ false) }
+{
+    let pair = pair_command(alloc, name, about, more)?;
+    pair.arg(threads_argument(alloc))
+}
+
 /// A verb over a layout and a manifest.
 fn pair_command<'a>(
     alloc: Global,
@@ -911,7 +967,8 @@ fn files_command<'a>(
     let bare = Command::new(alloc, name).about(about).after_help(more);
     let named = bare.arg(files)?;
     let quiet = named.arg(quiet_argument(alloc))?;
-    quiet.arg(verbose_argument(alloc))
+    let verbose = quiet.arg(verbose_argument(alloc))?;
+    verbose.arg(threads_argument(alloc))
 }
 
 /// A file that has to be named.
@@ -1400,5 +1457,55 @@ fn verb_in<'a>(
     match form_in(name, inner) {
         Some(verb) => files_in(alloc, verb, inner),
         None => Ok(None),
+    }
+}
+
+/// By how many threads texts are read, where the words say it.
+fn threads_of(matches: &ArgMatches<'_>) -> Option<u32>
+    ensures { result ≡ threads_in (subcommand_rows_of matches.now) }
+{
+    match matches.subcommand() {
+        Some((_, inner)) => threads_by(inner),
+        None => None,
+    }
+}
+
+/// The same by the words of a verb.
+fn threads_by(inner: &ArgMatches<'_>) -> Option<u32>
+    ensures { result ≡ threads_by (rows_of (found_of inner.now)) }
+{
+    let word = inner.get_str("threads");
+    named_threads(word)
+}
+
+/// The number of threads, where a word says it.
+fn named_threads(word: Option<&str>) -> Option<u32>
+    ensures { result ≡ option_and_then thread_count (text_of word.entry) }
+{
+    match word {
+        Some(word) => thread_count(word),
+        None => None,
+    }
+}
+
+/// The number of threads that a word says; none where it is no number from 1 to 1,024, which `clap` has seen to.
+fn thread_count(word: &str) -> Option<u32>
+    ensures { result ≡ thread_count word.now }
+{
+    match word.parse::<u32>() {
+        Ok(count) => in_range(count),
+        Err(_) => None,
+    }
+}
+
+/// The number, where it is one from 1 to 1,024.
+fn in_range(count: u32) -> Option<u32>
+    ensures some { IfSome result (λ n. (n ≡ count) × (1 ≤ count) × (count ≤ 1024)) }
+    ensures none { result ≡ None → (1 ≤ count) × (count ≤ 1024) → ⊥ }
+{
+    if 1 <= count && count <= 1024 {
+        Some(count)
+    } else {
+        None
     }
 }

@@ -10,6 +10,8 @@ pub mod OwnOps
 pub mod OwnPieces
 pub mod PackedShares
 pub mod Packing
+pub mod RankReads
+pub mod ReadAhead
 pub mod Replaying
 pub mod Runs
 pub mod Segments

@@ -1,6 +1,12 @@
 -- Why the first piece is refused, and what else stops a cluster.
 use Rattle.std.proofs.Common.{◌≡◌, [], inl, inr, ℕ, List, Option, Some, None, ap, sym, refl, subst}
 use Rattle.dumpi_calls.specs.Whole.{SegmentsTellAll}
+use Rattle.dumpi_calls.specs.declared.collect.Memory.{Memory as NoMemory}
+use Rattle.dumpi_calls.specs.declared.fault.WalkCause.TheVariants as walks
+use Rattle.dumpi_calls.specs.declared.fault.WalkFault.{WalkFault}
+use Rattle.dumpi_text.specs.declared.fault.TextCause.{TextCause}
+use Rattle.dumpi_text.specs.declared.fault.TextCause.TheVariants as reads
+use Rattle.dumpi_text.specs.declared.fault.TextFault.TheVariants.{At}
 use Rattle.mpi_model.specs.Layouts.{Parts}
 use Rattle.trace_know.specs.Trace.{view_of}
 use Rattle.trace_node.specs.declared.fault.NodeFault.TheVariants as nodes
@@ -12,7 +18,7 @@ use Rattle.trace_crew.specs.declared.piece.TextPiece.{TextPiece}
 use Rattle.trace_crew.specs.declared.piece.PieceAt.{PieceAt}
 use Rattle.trace_crew.specs.declared.piece.PieceFault.{PieceFault}
 use Rattle.trace_crew.specs.declared.piece.PieceFault.TheVariants as causes
-use Rattle.trace_crew.specs.Pieces.{IsRefusedFor}
+use Rattle.trace_crew.specs.Pieces.{IsOwn, IsRefusedFor}
 use Rattle.trace_cluster.specs.declared.side.Side.{Side}
 use Rattle.trace_cluster.specs.declared.fault.ClusterFault.{ClusterFault}
 use Rattle.trace_cluster.specs.declared.fault.ClusterFault.TheVariants as clusters
@@ -21,7 +27,7 @@ use Rattle.trace_cluster.specs.Stopped.{IsFirstFault, IsStopped}
 use Rattle.run_files.specs.Manifests.{PieceParts}
 use Rattle.command_runs.specs.Clusters.{AreSound, IsFaultFor, IsTextFault, NamesOne, RefusesCrews, by_node, of_exchange, of_wire, piece_at}
 use Rattle.run_inputs.specs.Files.{IsFile, StandsAtFirst}
-use Rattle.command_runs.specs.Pieces.{PassesPlaces, RefusesPiece}
+use Rattle.command_runs.specs.Pieces.{FailsAt, PassesPlaces, RefusesPiece}
 use Rattle.command_runs.specs.Refusals.{RefusesFirst}
 use Rattle.command_runs.specs.NodeTexts.{AreShares, IsTextOf}
 use Rattle.run_inputs.specs.declared.faults.fault.RunFault.{RunFault}
@@ -30,16 +36,23 @@ use Rattle.run_inputs.specs.declared.faults.fault.RunFault.TheVariants as faults
 use Rattle.command_runs.specs.declared.pieces.node_texts.AllTexts.{AllTexts}
 use Rattle.command_runs.proofs.GivenFacts.{events_told}
 use Rattle.command_runs.proofs.ByPlace.{AreAt, Stands, all_at, sound, stands_in, stranger, traced}
-use Rattle.command_runs.proofs.Told.{walk_told}
+use Rattle.command_runs.proofs.Told.{stop_told}
 
 bytes_told : (file : Option (List ℕ)) (bytes : List ℕ) → IsFile file bytes → StandsAtFirst file (Some bytes)
 bytes_told None bytes is = tt
 bytes_told (Some told) bytes is = ap (λ (t : List ℕ). Some t) (sym is)
 
+-- The reader of a text at hand doesn't fail.
+own_told : (file : Option (List ℕ)) (fault : WalkFault NoMemory) → IsOwn fault.cause → (cause : TextCause) (line : ℕ) → fault.cause ≡ walks.Text (At line cause)
+    → FailsAt cause file fault.line
+own_told file fault own (reads.Line broken) line is = tt
+own_told file fault own reads.Read line is = absurd (subst (IsOwn {F = NoMemory}) is own)
+
 text_refused : (file : List ℕ → Option (List ℕ)) (piece : PieceParts) (text : TextPiece) (fault : PieceFault) (run : RunFault) → IsTextOf file piece text
     → IsRefusedFor text fault → IsTextFault piece.file fault run → RefusesPiece piece.file piece.first (file piece.file) run
 text_refused file piece text (causes.Walk fault) run is why names =
-    walk_told piece.file piece.first (file piece.file) (Some text.text.items) [] why.0 fault run (bytes_told (file piece.file) text.text.items is.2) why.1 names
+    stop_told piece.file piece.first (file piece.file) (Some text.text.items) [] why.0 fault run (bytes_told (file piece.file) text.text.items is.2) why.1
+    (own_told (file piece.file) fault why.2) names
 text_refused file piece text (causes.Segment fault) (Place path) is why names =
     (names, subst (λ (first : ℕ). PassesPlaces first (file piece.file)) is.1 (why.1.0, events_told (file piece.file) text.text.items why.1.0 is.2 why.1.1, why.1.2))
 text_refused file piece text (causes.Segment fault) Memory is why names = absurd names

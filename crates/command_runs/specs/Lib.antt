@@ -10,6 +10,7 @@ pub mod Packs
 pub mod Pages
 pub mod Pieces
 pub mod Ranks
+pub mod Reads
 pub mod Refusals
 pub mod Replays
 pub mod Said

@@ -1,15 +1,10 @@
--- The node of a run, and its answer.
-use Rattle.std.specs.Prelude.{◌≡◌, false, ℕ, List, Option}
+-- The answer to a run, and its checker.
+use Rattle.std.specs.Prelude.{◌≡◌, ℕ, List, Option}
 use Rattle.mpi_model.specs.Layouts.{Parts}
 use Rattle.trace_check.specs.Checker as checker
 use Rattle.trace_node.specs.Answer.{Answered, IsAnswer}
-use Rattle.trace_node.specs.Node.{Held, held}
 use Rattle.run_files.specs.Manifests.{ManifestParts}
 use Rattle.command_runs.specs.Known.{OfAllTold}
-
--- The node knows, for this layout, all that the pieces tell, and has its answer.
-abbrev pub IsNodeOf : (List ℕ → Option (List ℕ)) → Parts → ManifestParts → Held → Type 0
-IsNodeOf file l m node = OfAllTold file l m (λ view. node ≡ held l view false)
 
 -- This is answered to all that the pieces tell.
 abbrev pub AnswersAll : (List ℕ → Option (List ℕ)) → Parts → ManifestParts → Answered → Type 0

@@ -1,8 +1,14 @@
 -- The facts of a piece, and why a piece is refused.
-use Rattle.std.specs.Prelude.{◌≡◌, ℕ, List, [], Option, Some, None, IsSome}
+use Rattle.std.specs.Prelude.{◌≡◌, ◌+◌, ℕ, List, [], Option, Some, None, IsSome}
 use Rattle.mpi_model.specs.declared.event.Event.{Event}
 use Rattle.dumpi_text.specs.Call.{TextCall}
+use Rattle.dumpi_text.specs.Lines.{CountsLines}
+use Rattle.dumpi_text.specs.Next.{ReadsInto}
+use Rattle.dumpi_text.specs.Reading.{HasRead}
+use Rattle.dumpi_text.specs.declared.fault.TextCause.{TextCause}
+use Rattle.dumpi_text.specs.declared.fault.TextCause.TheVariants as reads
 use Rattle.dumpi_text.specs.declared.fault.TextFault.TheVariants.{At}
+use Rattle.dumpi_text.specs.declared.step.Position.{Position}
 use Rattle.trace_know.specs.Segment.{PlacedEvents, enter_place}
 use Rattle.trace_know.specs.Trace.{Trace, facts_from, facts_of}
 use Rattle.run_files.specs.Manifests.{PieceParts}
@@ -45,6 +51,25 @@ abbrev pub StopsText : Option (List ℕ) → WalkCause NoMemory → ℕ → Type
 StopsText None cause line = Unit {0}
 StopsText (Some text) cause line = (calls : List TextCall) × IsSome (seen_in calls) × StopsWalk {F = NoMemory} (Some text) calls cause line
 
+-- The reader of a text may fail at this line: the text begins with some calls, lines are taken whole up to that one, and
+-- up to it the text gives no call more and has no fault.
+pub record MayFailAt (text : Option (List ℕ)) (line : ℕ) : Type 0 where
+  pub calls : List TextCall
+  pub at : Position
+  pub known : Option (List ℕ)
+  pub read : HasRead text calls at known
+  pub next : Position
+  pub rest : Option (List ℕ)
+  pub line_is : line ≡ next.line
+  pub lines : CountsLines (at.line + 1) known next.line rest
+  pub into : ReadsInto at known next rest
+
+-- Where its bytes are told, and the cause is that its reader failed, it may fail at this line.
+abbrev pub FailsAt : TextCause → Option (List ℕ) → ℕ → Type 0
+FailsAt (reads.Line fault) text line = Unit {0}
+FailsAt reads.Read None line = Unit {0}
+FailsAt reads.Read (Some text) line = MayFailAt (Some text) line
+
 -- A piece has a place at or past the last: its events from the Enter of its first call on do.
 abbrev pub PassesPlaces : ℕ → Option (List ℕ) → Type 0
 PassesPlaces first text = (events : List Event) × TellsEvents text events × HasPlacesPast first events
@@ -55,7 +80,7 @@ abbrev pub RefusesPiece : List ℕ → ℕ → Option (List ℕ) → RunFault �
 RefusesPiece name first text Memory = Unit {0}
 RefusesPiece name first text (File path) = IsNamed path name × (text ≡ None)
 RefusesPiece name first text (Place path) = IsNamed path name × PassesPlaces first text
-RefusesPiece name first text (Text cause path line) = IsNamed path name × (at : ℕ) × StopsText text (causes.Text (At line cause)) at
+RefusesPiece name first text (Text cause path line) = IsNamed path name × (at : ℕ) × StopsText text (causes.Text (At line cause)) at × FailsAt cause text at
 RefusesPiece name first text (Missing parameter path line) = IsNamed path name × StopsText text (causes.Missing parameter) line
 RefusesPiece name first text (Wrong parameter path line) = IsNamed path name × StopsText text (causes.Wrong parameter) line
 RefusesPiece name first text _ = ⊥

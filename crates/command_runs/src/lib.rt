@@ -5,12 +5,12 @@
 //! answer; [`check`] makes it once more straight from the rules (`trace_check`), [`calls`] and [`timeline`] print every
 //! call with its partner (`call_table`); [`pack`] writes what the pieces tell as bytes. [`replay`] runs the manifest's
 //! schedule over nodes that exchange what they know (`trace_world`), and [`cluster`] lets two nodes read their pieces
-//! and exchange what they know over a socket (`trace_cluster`). Nothing is written before the whole run is good; `calls`
-//! and `timeline`, whose output may be longer than what is known, write it while they read the pieces a second time.
+//! and exchange what they know over a socket (`trace_cluster`). Nothing is written before the whole run is good;
+//! `calls` and `timeline`, whose output may be longer than what is known, write it while they read the pieces again.
 //!
 //! `explain`, `graph` and `page`, which tell what holds up a run, stand above this crate, in `program_runs`, beside
-//! what the words of the command line ask for and how the program ends. Here is the node that they begin with
-//! ([`noted_node`]), and in `specs/Verbs.antt` what they print.
+//! what the words of the command line ask for and how the program ends. Here is what they begin with ([`noted_run`]),
+//! and in `specs/Verbs.antt` what they print.
 //!
 //! The work is linear in the texts, but for the joins of their pieces (`trace_know`) and the answer
 //! (`trace_node`). Memory holds what is known and the events of one piece; that of a replay also all
@@ -54,15 +54,13 @@ mod verbs;
 
 pub use pieces::laws::packed_laws;
 pub use run::{Outcome, Run};
-pub use verbs::answerer::Answerer;
 pub use verbs::calls::calls;
 pub use verbs::check::check;
 pub use verbs::check_json::check_as_json;
 pub use verbs::cluster::cluster;
-pub use verbs::node::noted_node;
+pub use verbs::noted_run::{NotedRun, noted_run};
 pub use verbs::pack::pack;
 pub use verbs::replay::replay;
 pub use verbs::report::{report, report_as_json};
-pub use verbs::survey::ops_of_all;
 pub use verbs::timeline::timeline;
 pub use verbs::writing::write_text;

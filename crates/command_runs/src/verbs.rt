@@ -5,7 +5,7 @@ pub(crate) mod calls;
 pub(crate) mod check;
 pub(crate) mod check_json;
 pub(crate) mod cluster;
-pub(crate) mod node;
+pub(crate) mod noted_run;
 pub(crate) mod pack;
 pub(crate) mod replay;
 pub(crate) mod report;

@@ -53,5 +53,5 @@ pub use json::diagnosis_json;
 pub use named::{argument_calls, named_calls};
 pub use one_rank::rank_words;
 pub use picture::diagnosis_picture;
-pub use texts::{CutText, LocalCalls, PlacedSite, TextFacts};
+pub use texts::{CutText, LocalCalls, PlacedSite, TextFacts, has_doubtful};
 pub use words::diagnosis_words;

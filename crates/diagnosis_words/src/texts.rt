@@ -2,7 +2,8 @@
 
 use crate::doubtful::is_doubtful;
 use std::alloc::{AllocError, Global};
-use text_notes::{CallSite, Look, TextNote, note_of};
+use std::collections::BTreeMap;
+use text_notes::{CallSite, TextNote, UnreadFunction, note_of};
 use trace_arguments::{Disagreement, Truncated};
 
 /// What the texts of a run tell of its calls and of themselves. It is empty if there is no text.
@@ -22,6 +23,8 @@ pub struct TextFacts {
     pub truncated: Vec<Truncated>,
     /// The rounds in which arguments of calls don't agree, by object and number, and by line of the table.
     pub arguments: Vec<Disagreement>,
+    /// The functions that made objects of the layout, by the objects' ids.
+    pub makers: BTreeMap<u32, &'static str>,
 }
 
 /// Where a call of a rank stands in its text.
@@ -67,6 +70,43 @@ pub(crate) struct Place<'a> {
     pub function: Option<&'a [u8]>,
 }
 
+/// Adds calls of a function.
+fn count(
+    alloc: Global,
+    known: &mut Vec<LocalCalls>,
+    function: &[u8],
+    calls: u64,
+) -> Result<(), AllocError> {
+    for one in known.iter_mut() {
+        if one.function.as_slice() == function {
+            one.calls = one.calls.saturating_add(calls);
+            return Ok(());
+        }
+    }
+    let function = Vec::from_slice(alloc, function)?;
+    known.push(LocalCalls { function, calls })?;
+    Ok(())
+}
+
+/// Adds the calls of those of the functions that may wait or move data.
+fn count_doubtful(
+    alloc: Global,
+    known: &mut Vec<LocalCalls>,
+    local: &[UnreadFunction],
+) -> Result<(), AllocError> {
+    for function in local {
+        if is_doubtful(function.name()) {
+            count(alloc, known, function.name(), function.count())?;
+        }
+    }
+    Ok(())
+}
+
+/// Whether one of the functions may wait or move data.
+pub fn has_doubtful(local: &[UnreadFunction]) -> bool {
+    local.iter().any(|function| is_doubtful(function.name()))
+}
+
 impl TextFacts {
     /// The facts when no text was read: none.
     pub fn none(alloc: Global) -> TextFacts {
@@ -78,24 +118,19 @@ impl TextFacts {
             size: None,
             truncated: Vec::new(alloc),
             arguments: Vec::new(alloc),
+            makers: BTreeMap::new(alloc),
         }
     }
 
-    /// Adds what a second look at a text has found: the text's place among the notes is given, and each call has the
-    /// number among the calls of its rank that the note's piece gives it. On `AllocError`, when memory is refused, its
-    /// contents are unspecified.
-    pub fn add(&mut self, alloc: Global, note: usize, look: Look) -> Result<(), AllocError> {
+    /// Adds where calls stand in a text: the text's place among the notes is given, and each call has the number among
+    /// the calls of its rank that the note's piece gives it. On `AllocError`, when memory is refused, its contents are
+    /// unspecified.
+    pub fn add_sites(&mut self, note: usize, sites: Vec<CallSite>) -> Result<(), AllocError> {
         let (rank, first) = match self.notes.as_slice().get(note) {
             Some(noted) => (noted.rank(), noted.first()),
             None => return Ok(()),
         };
-        for local in look.local() {
-            if is_doubtful(local.name()) {
-                self.count(alloc, local.name(), local.count())?;
-            }
-        }
-        self.size = self.size.max(look.size());
-        for site in look.into_sites() {
+        for site in sites {
             let call = first.saturating_add(site.number());
             self.sites.push(PlacedSite {
                 rank,
@@ -107,25 +142,31 @@ impl TextFacts {
         Ok(())
     }
 
+    /// Adds a size that MPI_Comm_size tells of MPI_COMM_WORLD.
+    pub fn add_size(&mut self, size: Option<u64>) {
+        self.size = self.size.max(size);
+    }
+
+    /// Adds local calls of functions. On `AllocError`, when memory is refused, its contents are unspecified.
+    pub fn add_local(&mut self, alloc: Global, local: &[UnreadFunction]) -> Result<(), AllocError> {
+        count_doubtful(alloc, &mut self.local, local)
+    }
+
+    /// Adds all local calls of the text that has this place among the notes. On `AllocError`, when memory is refused,
+    /// its contents are unspecified.
+    pub fn add_local_of(&mut self, alloc: Global, note: usize) -> Result<(), AllocError> {
+        match self.notes.as_slice().get(note) {
+            Some(noted) => count_doubtful(alloc, &mut self.local, noted.needs().local()),
+            None => Ok(()),
+        }
+    }
+
     /// Puts what was added in order. On `AllocError`, when memory is refused, its contents are unspecified.
     pub fn finish(&mut self) -> Result<(), AllocError> {
         self.sites
             .sort_by_key(|site| (site.rank, site.call, site.note))?;
         self.local
             .sort_by(|one, other| one.function.cmp(&other.function))?;
-        Ok(())
-    }
-
-    /// Adds calls of a function.
-    fn count(&mut self, alloc: Global, function: &[u8], calls: u64) -> Result<(), AllocError> {
-        for known in self.local.iter_mut() {
-            if known.function.as_slice() == function {
-                known.calls = known.calls.saturating_add(calls);
-                return Ok(());
-            }
-        }
-        let function = Vec::from_slice(alloc, function)?;
-        self.local.push(LocalCalls { function, calls })?;
         Ok(())
     }
 

@@ -242,7 +242,8 @@ impl<'a> Writer<'a> {
         }
     }
 
-    /// The members of an object, of an intercommunicator those of each group: ` (ranks 0 to 1 and ranks 2 to 3)`.
+    /// The members of an object, of an intercommunicator those of each group, and the function that made it, where the
+    /// texts tell it: ` (ranks 0 to 1 and ranks 2 to 3, by MPI_Intercomm_create)`.
     fn put_members(&mut self, object: u32) {
         let layout = self.source.layout;
         let Some(comm) = layout.comm(object) else {
@@ -253,6 +254,10 @@ impl<'a> Writer<'a> {
         if comm.is_inter() {
             self.put(b" and ");
             self.put_rising(comm.second_group());
+        }
+        if let Some(function) = self.source.texts.makers.get(&object) {
+            self.put(b", by ");
+            self.put(function.as_bytes());
         }
         self.put(b")");
     }

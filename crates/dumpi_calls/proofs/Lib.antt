@@ -7,6 +7,7 @@ pub mod NumberByNumber
 pub mod Missing
 pub mod Tolds
 mod UsualNames
+pub mod UsualFunctions
 pub mod Named
 pub mod Elements
 pub mod InPlace

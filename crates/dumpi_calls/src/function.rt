@@ -4,6 +4,7 @@ ghost use Rattle.std.specs.Prelude.{◌≡◌, true, false};
 ghost use Rattle.std.specs.Str.{bytes_eq};
 ghost use Rattle.dumpi_calls.specs.Rows.{called_of, collective_named, completion_named, ending_named, first_called, function_in, function_named, function_of_called, init_named, is_called, is_long_init, is_long_receive, is_long_send, is_unread_name, isend_named, matched_named, message_named, other_named, persistent_named, receive_named, send_named, short_name, start_named, test_named, unread_named};
 
+use crate::usual_functions::usual_function;
 use dumpi_text::RawCall;
 use mpi_model::{CollectiveFunction, Kind, Mode};
 
@@ -412,9 +413,9 @@ fn message_of(name: &[u8]) -> Option<Function>
     }
 }
 
-/// The function of a name.
+/// The function of a name, looked for among all.
 #[tactic(auto, unfolding(crate::specs::Rows::function_named))]
-pub fn function_of(name: &[u8]) -> Function
+fn any_function(name: &[u8]) -> Function
     ensures { result ≡ function_named name.now }
 {
     match message_of(name) {
@@ -432,6 +433,16 @@ pub fn function_of(name: &[u8]) -> Function
                 },
             },
         },
+    }
+}
+
+/// The function of a name.
+pub fn function_of(name: &[u8]) -> Function
+    ensures { result ≡ function_named name.now }
+{
+    match usual_function(name) {
+        Some(function) => function,
+        None => any_function(name),
     }
 }
 

@@ -10,7 +10,7 @@
 //!
 //! - [`parameter`]: the parameters and why a call is refused for one; [`reading`]: what each says; [`quick`]: numbers
 //!   as dumpi2ascii writes them, in one pass; [`skim`]: so the source of a status; [`requests`]: so a list of requests
-//! - [`function`]: the functions, by their names; [`envelope`], [`outcome`]: what calls name and bring back;
+//! - [`function`]: the functions, by their names; [`usual_functions`]: those that programs call most; [`envelope`], [`outcome`]: what calls name and bring back;
 //!   [`typing`]: a call by the row of its function; [`looking`]: the parameters that it is read by; [`lacking`]: a call
 //!   that was cut off before its last entry parameter
 //! - [`in_place`]: calls as dumpi2ascii writes them, read whole where they stand; [`lines`]: their parameter lines;
@@ -69,6 +69,7 @@ mod sink;
 mod skim;
 mod tally;
 mod typing;
+mod usual_functions;
 mod walking;
 
 pub use collect::{Collect, Memory};

@@ -21,7 +21,7 @@ use Rattle.dumpi_text.proofs.Meanings.{ends_inside, ends_outside, last_ends, las
 
 -- ---- the parameters
 
-kept_one_more : (keep : Choice) (function : List ℕ) (kept params : List Param) (param : Param) → kept_after keep function kept (params ++ param ∷ []) ≡ more_kept keep function (kept_after keep function kept params) param
+pub kept_one_more : (keep : Choice) (function : List ℕ) (kept params : List Param) (param : Param) → kept_after keep function kept (params ++ param ∷ []) ≡ more_kept keep function (kept_after keep function kept params) param
 kept_one_more keep function kept [] param = refl
 kept_one_more keep function kept (first ∷ params) param = kept_one_more keep function (more_kept keep function kept first) params param
 

@@ -11,7 +11,7 @@ use Rattle.dumpi_text.proofs.Meanings.{other_byte}
 use Rattle.dumpi_text.proofs.Splits.{first_passes, rest_passes, unlike, split_passes, unsplit}
 use Rattle.std.proofs.lemmas.Bool.{cases_eq, false≢true}
 
-words_front : (text : List ℕ) → list_all is_word_byte (word_parts text).0 ≡ true
+pub words_front : (text : List ℕ) → list_all is_word_byte (word_parts text).0 ≡ true
 words_front [] = refl
 words_front (b ∷ bs) =
     elim (is_word_byte b) as (λ w. w ≡ is_word_byte b → list_all is_word_byte (cond {A = List ℕ × List ℕ} w (b ∷ (word_parts bs).0, (word_parts bs).1) ([], b ∷ bs)).0 ≡ true)

@@ -6,7 +6,8 @@ use Rattle.std.proofs.lemmas.Grind.{common_steps}
 use Rattle.std.proofs.lemmas.List.{append-nil}
 use Rattle.mpi_model.specs.Times.{Times}
 use Rattle.dumpi_text.specs.Lines.{IsOneLine}
-use Rattle.dumpi_text.specs.Stamps.{Entering, Returning, kind_from, kind_of, returning_word, stamp_fields, stamp_from, stamp_of, stamp_word, stamped, time_field}
+use Rattle.dumpi_text.specs.Parameter.{parameter_of}
+use Rattle.dumpi_text.specs.Stamps.{Entering, Other, Returning, kind_from, kind_of, returning_word, stamp_fields, stamp_from, stamp_of, stamp_word, stamped, time_field}
 use Rattle.dumpi_text.specs.Time.{HasTime, is_time_byte, time_of}
 use Rattle.dumpi_text.specs.Tokens.{byte_front}
 use Rattle.dumpi_text.specs.Usual.{BeginsWith, EndsStamp, HasLine, Tells, TellsByItsParts, before_value, begins_bare, ends_bare, is_inside, is_word}
@@ -14,7 +15,7 @@ use Rattle.dumpi_text.specs.Words.{after_text, before_trimmed, is_blank, is_word
 use Rattle.dumpi_text.specs.declared.fault.LineFault.{LineFault}
 use Rattle.dumpi_text.specs.declared.time.TimeFault.{TimeFault}
 use Rattle.dumpi_text.proofs.Fronts.{front_there}
-use Rattle.dumpi_text.proofs.QuickParam.{end_kept, follows, its_parameter, last_kept, no_stamp_line, starts_bare, text_whole, word_before}
+use Rattle.dumpi_text.proofs.QuickParam.{end_kept, follows, its_parameter, last_kept, no_stamp_line, starts_bare, text_whole, word_before, words_front}
 use Rattle.dumpi_text.proofs.Splits.{both_true, first_passes, rest_passes, split_passes, unlike}
 
 has_bytes : (n : ℕ) → nat_lt 0 n ≡ true → 0 < n
@@ -310,3 +311,15 @@ parts_tell kind name start value text behind rest is_kind is_name start_is few b
     parameter_line kind name text rest line (32 ∷ (name ++ 61 ∷ value)) (name ++ 61 ∷ value) (61 ∷ value) value is_kind is_name front
     (front_there kind (32 ∷ (name ++ 61 ∷ value))) refl (front_there name (61 ∷ value)) refl
     (bare_some value ends.starts) (bare_kept value ends.starts ends.ends) (ends_kept value ends.ends) (no_return_kept value ends.ends)
+
+-- ---- any word, and the parameter on any line
+
+-- a word in front of a text
+pub word_is_one : (text name : List ℕ) → name ≡ (word_parts text).0 → 0 < length name → is_word name ≡ true
+word_is_one text name is some =
+    let has : nat_lt 0 (length name) ≡ true = grind (arith, common_steps) in
+    rw (has, ap (list_all is_word_byte) is ∙ words_front text) refl
+
+pub any_told : (text line rest name value : List ℕ) → BeginsWith line text rest → kind_of (trimmed (without_last 13 line)) ≡ Other line → parameter_of line ≡ Some (name, value) → 0 < length name
+    → Tells (record { name = name; value = value }) text rest
+any_told text line rest name value front is says some = record { content = line; line = record { line = line; front = front; is = is }; parameter = says; named = some }

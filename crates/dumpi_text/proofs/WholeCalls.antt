@@ -14,7 +14,7 @@ use Rattle.dumpi_text.specs.Words.{trimmed, without_last}
 use Rattle.dumpi_text.specs.declared.step.Position.{Position}
 use Rattle.dumpi_text.proofs.Meanings.{whole_line}
 
-feed_apart : (line rest more : List ℕ) → (line ++ 10 ∷ rest) ++ more ≡ (line ++ 10 ∷ []) ++ (rest ++ more)
+pub feed_apart : (line rest more : List ℕ) → (line ++ 10 ∷ rest) ++ more ≡ (line ++ 10 ∷ []) ++ (rest ++ more)
 feed_apart line rest more = append_assoc line (10 ∷ rest) more ∙ sym (append_assoc line (10 ∷ []) (rest ++ more))
 
 not_above : (n limit : ℕ) → n ≤ limit → nat_lt limit n ≡ false

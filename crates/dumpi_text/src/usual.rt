@@ -1,14 +1,16 @@
 //! Lines of calls, read where they stand in front of a text, each in one pass and without a copy. A line in another
 //! form is left to the functions that read any line.
 
-ghost use Rattle.std.specs.Prelude.{◌≡◌, IfSome, true};
+ghost use Rattle.std.specs.Prelude.{◌≡◌, ◌++◌, ◌∷◌, IfSome, true};
+ghost use Rattle.dumpi_text.specs.Bytes.{equals};
 ghost use Rattle.dumpi_text.specs.Stamps.{Entering, Returning};
 ghost use Rattle.dumpi_text.specs.Usual.{BeginsWith, EndsStamp, HasLine, Tells, is_word};
 
+use crate::quick::quick_param;
 use crate::source::{LONGEST_LINE, feed_in};
 use crate::time::time_front;
 use crate::tokens::strip_byte;
-use crate::words::{is_bare, strip};
+use crate::words::{is_bare, split_word, strip};
 use mpi_model::Stamp;
 
 /// The line in front of a text, where its line feed is there, and what follows that.
@@ -90,4 +92,28 @@ pub fn parameter_front<'a>(kind: &[u8], name: &[u8], text: &'a [u8]) -> Option<(
     } else {
         None
     }
+}
+
+/// The word in front of a text, where one stands there.
+pub fn name_front(text: &[u8]) -> Option<&[u8]>
+    ensures { IfSome result (λ name. is_word name.now ≡ true) }
+{
+    let (name, _) = split_word(text);
+    if name.is_empty() { None } else { Some(name) }
+}
+
+/// The name and the value of the parameter on the line in front of a text, where it is `type name=value`, what stands
+/// there, both with the `=` between them, and what follows the line.
+#[inline(always)]
+#[tactic(auto, using(crate::proofs::UsualLines::any_told))]
+pub fn pair_front(text: &[u8]) -> Option<(&[u8], &[u8], &[u8], &[u8])>
+    ensures tells { IfSome result (λ x. Tells (record { name = x.0.now; value = x.1.now }) text.now x.3.now) }
+    ensures pair { IfSome result (λ x. x.2.now ≡ x.0.now ++ equals ∷ x.1.now) }
+{
+    let (line, rest) = line_front(text)?;
+    let (name, value, pair) = quick_param(line)?;
+    if name.is_empty() {
+        return None;
+    }
+    Some((name, value, pair, rest))
 }

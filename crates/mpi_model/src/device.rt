@@ -12,6 +12,19 @@ use std::io;
 #[derive(Clone, Copy)]
 pub struct Failed;
 
+/// Why the system refused a write.
+#[derive(Clone, Copy, PartialEq, Eq)]
+pub enum WriteReason {
+    /// The disk, or another device, is full.
+    NoSpace,
+    /// The space that the user may take is used up.
+    Quota,
+    /// The file may not become longer.
+    FileTooLarge,
+    /// Nobody reads the other end of the pipe or socket.
+    Closed,
+}
+
 /// Where bytes come from.
 ///
 /// A contract knows the bytes of some devices, and of others (a socket) it doesn't: then `left` is `None`, and no
@@ -54,6 +67,12 @@ pub trait Write: Drop {
         ensures bytes { WriteAppends (written self.old) (written self.new) result piece.now }
         ensures failures { CountsFailure (failures self.old) (failures self.new) result }
         ensures beside { LeavesSide (read_side self.old) (read_side self.new) };
+
+    /// Why the last write that failed was refused; `None` if none failed, or the system doesn't say it. It is shown to a
+    /// person who reads that a write failed; no other output depends on it.
+    fn reason(&self) -> Option<WriteReason> {
+        None
+    }
 }
 
 /// A device over a reader or a writer of std, or over a stream that is both.
@@ -65,6 +84,18 @@ pub struct Device<T> {
     inner: T,
     read_failures: u64,
     write_failures: u64,
+    reason: Option<WriteReason>,
+}
+
+/// What this error says of a write that was refused.
+fn reason_of(error: &io::Error) -> Option<WriteReason> {
+    match error.kind() {
+        io::ErrorKind::StorageFull => Some(WriteReason::NoSpace),
+        io::ErrorKind::QuotaExceeded => Some(WriteReason::Quota),
+        io::ErrorKind::FileTooLarge => Some(WriteReason::FileTooLarge),
+        io::ErrorKind::BrokenPipe | io::ErrorKind::ConnectionReset => Some(WriteReason::Closed),
+        _ => None,
+    }
 }
 
 impl<T> Device<T> {
@@ -77,6 +108,7 @@ impl<T> Device<T> {
             inner,
             read_failures: 0,
             write_failures: 0,
+            reason: None,
         }
     }
 }
@@ -107,12 +139,17 @@ impl<T: io::Write + Drop> Write for Device<T> {
     ghost read_side = { λ d. record { bytes = None; failures = failed_reads d } };
 
     fn write(&mut self, piece: &[u8]) -> Result<usize, Failed> {
-        match self.inner.write(piece) {
-            Ok(n) if n > 0 || piece.is_empty() => Ok(n),
-            _ => {
-                self.write_failures = self.write_failures.saturating_add(1);
-                Err(Failed)
-            }
-        }
+        let reason = match self.inner.write(piece) {
+            Ok(n) if n > 0 || piece.is_empty() => return Ok(n),
+            Ok(_) => None,
+            Err(error) => reason_of(&error),
+        };
+        self.write_failures = self.write_failures.saturating_add(1);
+        self.reason = reason;
+        Err(Failed)
+    }
+
+    fn reason(&self) -> Option<WriteReason> {
+        self.reason
     }
 }

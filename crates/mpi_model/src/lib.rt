@@ -90,7 +90,7 @@ mod whole;
 
 pub use call::Call;
 pub use collective::{Collective, NonblockingCollective};
-pub use device::{Device, Failed, Read, Write};
+pub use device::{Device, Failed, Read, Write, WriteReason};
 pub use envelope::{
     CommRef, Envelope, Exchange, Mode, Peer, ProbeEnvelope, ReceiveEnvelope, SendEnvelope,
 };

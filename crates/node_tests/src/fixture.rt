@@ -113,7 +113,13 @@ fn takes(does: Does) -> u64 {
 }
 
 /// Adds a call that begins at as many seconds as its number says.
-fn add_call<R: Abort>(rt: &R, events: &mut Vec<Event>, peer: u32, number: u64, does: Does) {
+pub(crate) fn add_call<R: Abort>(
+    rt: &R,
+    events: &mut Vec<Event>,
+    peer: u32,
+    number: u64,
+    does: Does,
+) {
     let start = number.saturating_mul(1_000_000_000);
     let enter = Stamp::new(start, 0).expect(rt, "a time");
     let leave = Stamp::new(start.saturating_add(takes(does)), 0).expect(rt, "a time");

@@ -13,6 +13,7 @@
 //!   more is told so
 //! - `crew`, `gates`: `trace_crew`: what it leaves, and that its threads run at the same time
 //! - `refused`: nodes, worlds and crews that go on after a request for memory was refused
+//! - `storm`: `trace_world`: after each of 2,000 steps, its nodes beside new ones that the same segments reached
 //! - `unplugged`: `trace_cluster`: a network that gives no port or no connection
 //!
 //! What the program's verbs do, `replay` and `cluster` among them, is data in `tests/cases/`.
@@ -34,5 +35,7 @@ mod node;
 mod pipe;
 #[cfg(test)]
 mod refused;
+#[cfg(test)]
+mod storm;
 #[cfg(test)]
 mod unplugged;

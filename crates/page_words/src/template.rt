@@ -5,7 +5,7 @@ pub const HEAD: &[u8] = br##"<!DOCTYPE html>
 <html lang="en">
 <head>
 <meta charset="utf-8">
-<meta http-equiv="Content-Security-Policy" content="default-src 'none'; script-src 'sha256-os2nIE9kANc33xU5k6NYsuRWCumBhhr+hkwTyWSnmjw='; style-src 'sha256-D9XrieH85uig/M8oydOALf+zluJ4Ve7TdMQ+XRlfU7s='; base-uri 'none'; form-action 'none'; require-trusted-types-for 'script'; trusted-types 'none'">
+<meta http-equiv="Content-Security-Policy" content="default-src 'none'; script-src 'sha256-8ky3/0JpRRHDOX3ppuaDKJk/YDBOkE4ezQMtxvb+Yww='; style-src 'sha256-D9XrieH85uig/M8oydOALf+zluJ4Ve7TdMQ+XRlfU7s='; base-uri 'none'; form-action 'none'; require-trusted-types-for 'script'; trusted-types 'none'">
 <meta name="viewport" content="width=device-width, initial-scale=1">
 <meta name="color-scheme" content="light dark">
 <meta name="referrer" content="no-referrer">
@@ -171,45 +171,48 @@ pub const TAIL: &[u8] = br##"</script>
 const LONGEST = 160;
 // what would not be seen, or would turn the characters beside it around
 const HIDDEN = /[\u0000-\u001f\u007f-\u00a0\u00ad\u061c\u180e\u200b-\u200f\u2028-\u202f\u2060-\u206f\ufeff\ufff9-\ufffb]/u;
+const BEYOND = {
+  gap: "more is known behind a gap", contradiction: "two pieces contradict each other there",
+  unread: "the next call is one that mpimatch does not read", cut: "the text was cut there",
+};
 
 /** A text of a trace, to be read: hidden characters stand as escapes, and a long text is cut. */
 function shown(text, most = LONGEST) {
   const characters = Array.from(text.slice(0, 2 * most));
-  const front = characters.slice(0, most).map((it) => (HIDDEN.test(it) ? `\\u{${it.codePointAt(0).toString(16)}}` : it));
-  const isCut = characters.length > most || text.length > 2 * most;
-  return isCut ? `${front.join("")} .. (${text.length} characters)` : front.join("");
+  const front = characters.slice(0, most).map((it) => (HIDDEN.test(it) ? `\\u{${it.codePointAt(0).toString(16)}}` : it)).join("");
+  return characters.length > most || text.length > 2 * most ? `${front} .. (${text.length} characters)` : front;
 }
 
 /** `3 ranks`, `1 rank`. */
-function counted(count, one, many = `${one}s`) {
-  return `${count} ${count === 1 ? one : many}`;
+const counted = (count, one, many = `${one}s`) => `${count} ${count === 1 ? one : many}`;
+
+/** Items by their keys, in the order in which those come. */
+function grouped(items, keyOf) {
+  const groups = new Map();
+  for (const item of items) {
+    const key = keyOf(item);
+    if (!groups.has(key)) groups.set(key, []);
+    groups.get(key).push(item);
+  }
+  return groups;
 }
 
-/** Ranks in rising order as stretches of neighbours: [first, last] each. */
+/** Ranks in rising order as stretches of neighbours: `3`, `8 to 11`. */
 function stretchesOf(ranks) {
-  const stretches = [];
-  for (const rank of ranks) {
-    const last = stretches[stretches.length - 1];
-    if (last && last[1] + 1 === rank) {
-      last[1] = rank;
-    } else {
-      stretches.push([rank, rank]);
-    }
-  }
-  return stretches;
+  const firsts = ranks.filter((rank, i) => ranks[i - 1] !== rank - 1);
+  const lasts = ranks.filter((rank, i) => ranks[i + 1] !== rank + 1);
+  return firsts.map((first, i) => (first === lasts[i] ? `${first}` : `${first} to ${lasts[i]}`));
 }
 
 /** `rank 4`, `ranks 0 to 1, 3`, `ranks 0, 2, 4, .. (512 ranks)`. */
 function rankWords(ranks) {
-  const parts = stretchesOf(ranks).map(([first, last]) => (first === last ? `${first}` : `${first} to ${last}`));
+  const parts = stretchesOf(ranks);
   const told = parts.length > 8 ? `${parts.slice(0, 3).join(", ")}, .. (${ranks.length} ranks)` : parts.join(", ");
   return `${ranks.length === 1 ? "rank" : "ranks"} ${told}`;
 }
 
 /** A time in nanoseconds, which a text gives in seconds with nine decimals. */
-function nanoseconds(text) {
-  return BigInt(text.replace(".", ""));
-}
+const nanoseconds = (text) => BigInt(text.replace(".", ""));
 
 /** The seconds from one time to another, with three decimals or more. */
 function secondsBetween(from, to, decimals = 3) {
@@ -219,14 +222,10 @@ function secondsBetween(from, to, decimals = 3) {
 }
 
 /** The name of an MPI function, of its word in the answer: `MPI_Reduce_scatter` of `reduce_scatter`. */
-function functionOf(kind) {
-  return `MPI_${kind.charAt(0).toUpperCase()}${kind.slice(1)}`;
-}
+const functionOf = (kind) => `MPI_${kind.charAt(0).toUpperCase()}${kind.slice(1)}`;
 
 /** `head_to_head.c:13 in exchange`, where the texts tell from where a call was made. */
-function siteWords({ caller = "" }) {
-  return shown(caller.replace(/ \(([^()]*)\)$/, " in $1"));
-}
+const siteWords = ({ caller = "" }) => shown(caller.replace(/ \(([^()]*)\)$/, " in $1"));
 
 /** `call 4, head_to_head.c:13 in exchange`. */
 function callWords(call) {
@@ -235,11 +234,9 @@ function callWords(call) {
 }
 
 /** `r0.txt:25`, where the texts tell it. */
-function traceWords(call) {
-  if (typeof call.file !== "string") {
-    return "";
-  }
-  return call.line === undefined ? shown(call.file) : `${shown(call.file)}:${call.line}`;
+function traceWords({ file, line }) {
+  if (typeof file !== "string") return "";
+  return line === undefined ? shown(file) : `${shown(file)}:${line}`;
 }
 
 /** The answer, with what is looked up in it more than once. */
@@ -259,57 +256,31 @@ class Answer {
 
   /** Of each rank the places of the roots that have it in this list. */
   rootsBy(key) {
-    const places = new Map();
-    this.value.roots.forEach((root, at) => {
-      for (const rank of root[key]) {
-        if (!places.has(rank)) {
-          places.set(rank, []);
-        }
-        places.get(rank).push(at);
-      }
-    });
-    return places;
+    const pairs = this.value.roots.flatMap((root, at) => root[key].map((rank) => ({ rank, at })));
+    return new Map(Array.from(grouped(pairs, (it) => it.rank), ([rank, own]) => [rank, own.map((it) => it.at)]));
   }
 
   /** Since when a rank stands there, from the first time on, and for how long. */
   moment(standing) {
-    if (standing.wall === undefined || this.begin === null) {
-      return null;
-    }
+    if (standing.wall === undefined || this.begin === null) return null;
     const wall = nanoseconds(standing.wall);
     return { since: secondsBetween(this.begin, wall), lasts: secondsBetween(wall, this.end) };
   }
 
   /** Ranks that stand alike together, each group by its first rank; `more` is what else they have to share. */
   groupsOf(ranks, more = () => "") {
-    const groups = new Map();
-    for (const rank of ranks) {
-      const it = this.standing.get(rank);
-      if (it === undefined) {
-        continue;
-      }
-      const key = JSON.stringify([it.state, it.beyond, this.polls.has(rank), it.function, it.comm, it.k, it.caller, more(rank)]);
-      const group = groups.get(key);
-      if (group === undefined) {
-        groups.set(key, { first: it, ranks: [rank], calls: [it.call, it.call] });
-      } else {
-        group.ranks.push(rank);
-        group.calls = [Math.min(group.calls[0], it.call), Math.max(group.calls[1], it.call)];
-      }
-    }
-    return [...groups.values()];
+    const standing = ranks.map((rank) => this.standing.get(rank)).filter((it) => it !== undefined);
+    const key = (it) => JSON.stringify([it.state, it.beyond, this.polls.has(it.rank), it.function, it.comm, it.k, it.caller, more(it.rank)]);
+    return Array.from(grouped(standing, key).values(), (alike) => {
+      const calls = alike.map((it) => it.call).sort((a, b) => a - b);
+      return { first: alike[0], ranks: alike.map((it) => it.rank), calls: [calls[0], calls.at(-1)] };
+    });
   }
 
   /** The ranks that stand in the roots of such kinds, where those wait themselves, or behind them. */
   countIn(isWanted) {
-    const ranks = new Set();
-    for (const root of this.value.roots.filter(isWanted)) {
-      root.holds_up.forEach((rank) => ranks.add(rank));
-      if (root.kind === "mismatch" || root.kind === "cycle") {
-        root.ranks.forEach((rank) => ranks.add(rank));
-      }
-    }
-    return ranks.size;
+    const waiting = (it) => (it.kind === "mismatch" || it.kind === "cycle" ? [...it.ranks, ...it.holds_up] : it.holds_up);
+    return new Set(this.value.roots.filter(isWanted).flatMap(waiting)).size;
   }
 
   countOf(state) {
@@ -319,43 +290,26 @@ class Answer {
   /** The first line of `mpimatch explain`; of arguments that don't agree by what the value tells of them. */
   headline() {
     const all = this.value.ranks;
-    const ofAll = (count) => `${count} of ${counted(all, "rank")}`;
-    const stuck = this.value.stuck.length;
-    if (stuck > 0) {
-      return `${ofAll(stuck)} ${stuck === 1 ? "is" : "are"} stuck.`;
-    }
-    const mismatched = this.countIn((it) => it.kind === "mismatch");
-    if (mismatched > 0) {
-      const words = mismatched === 1 ? "stands in them or waits for those that do" : "stand in them or wait for those that do";
-      return `Collective calls don't match, which MPI forbids: ${ofAll(mismatched)} ${words}.`;
-    }
-    if (this.truncated.length > 0 || this.differing.length > 0) {
-      return `Arguments of calls don't agree, which MPI forbids: ${this.disagreementWords()}.`;
-    }
-    const cases = [
-      [(it) => it.kind === "silent" || it.kind === "open", "No rank is proved to be stuck, but ",
-        "waits for ranks that give no sign.", "wait for ranks that give no sign."],
-      [(it) => it.kind === "cycle" && !it.proved, "No rank is proved to be stuck, but ",
-        "waits for itself, by polling.", "wait for one another, some of them by polling."],
-      [(it) => it.kind === "ended", "No rank is proved to be stuck, but ",
-        "waits for ranks that have ended, by polling.", "wait for ranks that have ended, some of them by polling."],
-    ];
-    for (const [isWanted, front, one, many] of cases) {
-      const count = this.countIn(isWanted);
-      if (count > 0) {
-        return `${front}${ofAll(count)} ${count === 1 ? one : many}`;
-      }
-    }
-    const ended = this.countOf("ended");
-    const others = ended < all ? `, ${all - ended} ${all - ended === 1 ? "is" : "are"} not seen to wait` : "";
-    return `Nobody waits: ${counted(ended, "rank")} ended${others}.`;
+    const told = (count, front, one, many) => (count === 0 ? "" : `${front}${count} of ${counted(all, "rank")} ${count === 1 ? one : many}.`);
+    const unproved = "No rank is proved to be stuck, but ";
+    const [ended, disagree] = [this.countOf("ended"), this.truncated.length + this.differing.length > 0];
+    return told(this.value.stuck.length, "", "is stuck", "are stuck")
+      || told(this.countIn((it) => it.kind === "mismatch"), "Collective calls don't match, which MPI forbids: ",
+        "stands in them or waits for those that do", "stand in them or wait for those that do")
+      || (disagree ? `Arguments of calls don't agree, which MPI forbids: ${this.disagreementWords()}.` : "")
+      || told(this.countIn((it) => it.kind === "silent" || it.kind === "open"), unproved,
+        "waits for ranks that give no sign", "wait for ranks that give no sign")
+      || told(this.countIn((it) => it.kind === "cycle" && !it.proved), unproved,
+        "waits for itself, by polling", "wait for one another, some of them by polling")
+      || told(this.countIn((it) => it.kind === "ended"), unproved,
+        "waits for ranks that have ended, by polling", "wait for ranks that have ended, some of them by polling")
+      || `Nobody waits: ${counted(ended, "rank")} ended${ended < all ? `, ${counted(all - ended, "is", "are")} not seen to wait` : ""}.`;
   }
 
   /** The first message that is longer than its receive, or the first round in which arguments differ. */
   disagreementWords() {
-    const [longer] = this.truncated;
-    if (longer !== undefined) {
-      const { message, receive, sent, room } = longer;
+    if (this.truncated.length > 0) {
+      const [{ message, receive, sent, room }] = this.truncated;
       return `rank ${receive.rank} has room for ${counted(room, "element")} (${callWords(receive)}), and the message of rank ${message.rank} `
         + `(${callWords(message)}) has ${sent}`;
     }
@@ -366,118 +320,82 @@ class Answer {
 
   /** Its second line. */
   summary() {
-    const [inside, behind, ended, none] = ["in", "behind", "ended", "none"].map((state) => this.countOf(state));
-    const parts = [
-      counted(inside, "stands in a call", "stand in a call"), counted(behind, "is behind its last one", "are behind their last one"),
-      counted(ended, "has ended", "have ended"),
-    ];
-    if (none > 0) {
-      parts.push(counted(none, "has no call that can be read", "have no call that can be read"));
-    }
-    return `Of ${counted(this.value.ranks, "rank")}, ${parts.join(", ")}.`;
+    const told = (state, one, many) => counted(this.countOf(state), one, many);
+    const parts = [told("in", "stands in a call", "stand in a call"), told("behind", "is behind its last one", "are behind their last one"),
+      told("ended", "has ended", "have ended"), told("none", "has no call that can be read", "have no call that can be read")];
+    return `Of ${counted(this.value.ranks, "rank")}, ${parts.slice(0, this.countOf("none") > 0 ? 4 : 3).join(", ")}.`;
   }
 
   /** What ranks do that stand alike: `are in MPI_Barrier on object 2 (round 0, call 5, main.c:10 in main)`. */
   groupWords({ first, ranks, calls }) {
-    const isOne = ranks.length === 1;
-    if (first.state === "none") {
-      return `${isOne ? "has" : "have"} no call that can be read`;
-    }
-    const state = first.state === "ended" ? (isOne ? "has ended," : "have ended,") : `${isOne ? "is" : "are"} ${first.state}`;
+    const [is, has, poll] = ranks.length === 1 ? ["is", "has", "it polls"] : ["are", "have", "they poll"];
+    if (first.state === "none") return `${has} no call that can be read`;
+    const state = first.state === "ended" ? `${has} ended,` : `${is} ${first.state}`;
     const object = first.comm === undefined ? "" : ` on object ${first.comm}`;
     const round = first.k === undefined ? "" : `round ${first.k}, `;
     const site = first.caller === undefined ? "" : `, ${siteWords(first)}`;
     const numbers = calls[0] === calls[1] ? `call ${calls[0]}` : `calls ${calls[0]} to ${calls[1]}`;
-    const polls = this.polls.has(first.rank) ? (isOne ? "; it polls" : "; they poll") : "";
+    const polls = this.polls.has(first.rank) ? `; ${poll}` : "";
     return `${state} ${shown(first.function)}${object} (${round}${numbers}${site})${polls}${this.beyondWords(first)}`;
   }
 
-  beyondWords(standing) {
-    const words = {
-      gap: "more is known behind a gap", contradiction: "two pieces contradict each other there",
-      unread: "the next call is one that mpimatch does not read", cut: "the text was cut there",
-    };
-    return standing.beyond === null ? "" : `; ${words[standing.beyond] ?? standing.beyond}`;
-  }
-
-  /** The round of a root whose calls don't match. */
-  roundOf(root) {
-    return this.value.mismatched.find((it) => it.comm === root.comm && it.k === root.k);
+  beyondWords({ beyond }) {
+    return beyond === null ? "" : `; ${BEYOND[beyond] ?? beyond}`;
   }
 
   /** What may be the matter with ranks that give no sign and stand alike. */
-  silenceWords({ first, ranks }) {
+  silenceWords({ first: { state, beyond }, ranks }) {
     const isOne = ranks.length === 1;
-    if (first.beyond !== null || first.state === "ended") {
-      return "";
-    }
-    if (first.state === "none") {
-      return isOne ? ": its text is missing or has none" : ": their texts are missing or have none";
-    }
-    if (first.state === "in") {
-      return `, and ${isOne ? "hasn't" : "haven't"} returned: mpimatch doesn't know what that call waits for`;
-    }
+    if (beyond !== null || state === "ended") return "";
+    if (state === "none") return isOne ? ": its text is missing or has none" : ": their texts are missing or have none";
+    if (state === "in") return `, and ${isOne ? "hasn't" : "haven't"} returned: mpimatch doesn't know what that call waits for`;
     return isOne
       ? ", and makes no further call: it computes, has died, or its trace ends too early"
       : ", and make no further call: they compute, have died, or their traces end too early";
   }
 
-  /** Whether ranks that have ended are more than those that wait for them. */
-  isLate(root) {
-    return root.ranks.length > root.holds_up.length;
-  }
-
   /** What a root is, in a few words. */
-  rootWords(root) {
-    const isOne = root.ranks.length === 1;
-    switch (root.kind) {
-      case "mismatch":
-        return `round ${root.k} on object ${root.comm}: the calls of its ranks don't match`;
-      case "cycle":
-        return `${rankWords(root.ranks)} ${isOne ? "waits for itself" : "wait for one another"}${root.proved ? "" : ", some by polling"}`;
-      case "ended":
-        return `${rankWords(root.ranks)} ${isOne ? "has" : "have"} ended${this.isLate(root) ? ", and others make a call too many, or these one too few" : ""}`;
-      case "silent":
-        return `${rankWords(root.ranks)} ${isOne ? "gives" : "give"} no sign`;
-      case "open":
-        return `${rankWords(root.ranks)} may still go on`;
-      default:
-        return `${rankWords(root.ranks)}: ${shown(root.kind)}`;
-    }
+  rootWords({ kind, ranks, holds_up: waiting, comm, k, proved }) {
+    const [those, isOne] = [rankWords(ranks), ranks.length === 1];
+    // (more ranks have ended than wait for them)
+    const late = ranks.length > waiting.length ? ", and others make a call too many, or these one too few" : "";
+    const words = {
+      mismatch: `round ${k} on object ${comm}: the calls of its ranks don't match`,
+      cycle: `${those} ${isOne ? "waits for itself" : "wait for one another"}${proved ? "" : ", some by polling"}`,
+      ended: `${those} ${isOne ? "has" : "have"} ended${late}`,
+      silent: `${those} ${isOne ? "gives" : "give"} no sign`,
+      open: `${those} may still go on`,
+    };
+    return words[kind] ?? `${those}: ${shown(kind)}`;
   }
 
   /** What stands in a root: of a round its calls, and else its ranks. Each has its ranks and its words. */
-  membersOf(root) {
-    const round = root.kind === "mismatch" ? this.roundOf(root) : undefined;
+  membersOf({ kind: sort, comm, k, ranks: own }) {
+    const round = sort === "mismatch" ? this.value.mismatched.find((it) => it.comm === comm && it.k === k) : undefined;
     if (round === undefined) {
-      const silence = (it) => (root.kind === "silent" ? this.silenceWords(it) : "");
-      return this.groupsOf(root.ranks).map((it) => ({ ranks: it.ranks, words: `${this.groupWords(it)}${silence(it)}` }));
+      const silence = (it) => (sort === "silent" ? this.silenceWords(it) : "");
+      return this.groupsOf(own).map((it) => ({ ranks: it.ranks, words: `${this.groupWords(it)}${silence(it)}` }));
     }
-    return round.groups.map(({ kind, root: rank, ranks, call }) => {
-      const of = rank === null ? "" : ` with root ${rank}`;
-      const whose = ranks.length === 1 ? "" : `rank ${call.rank}: `;
-      return { ranks, words: `${ranks.length === 1 ? "calls" : "call"} ${functionOf(kind)}${of} (${whose}${callWords(call)})` };
+    return round.groups.map(({ kind, root, ranks, call }) => {
+      const of = root === null ? "" : ` with root ${root}`;
+      const [calls, whose] = ranks.length === 1 ? ["calls", ""] : ["call", `rank ${call.rank}: `];
+      return { ranks, words: `${calls} ${functionOf(kind)}${of} (${whose}${callWords(call)})` };
     });
   }
 }
 
 // Who waits for whom, drawn: on the left ranks that wait and stand alike, on the right what holds them up.
 
-const CHARACTER = 7.25; // the width of a character of the fixed font, the height of a line, and what lies around the lines
-const LINE = 16;
-const AROUND = 9;
+// the width of a character of the fixed font, the height of a line, and what lies around the lines
+const [CHARACTER, LINE, AROUND] = [7.25, 16, 9];
 const LONGEST_LINE = 46;
-const MOST_BOXES = 40;
-const MOST_MEMBERS = 8;
-const COLUMN_GAP = 84;
-const BOX_GAP = 18;
+const PARTS_OF_LINE = new RegExp(`.{1,${LONGEST_LINE}}`, "gsu");
+const [MOST_BOXES, MOST_MEMBERS] = [40, 8];
+const [COLUMN_GAP, BOX_GAP] = [84, 18];
 
 /** An element of SVG with these attributes. */
 function drawn(name, attributes = {}, ...children) {
-  const element = document.createElementNS("http://www.w3.org/2000/svg", name);
-  for (const [key, value] of Object.entries(attributes)) {
-    element.setAttribute(key, String(value));
-  }
+  const element = having(document.createElementNS("http://www.w3.org/2000/svg", name), attributes);
   element.append(...children);
   return element;
 }
@@ -485,20 +403,12 @@ function drawn(name, attributes = {}, ...children) {
 /** Words as lines of a box: broken between words, where they are too long, and within one that is longer than a line. */
 function linesOf(words) {
   const lines = [];
-  let line = "";
   for (const word of words.split(" ")) {
-    let rest = Array.from(word);
-    if (line !== "" && line.length + 1 + rest.length > LONGEST_LINE) {
-      lines.push(line);
-      line = "";
-    }
-    while (rest.length > LONGEST_LINE) {
-      lines.push(rest.slice(0, LONGEST_LINE).join(""));
-      rest = rest.slice(LONGEST_LINE);
-    }
-    line = line === "" ? rest.join("") : `${line} ${rest.join("")}`;
+    const isFit = lines.length > 0 && lines.at(-1).length + 1 + word.length <= LONGEST_LINE;
+    const line = isFit ? `${lines.pop()} ${word}` : word;
+    lines.push(...(line.match(PARTS_OF_LINE) ?? [""]));
   }
-  return [...lines, line];
+  return lines;
 }
 
 /** A box of a picture: its lines, each strong or not, and what it has. */
@@ -508,8 +418,7 @@ function boxOf(parts, about) {
   return { ...about, lines, width: longest * CHARACTER + 2 * AROUND, height: lines.length * LINE + 2 * AROUND - 4 };
 }
 
-/** The boxes of ranks that wait: alike, and for the same roots. They stand by the middle of their roots; the last one is for those that
- * are too many. */
+/** The boxes of ranks that wait: alike, and for the same roots, by the middle of those; the last one has those that are too many. */
 function waitingBoxes(answer) {
   const ranks = [...answer.holders.keys()].sort((a, b) => a - b);
   const middle = ({ ranks: [rank] }) => answer.holders.get(rank).reduce((sum, it) => sum + it, 0) / answer.holders.get(rank).length;
@@ -528,66 +437,49 @@ function waitingBoxes(answer) {
 
 /** The box of a root: what it is, and its ranks with where they stand. */
 function rootBox(answer, root, at) {
-  const members = answer.membersOf(root);
-  const parts = [{ words: `${at + 1} ${root.kind}: ${answer.rootWords(root)}`, strong: true }];
-  for (const { ranks, words } of members.slice(0, MOST_MEMBERS)) {
-    parts.push({ words: `${rankWords(ranks)} ${words}` });
-  }
-  if (members.length > MOST_MEMBERS) {
-    parts.push({ words: `and ${counted(members.length - MOST_MEMBERS, "group")} more` });
-  }
-  return boxOf(parts, { ranks: root.ranks, root: at, kind: root.kind });
+  const members = answer.membersOf(root).map(({ ranks, words }) => ({ words: `${rankWords(ranks)} ${words}` }));
+  const more = members.splice(MOST_MEMBERS).length;
+  if (more > 0) members.push({ words: `and ${counted(more, "group")} more` });
+  const head = { words: `${at + 1} ${root.kind}: ${answer.rootWords(root)}`, strong: true };
+  return boxOf([head, ...members], { ranks: root.ranks, root: at, kind: root.kind });
 }
 
 /** Puts boxes below one another, the column in the middle of this height. */
 function place(boxes, x, height) {
   let y = (height - columnHeight(boxes)) / 2;
   for (const box of boxes) {
-    box.x = x;
-    box.y = y;
+    Object.assign(box, { x, y });
     y += box.height + BOX_GAP;
   }
 }
 
-function columnHeight(boxes) {
-  return boxes.reduce((sum, it) => sum + it.height, BOX_GAP * Math.max(0, boxes.length - 1));
-}
+const columnHeight = (boxes) => boxes.reduce((sum, it) => sum + it.height, BOX_GAP * Math.max(0, boxes.length - 1));
 
 /** A box as it is drawn: a button that tells its ranks. */
 function drawnBox(box, point) {
-  const rows = box.lines.map(({ text, strong }, i) =>
-    drawn("text", { x: box.x + AROUND, y: box.y + AROUND + 10 + i * LINE, class: strong ? "strong" : "plain" }, text));
-  const outline = { x: box.x, y: box.y, width: box.width, height: box.height, rx: 4 };
-  const isBold = box.kind === "ended" || box.kind === "silent";
+  const { x, y, width, height, kind, root, lines } = box;
+  const texts = lines.map(({ text, strong }, i) =>
+    drawn("text", { x: x + AROUND, y: y + AROUND + 10 + i * LINE, class: strong ? "strong" : "plain" }, text));
+  const frame = drawn("rect", { class: "frame", x: x - 4, y: y - 4, width: width + 8, height: height + 8, rx: 6 });
   const group = drawn("g", {
-    class: `${box.root === undefined ? "waits" : "root"}${isBold ? " bold" : ""}`, role: "button", tabindex: 0,
-    "aria-label": box.lines.map((it) => it.text).join(" "), "aria-describedby": "pointed",
-  }, drawn("rect", { class: "box", ...outline }), ...rows);
-  if (box.kind === "mismatch") {
-    group.append(drawn("rect", { class: "frame", x: box.x - 4, y: box.y - 4, width: box.width + 8, height: box.height + 8, rx: 6 }));
-  }
-  const tell = (isChosen) => point(box, isChosen);
-  group.addEventListener("pointerenter", () => tell(false));
-  group.addEventListener("focus", () => tell(false));
-  group.addEventListener("click", () => tell(true));
-  group.addEventListener("keydown", (event) => {
-    if (event.key === "Enter" || event.key === " ") {
-      event.preventDefault();
-      tell(true);
-    }
-  });
-  return group;
+    class: `${root === undefined ? "waits" : "root"}${kind === "ended" || kind === "silent" ? " bold" : ""}`, role: "button", tabindex: 0,
+    "aria-label": lines.map((it) => it.text).join(" "), "aria-describedby": "pointed",
+  }, drawn("rect", { class: "box", x, y, width, height, rx: 4 }), ...texts, ...(kind === "mismatch" ? [frame] : []));
+  const [look, choose] = [() => point(box, false), () => point(box, true)];
+  const press = (event) => {
+    if (event.key !== "Enter" && event.key !== " ") return;
+    event.preventDefault();
+    choose();
+  };
+  return listening(group, { pointerenter: look, focus: look, click: choose, keydown: press });
 }
 
 /** The tip of an arrow that comes from the left, or from the right. */
-function tip(x, y, side) {
-  return drawn("path", { class: "tip", d: `M ${x} ${y} l ${-9 * side} -4.5 v 9 z` });
-}
+const tip = (x, y, side) => drawn("path", { class: "tip", d: `M ${x} ${y} l ${-9 * side} -4.5 v 9 z` });
 
 /** An arrow from a box that waits to a root. */
 function arrow(from, to, enters) {
-  const x = from.x + from.width;
-  const y = from.y + from.height / 2;
+  const [x, y] = [from.x + from.width, from.y + from.height / 2];
   const end = to.x - (to.kind === "mismatch" ? 4 : 0);
   const bend = (x + end) / 2;
   return [drawn("path", { class: "edge", d: `M ${x} ${y} C ${bend} ${y} ${bend} ${enters} ${end - 8} ${enters}` }), tip(end, enters, 1)];
@@ -595,8 +487,7 @@ function arrow(from, to, enters) {
 
 /** The arrow of ranks that wait for one another, back to their own box. */
 function loop(box) {
-  const x = box.x + box.width;
-  const y = box.y + box.height / 2;
+  const [x, y] = [box.x + box.width, box.y + box.height / 2];
   return [drawn("path", { class: "edge", d: `M ${x} ${y - 9} C ${x + 42} ${y - 22} ${x + 42} ${y + 22} ${x + 8} ${y + 9}` }), tip(x, y + 9, -1)];
 }
 
@@ -609,14 +500,11 @@ function pictureOf(answer, point) {
   place(waiting, 0, height);
   place(roots, waiting.length > 0 ? left + COLUMN_GAP : 0, height);
   const right = Math.max(...roots.map((it) => it.x + it.width)) + 46;
-  const edges = [];
-  for (const root of roots) {
+  const edges = roots.flatMap((root) => {
     const from = waiting.filter((it) => it.roots.includes(root.root));
-    from.forEach((it, i) => edges.push(...arrow(it, root, root.y + (root.height * (i + 1)) / (from.length + 1))));
-    if (root.kind === "cycle") {
-      edges.push(...loop(root));
-    }
-  }
+    const arrows = from.flatMap((it, i) => arrow(it, root, root.y + (root.height * (i + 1)) / (from.length + 1)));
+    return root.kind === "cycle" ? [...arrows, ...loop(root)] : arrows;
+  });
   const boxes = [...waiting, ...roots].map((it) => drawnBox(it, point));
   return drawn("svg", {
     viewBox: `-8 -8 ${right + 16} ${height + 16}`, width: right + 16, height: height + 16, role: "group",
@@ -631,31 +519,34 @@ const FIRST_ROWS = 50;
 /** An element of HTML with this class, and text or elements in it. */
 function made(name, className, ...children) {
   const element = document.createElement(name);
-  if (className !== "") {
-    element.className = className;
-  }
+  if (className !== "") element.className = className;
   element.append(...children);
   return element;
 }
 
-/** A name that comes from a trace: a short one stays on its line. */
-function named(text) {
-  return made("span", text.length <= 36 ? "name short" : "name", text);
+/** An element, with these attributes too. */
+function having(element, attributes) {
+  Object.entries(attributes).forEach(([name, value]) => element.setAttribute(name, `${value}`));
+  return element;
 }
 
-/** A list of names, one below the other; of one the name, of none nothing. */
-function listed(names) {
-  return names.length > 1 ? made("ul", "", ...names.map((it) => made("li", "", named(it)))) : named(names.join(""));
+/** An element that does so where such events come. */
+function listening(element, acts) {
+  Object.entries(acts).forEach(([event, act]) => element.addEventListener(event, act));
+  return element;
 }
+
+const button = (text, act, className = "plain") => listening(having(made("button", className, text), { type: "button" }), { click: act });
+
+/** A name that comes from a trace: a short one stays on its line. */
+const named = (text) => made("span", text.length <= 36 ? "name short" : "name", text);
+
+/** Items one below the other. */
+const list = (items) => made("ul", "", ...items.map((it) => made("li", "", it)));
 
 /** What two cells are sorted by: numbers by their size and before texts, texts by their characters. */
 function compared(a, b) {
-  if (typeof a === "number" && typeof b === "number") {
-    return a - b;
-  }
-  if (typeof a === "number" || typeof b === "number") {
-    return typeof a === "number" ? -1 : 1;
-  }
+  if (typeof a !== typeof b) return typeof a === "number" ? -1 : 1;
   return a < b ? -1 : Number(a > b);
 }
 
@@ -665,10 +556,8 @@ function ranksWanted(words) {
   return stretches.length === 0 ? null : (rank) => stretches.some(([first, last]) => first <= rank && rank <= last);
 }
 
-/**
- * A table. A row has its cells in the order of the columns, its ranks, and perhaps the object that it is about. A cell has what is
- * shown, and a number or a text by which it is sorted. A column in which nothing stands is left out.
- */
+/** A table. A row has its cells in the order of the columns, its ranks, and perhaps the object that it is about. A cell has what is
+ * shown, and a number or a text by which it is sorted. A column in which nothing stands is left out. */
 class Table {
   constructor(name, columns, rows, about = "") {
     const isUsed = (_, at) => at === 0 || rows.some((it) => it.cells[at].by !== "");
@@ -679,87 +568,57 @@ class Table {
     this.most = FIRST_ROWS;
     this.fits = () => true;
     this.count = made("span", "count");
-    this.heads = this.columns.map((head, at) => this.headOf(head, at));
+    this.heads = this.columns.map((head, at) => {
+      const isNumber = this.rows.some((it) => it.cells[at].isNumber);
+      return having(made("th", isNumber ? "number" : "", button(head, () => this.sortBy(at), "")), { scope: "col" });
+    });
     this.body = made("tbody", "");
-    this.more = made("button", "plain");
-    this.more.type = "button";
-    this.more.addEventListener("click", () => this.showAll());
+    this.more = button("", () => {
+      this.most = Infinity;
+      this.show();
+    });
     const caption = made("caption", "", `${name} `, this.count);
     const table = made("table", "", caption, made("thead", "", made("tr", "", ...this.heads)), this.body);
-    this.element = made("div", "rows", table, this.more);
-    this.element.tabIndex = 0;
-    this.element.setAttribute("role", "region");
-    this.element.setAttribute("aria-label", name);
+    this.element = having(made("div", "rows", table, this.more), { tabindex: 0, role: "region", "aria-label": name });
     this.show();
-  }
-
-  headOf(head, at) {
-    const button = made("button", "", head);
-    button.type = "button";
-    button.addEventListener("click", () => this.sortBy(at));
-    const cell = made("th", this.rows.some((it) => it.cells[at].isNumber) ? "number" : "", button);
-    cell.scope = "col";
-    return cell;
   }
 
   sortBy(column) {
     const isRising = this.sorted.column !== column || !this.sorted.isRising;
     this.sorted = { column, isRising };
+    const [order, sign] = isRising ? ["ascending", " \u25b2"] : ["descending", " \u25bc"];
     this.heads.forEach((cell, at) => {
-      cell.removeAttribute("aria-sort");
-      cell.firstChild.textContent = this.columns[at];
+      having(cell, { "aria-sort": at === column ? order : "none" }).firstChild.textContent = `${this.columns[at]}${at === column ? sign : ""}`;
     });
-    this.heads[column].setAttribute("aria-sort", isRising ? "ascending" : "descending");
-    this.heads[column].firstChild.textContent = `${this.columns[column]} ${isRising ? "\u25b2" : "\u25bc"}`;
-    this.show();
-  }
-
-  showAll() {
-    this.most = Infinity;
     this.show();
   }
 
   /** Shows the rows that fit, and answers how many there are. */
-  filter(fits) {
+  show(fits = this.fits) {
     this.fits = fits;
-    return this.show();
-  }
-
-  show() {
-    const rows = this.rows.filter((it) => this.fits(it));
+    const rows = this.rows.filter(fits);
     const { column, isRising } = this.sorted;
-    if (column >= 0) {
-      rows.sort((a, b) => compared(a.cells[column].by, b.cells[column].by) * (isRising ? 1 : -1));
+    if (column >= 0) rows.sort((a, b) => compared(a.cells[column].by, b.cells[column].by) * (isRising ? 1 : -1));
+    this.body.replaceChildren();
+    for (const { cells } of rows.slice(0, this.most)) {
+      const shownCells = cells.map(({ shown: it, isNumber }, at) => made(at === 0 ? "th" : "td", isNumber ? "number" : "", it));
+      having(shownCells[0], { scope: "row" });
+      this.body.append(made("tr", "", ...shownCells));
     }
-    const fragment = document.createDocumentFragment();
-    rows.slice(0, this.most).forEach((it) => fragment.append(this.shownRow(it)));
-    this.body.replaceChildren(fragment);
     this.count.textContent = rows.length < this.rows.length ? `(${rows.length} of ${this.rows.length} rows) ${this.about}` : this.about;
     this.more.textContent = `Show all ${rows.length} rows`;
     this.more.hidden = rows.length <= this.most;
     return rows.length;
   }
-
-  shownRow(row) {
-    return made("tr", "", ...row.cells.map(({ shown: content, isNumber }, at) => {
-      const cell = made(at === 0 ? "th" : "td", isNumber ? "number" : "", content);
-      if (at === 0) {
-        cell.scope = "row";
-      }
-      return cell;
-    }));
-  }
 }
 
 /** A cell of a number, or of none. */
-function number(n, text = `${n}`) {
-  return n === null || n === undefined ? { by: "", shown: "" } : { by: Number(n), shown: text, isNumber: true };
-}
+const number = (n, text = `${n}`) => (n === null || n === undefined ? { by: "", shown: "" } : { by: Number(n), shown: text, isNumber: true });
 
 /** A cell of words, or of several, one below the other. */
 function words(...parts) {
   const all = parts.filter((it) => it !== "");
-  return { by: all.join(" "), shown: listed(all) };
+  return { by: all.join(" "), shown: all.length > 1 ? list(all.map(named)) : named(all.join("")) };
 }
 
 /** A cell of ranks. */
@@ -769,32 +628,20 @@ function ranksCell(ranks) {
 }
 
 /** A row, with the text in which a filter looks. */
-function rowOf(ranks, object, ...cells) {
-  return { ranks, object, cells, text: cells.map((it) => `${it.by}`).join("\n").toLowerCase() };
-}
+const rowOf = (ranks, object, ...cells) => ({ ranks, object, cells, text: cells.map((it) => `${it.by}`).join("\n").toLowerCase() });
 
 /** What ranks are in the diagnosis: proved to be stuck, of a root, behind roots, polling. */
 function partsOf(answer, { first, ranks }) {
-  const parts = [];
   const stuck = ranks.filter((rank) => answer.stuck.has(rank)).length;
-  if (stuck > 0) {
-    parts.push(stuck === ranks.length ? "proved to be stuck" : `${stuck} of ${ranks.length} proved to be stuck`);
-  }
-  const numbers = (roots) => roots.map((at) => at + 1).slice(0, 8).join(", ");
-  const own = [...new Set(ranks.flatMap((rank) => answer.ownRoots.get(rank) ?? []))];
-  const behind = [...new Set(ranks.flatMap((rank) => answer.holders.get(rank) ?? []))];
-  if (own.length > 0) {
-    parts.push(`holds up the run (${numbers(own)})`);
-  }
-  if (behind.length > 0) {
-    parts.push(`held up by ${numbers(behind)}`);
-  }
-  const polls = answer.polls.get(first.rank);
-  if (polls !== undefined) {
-    parts.push(`polls: ${polls.count} tests or probes without success, ${polls.calls.map(callWords).slice(0, 3).join("; ")}`);
-  }
-  const beyond = answer.beyondWords(first).slice(2);
-  return beyond === "" ? parts : [...parts, beyond];
+  const numbers = (roots) => [...new Set(ranks.flatMap((rank) => roots.get(rank) ?? []))].map((at) => at + 1).slice(0, 8).join(", ");
+  const [own, behind, polls] = [numbers(answer.ownRoots), numbers(answer.holders), answer.polls.get(first.rank)];
+  return [
+    stuck === 0 ? "" : `${stuck === ranks.length ? "" : `${stuck} of ${ranks.length} `}proved to be stuck`,
+    own === "" ? "" : `holds up the run (${own})`, behind === "" ? "" : `held up by ${behind}`,
+    polls === undefined ? ""
+      : `polls: ${polls.count} tests or probes without success, ${polls.calls.map(callWords).slice(0, 3).join("; ")}`,
+    answer.beyondWords(first).slice(2),
+  ];
 }
 
 /** How ranks stand that stand alike. */
@@ -873,27 +720,18 @@ function doubtRows(doubts) {
 
 // The last moments, drawn: the last calls of some ranks against time, with their messages and their rounds.
 
-const FIRST_LANES = 12;
-const LANE = 24; // the height of a lane, and of a bar in it
-const BAR = 14;
-const NAMES = 76; // the width of the names of lanes, and of what lies behind the end, where calls go on that haven't returned
-const AFTER = 104;
-const TICKS = 5;
+const [FIRST_LANES, TICKS] = [12, 5];
+// the height of a lane, and of a bar in it
+const [LANE, BAR] = [24, 14];
+// the width of the names of lanes, and of what lies behind the end, where calls go on that haven't returned
+const [NAMES, AFTER] = [76, 104];
 
 /** The lanes of rows: of each rank its calls, each with its rows. */
 function lanesOf(rows) {
-  const lanes = new Map();
-  for (const row of rows) {
-    const { rank, call } = row;
-    const lane = lanes.get(rank) ?? [];
-    lanes.set(rank, lane);
-    if (lane.at(-1)?.call === call) {
-      lane.at(-1).rows.push(row);
-    } else {
-      lane.push({ rank, call, rows: [row], enter: nanoseconds(row.enter), leaves: row.return === null ? null : nanoseconds(row.return) });
-    }
-  }
-  return [...lanes.values()];
+  return Array.from(grouped(rows, (it) => it.rank).values(), (ofRank) => Array.from(grouped(ofRank, (it) => it.call).values(), (own) => {
+    const [{ rank, call, enter, return: leaves }] = own;
+    return { rank, call, rows: own, enter: nanoseconds(enter), leaves: leaves === null ? null : nanoseconds(leaves) };
+  }));
 }
 
 /** What a row says beside its times. */
@@ -910,16 +748,10 @@ function rowWords(row) {
 /** The lanes, of whose time a stretch is shown; `tell(call)` is told at which call somebody points. */
 class Moments {
   constructor(answer, tell) {
-    this.answer = answer;
-    this.tell = tell;
+    // (time is shown between its parts `from` and `to`)
+    Object.assign(this, { answer, tell, most: FIRST_LANES, isTrue: false, from: 0, to: 1, chosen: null, times: [] });
     this.lanes = lanesOf(answer.value.last_calls);
-    this.most = FIRST_LANES;
-    this.isTrue = false;
-    this.from = 0; // the parts of all time between which it is shown
-    this.to = 1;
-    this.chosen = null;
-    this.element = drawn("svg", { tabindex: 0, role: "group" });
-    this.element.addEventListener("keydown", (event) => this.press(event));
+    this.element = listening(drawn("svg", { tabindex: 0, role: "group" }), { keydown: (event) => this.press(event) });
   }
 
   /** Where a moment lies in all time, from 0 to 1. */
@@ -978,10 +810,9 @@ class Moments {
       ArrowLeft: () => this.go(-1, 0), ArrowRight: () => this.go(1, 0), ArrowUp: () => this.go(0, -1), ArrowDown: () => this.go(0, 1),
       "+": () => this.zoom(0.5), "=": () => this.zoom(0.5), "-": () => this.zoom(2), 0: () => this.show(0, 1),
     }[event.key];
-    if (act !== undefined && !event.ctrlKey && !event.metaKey && !event.altKey) {
-      event.preventDefault();
-      act();
-    }
+    if (act === undefined || event.ctrlKey || event.metaKey || event.altKey) return;
+    event.preventDefault();
+    act();
   }
 
   /** Goes to the call before or behind the chosen one, or to that of the next lane that is as far from the last one. */
@@ -991,32 +822,25 @@ class Moments {
     const at = this.laneOf.get(from.rank);
     const lane = bound(at + down, this.seen);
     this.chosen = bound(lane.length - this.seen[at].length + this.seen[at].indexOf(from) + across, lane);
-    const part = this.partOf(this.chosen.enter);
-    if (part < this.from || part > this.to) {
-      const half = (this.to - this.from) / 2;
-      this.show(part - half, part + half);
-    }
+    const [part, half] = [this.partOf(this.chosen.enter), (this.to - this.from) / 2];
+    if (part < this.from || part > this.to) this.show(part - half, part + half);
     this.bars.get(this.chosen).focus();
   }
 
   bar(call) {
     const [x, end] = this.stretchOf(call);
-    const y = this.yOf(call.rank);
-    const isOpen = call.leaves === null;
+    const [y, isOpen] = [this.yOf(call.rank), call.leaves === null];
     const box = drawn("path", { class: "box", d: `M ${end} ${y - BAR / 2} H ${x} v ${BAR} H ${end}${isOpen ? "" : " z"}` });
     const group = drawn("g", { class: isOpen ? "bar open" : "bar", role: "img", tabindex: -1, "aria-label": this.wordsOf(call) }, box);
     const name = shown(call.rows[0].function ?? "", 40).replace(/^MPI_/, "");
     const front = Math.max(x, NAMES) + 5;
-    if (Math.min(end, this.width) - front > name.length * CHARACTER) {
-      group.append(drawn("text", { x: front, y: y + 4 }, name));
-    }
-    group.addEventListener("pointerenter", () => this.tell(call));
-    group.addEventListener("focus", () => {
+    if (Math.min(end, this.width) - front > name.length * CHARACTER) group.append(drawn("text", { x: front, y: y + 4 }, name));
+    this.bars.set(call, group);
+    const choose = () => {
       this.chosen = call;
       this.tell(call);
-    });
-    this.bars.set(call, group);
-    return group;
+    };
+    return listening(group, { pointerenter: () => this.tell(call), focus: choose });
   }
 
   lane(calls) {
@@ -1028,14 +852,9 @@ class Moments {
 
   /** A band behind the calls of each round that two lanes have at least. */
   bands() {
-    const rounds = new Map();
-    for (const { call, row: { object, round } } of this.rows.values()) {
-      if (object !== null && round !== null) {
-        const key = `${object} ${round}`;
-        rounds.set(key, [...(rounds.get(key) ?? []), call]);
-      }
-    }
-    return [...rounds.values()].filter((calls) => calls.some((it) => it.rank !== calls[0].rank)).map((calls) => {
+    const own = [...this.rows.values()].filter(({ row }) => row.object !== null && row.round !== null);
+    const rounds = Array.from(grouped(own, ({ row }) => `${row.object} ${row.round}`).values(), (alike) => alike.map((it) => it.call));
+    return rounds.filter((calls) => calls.some((it) => it.rank !== calls[0].rank)).map((calls) => {
       const x = Math.min(...calls.map((it) => this.stretchOf(it)[0])) - 2;
       const width = Math.max(...calls.map((it) => this.stretchOf(it)[1])) + 2 - x;
       const rows = calls.map((it) => this.yOf(it.rank));
@@ -1053,9 +872,7 @@ class Moments {
   messages() {
     return [...this.rows.values()].filter(({ row }) => row.side === "send").flatMap(({ call, row }) => {
       const to = this.rowAt(row.partner_rank, row.partner_call, row.partner_part, "receive");
-      if (to === undefined) {
-        return [];
-      }
+      if (to === undefined) return [];
       const last = this.seen[this.laneOf.get(to.call.rank)].find((it) => it.call === to.row.completed_by) ?? to.call;
       const [x, y, end, bottom] = [this.xOf(call.enter), this.yOf(call.rank), this.stretchOf(last)[1], this.yOf(last.rank)];
       const angle = Math.atan2(bottom - y, end - x);
@@ -1093,21 +910,17 @@ class Moments {
     this.placeOf = new Map(this.times.map((it, i) => [it, i]));
     this.bars = new Map();
     this.width = Math.max(620, this.element.parentElement.clientWidth);
-    const bottom = LANE * this.seen.length;
-    const height = bottom + LANE;
+    const [bottom, height] = [LANE * this.seen.length, LANE * (this.seen.length + 1)];
     const isWithin = this.element.contains(document.activeElement) && this.element !== document.activeElement;
     const ticks = this.ticks().map((it) => [this.xOf(it), `${secondsBetween(this.answer.begin, it, 6)} s`]);
     const names = this.seen.map(([{ rank }]) =>
       drawn("text", { class: this.answer.ownRoots.has(rank) ? "strong" : "plain", x: 2, y: this.yOf(rank) + 4 }, `rank ${rank}`));
     const about = `The last ${counted(calls.length, "call")} of ${counted(this.seen.length, "rank")} against time`;
-    const attributes = { viewBox: `0 0 ${this.width} ${height}`, width: this.width, height, "aria-label": about };
-    Object.entries(attributes).forEach(([name, value]) => this.element.setAttribute(name, value));
+    having(this.element, { viewBox: `0 0 ${this.width} ${height}`, width: this.width, height, "aria-label": about });
     this.element.replaceChildren(...this.bands(), ...ticks.map(([x]) => drawn("path", { class: "grid", d: `M ${x} 0 V ${bottom + 5}` })),
       ...this.seen.map((it) => this.lane(it)), ...this.messages(), ...this.lost(), drawn("rect", { class: "cover", width: NAMES - 3, height }), ...names,
       ...ticks.map(([x, text]) => drawn("text", { class: "tick", x, y: bottom + 18 }, text)));
-    if (isWithin) {
-      this.bars.get(this.chosen).focus();
-    }
+    if (isWithin) this.bars.get(this.chosen).focus();
   }
 }
 
@@ -1117,17 +930,11 @@ const answer = new Answer(JSON.parse(document.getElementById("answer").textConte
 const at = (id) => document.getElementById(id);
 let tables = [];
 
-function isSeveral(root) {
-  return root.kind === "mismatch" || root.ranks.length > 1;
-}
-
 /** Groups of ranks with their words, the first of them where there are many. */
 function listOf(groups, most) {
-  const lines = groups.slice(0, most).map((it) => made("li", "", named(`${rankWords(it.ranks)} ${it.words}`)));
-  if (groups.length > most) {
-    lines.push(made("li", "", `and ${counted(groups.length - most, "group")} more, which stand in the table below`));
-  }
-  return made("ul", "", ...lines);
+  const lines = groups.slice(0, most).map((it) => named(`${rankWords(it.ranks)} ${it.words}`));
+  const more = groups.length > most ? [`and ${counted(groups.length - most, "group")} more, which stand in the table below`] : [];
+  return list([...lines, ...more]);
 }
 
 /** What holds up the run: each root with its ranks, and who waits for it. */
@@ -1141,37 +948,32 @@ function showRoots() {
     const head = made("p", "", made("span", "kind", `${i + 1} ${root.kind}${proved}`), made("strong", "", answer.rootWords(root)));
     const members = listOf(answer.membersOf(root), 12);
     const count = root.holds_up.length;
-    const those = `${counted(count, "rank waits", "ranks wait")} for ${isSeveral(root) ? "them" : "it"}: ${rankWords(root.holds_up)}`;
+    const whom = root.kind === "mismatch" || root.ranks.length > 1 ? "them" : "it";
+    const those = `${counted(count, "rank waits", "ranks wait")} for ${whom}: ${rankWords(root.holds_up)}`;
     const waiting = answer.groupsOf(root.holds_up).map((it) => ({ ranks: it.ranks, words: answer.groupWords(it) }));
     return made("li", "", head, members, ...(count === 0 ? [] : [made("p", "", those), listOf(waiting, 6)]));
   });
-  if (all.length > MOST_BOXES) {
-    roots.push(made("li", "", `and ${all.length - MOST_BOXES} more: the table below has their ranks`));
-  }
+  if (all.length > MOST_BOXES) roots.push(made("li", "", `and ${all.length - MOST_BOXES} more: the table below has their ranks`));
   at("roots").replaceChildren(...(roots.length > 0 ? roots : [made("li", "", "Nothing holds it up.")]));
 }
 
 /** Tells which ranks a box of the picture has; where it is chosen, the tables show those alone. */
 function point(box, isChosen) {
-  const groups = answer.groupsOf(box.ranks);
-  const lines = groups.slice(0, 8).map((group) => {
+  const lines = answer.groupsOf(box.ranks).slice(0, 8).map((group) => {
     const moment = answer.moment(group.first);
     const times = moment === null ? "" : `; the first stands there since ${moment.since} s, for ${moment.lasts} s, in ${traceWords(group.first)}`;
-    return made("li", "", named(`${rankWords(group.ranks)} ${answer.groupWords(group)}${times}`));
+    return named(`${rankWords(group.ranks)} ${answer.groupWords(group)}${times}`);
   });
-  at("pointed").replaceChildren(made("ul", "", ...lines));
-  if (isChosen) {
-    at("ranks-wanted").value = stretchesOf(box.ranks).map(([first, last]) => (first === last ? `${first}` : `${first} to ${last}`)).join(", ");
-    filterTables();
-    at("tables").scrollIntoView();
-  }
+  at("pointed").replaceChildren(list(lines));
+  if (!isChosen) return;
+  at("ranks-wanted").value = stretchesOf(box.ranks).join(", ");
+  filterTables();
+  at("tables").scrollIntoView();
 }
 
 /** What the picture's signs mean, of those that it has. */
 function legendOf(roots) {
-  if (roots.length === 0) {
-    return "No rank is seen to wait for another.";
-  }
+  if (roots.length === 0) return "No rank is seen to wait for another.";
   const signs = [
     [["cycle"], "An arrow back: they wait for one another."], [["mismatch"], "A double frame: calls that don't match."],
     [["ended", "silent"], "A bold frame: ended, or no sign."],
@@ -1184,81 +986,56 @@ function legendOf(roots) {
 function showPicture() {
   const { roots } = answer.value;
   at("legend").textContent = legendOf(roots);
-  if (roots.length > 0) {
-    at("picture").replaceChildren(pictureOf(answer, point));
-    at("pointed").textContent = "Point at a box, or go there by the tab key: its ranks and calls stand here.";
-  }
   at("pointed").hidden = roots.length === 0;
-}
-
-function button(words, act) {
-  const it = made("button", "plain", words);
-  it.type = "button";
-  it.addEventListener("click", act);
-  return it;
+  if (roots.length === 0) return;
+  at("picture").replaceChildren(pictureOf(answer, point));
+  at("pointed").textContent = "Point at a box, or go there by the tab key: its ranks and calls stand here.";
 }
 
 /** The last calls of some ranks against time, where the value has them. */
 function showMoments() {
   const rows = answer.value.last_calls ?? [];
   at("last-moments").hidden = rows.length === 0;
-  if (rows.length === 0) {
-    return;
-  }
+  if (rows.length === 0) return;
   const moments = new Moments(answer, (call) => {
-    const lines = call.rows.map(rowWords).filter((it) => it !== "").map((it) => made("li", "", named(it)));
-    at("moment").replaceChildren(named(moments.wordsOf(call)), made("ul", "", ...lines));
+    const lines = call.rows.map(rowWords).filter((it) => it !== "").map(named);
+    at("moment").replaceChildren(named(moments.wordsOf(call)), list(lines));
   });
-  const more = button(`Show all ${moments.lanes.length} lanes`, () => {
-    moments.most = Infinity;
-    more.hidden = true;
+  const change = (changes) => {
+    Object.assign(moments, changes);
+    more.hidden = moments.lanes.length <= moments.most;
+    having(isTimely, { "aria-pressed": moments.isTrue });
+    at("moments-mode").textContent = moments.isTrue ? "Lengths are true to time."
+      : "Each begin or end is a step, all steps are equally long: not true to time.";
     moments.show(0, 1);
-  });
-  const turn = (isTrue) => {
-    moments.isTrue = isTrue;
-    isTimely.setAttribute("aria-pressed", isTrue);
-    at("moments-mode").textContent = isTrue ? "Lengths are true to time." : "Each begin or end is a step, all steps are equally long: not true to time.";
   };
-  const isTimely = button("True to time", () => {
-    turn(!moments.isTrue);
-    moments.show(0, 1);
-  });
-  more.hidden = moments.lanes.length <= FIRST_LANES;
+  const more = button(`Show all ${moments.lanes.length} lanes`, () => change({ most: Infinity }));
+  const isTimely = button("True to time", () => change({ isTrue: !moments.isTrue }));
   at("moments").replaceChildren(moments.element);
   at("moments-buttons").replaceChildren(button("Zoom in", () => moments.zoom(0.5)), button("Zoom out", () => moments.zoom(2)),
     button("All", () => moments.show(0, 1)), button("Earlier", () => moments.move(-1)), button("Later", () => moments.move(1)), isTimely, more);
-  turn(false);
-  moments.draw();
+  change({});
   window.addEventListener("resize", () => moments.draw());
 }
 
 /** Leaves out the rows of all tables that don't fit the words of the filter. */
 function filterTables() {
   const isWanted = ranksWanted(at("ranks-wanted").value);
-  const text = at("text-wanted").value.trim().toLowerCase();
-  const object = at("object-wanted").value.trim();
+  const [text, object] = [at("text-wanted").value.trim().toLowerCase(), at("object-wanted").value.trim()];
   const fits = (row) => (isWanted === null || row.ranks.some(isWanted)) && row.text.includes(text)
     && (object === "" || (row.object !== undefined && `${row.object}` === object));
-  const counts = tables.map((it) => it.filter(fits));
+  const counts = tables.map((it) => it.show(fits));
   at("fitting").textContent = `${counted(counts.reduce((a, b) => a + b, 0), "row")} in ${counted(counts.filter((it) => it > 0).length, "table")}`;
 }
 
 function field(id, label) {
-  const input = made("input", "");
-  input.id = id;
-  input.type = "text";
-  input.spellcheck = false;
-  input.addEventListener("input", filterTables);
-  return made("label", "", label, input);
+  const input = having(made("input", ""), { id, type: "text", spellcheck: false });
+  return made("label", "", label, listening(input, { input: filterTables }));
 }
 
 function showFilter() {
-  const each = made("input", "");
-  each.id = "each-rank";
-  each.type = "checkbox";
-  each.addEventListener("change", showTables);
-  const count = made("output", "");
-  count.id = "fitting";
+  const each = listening(having(made("input", ""), { id: "each-rank", type: "checkbox" }), { change: showTables });
+  const count = having(made("output", ""), { id: "fitting" });
   at("filter").replaceChildren(field("ranks-wanted", "Ranks, as 3, 8 to 11"), field("text-wanted", "Function, call site or other text"),
     field("object-wanted", "Object (its id in the layout)"), made("label", "", each, " a row for each rank"), count);
 }
@@ -1284,16 +1061,12 @@ function showMade() {
     ["Ranks", `${ranks}`], ["Files", `${files}, in which the last calls of ranks stand`], ["Sends", sentence],
     ["Begins", begin === null ? "no call can be read" : wallWords(begin)], ["Ends", end === null ? "" : wallWords(end)],
     ["Lasts", begin === null ? "" : `${secondsBetween(answer.begin, answer.end)} s`],
+    ["Other sends", other === null ? "" : `with the other kind of sends ${other.length === 0 ? "no rank" : rankWords(other)} would be stuck`],
   ];
-  if (other !== null) {
-    rows.push(["Other sends", `with the other kind of sends ${other.length === 0 ? "no rank" : rankWords(other)} would be stuck`]);
-  }
   at("made").replaceChildren(...rows.filter(([, text]) => text !== "").flatMap(([name, text]) => [made("dt", "", name), made("dd", "", named(text))]));
 }
 
-for (const part of [showRoots, showPicture, showMoments, showFilter, showTables, showMade]) {
-  part();
-}
+[showRoots, showPicture, showMoments, showFilter, showTables, showMade].forEach((part) => part());
 </script>
 </body>
 </html>

@@ -4,10 +4,12 @@ use Rattle.std.proofs.lemmas.List.{length-map}
 use Rattle.clap.specs.Words.{Text}
 use Rattle.mpi_model.specs.Layouts.{Parts}
 use Rattle.command_line.specs.declared.Verb.{Verb}
+use Rattle.command_line.specs.Program.{asked_rank}
 use Rattle.run_files.specs.Manifests.{ManifestParts}
 use Rattle.run_inputs.specs.Advice.{IsShownIn, is_in_words}
 use Rattle.program_runs.specs.Endings.{EndsRun, EndsShowing, IsEndedBy}
 use Rattle.run_inputs.specs.Files.{NamesFailed}
+use Rattle.run_inputs.specs.Inputs.{HasRank}
 use Rattle.command_runs.specs.Verbs.{Ran, RanCluster}
 use Rattle.program_runs.specs.declared.ending.Ending.{Ending}
 use Rattle.run_inputs.specs.declared.faults.fault.RunFault.{RunFault}
@@ -52,3 +54,11 @@ two_names (a ∷ b ∷ c ∷ names) first second two f s = absurd (omega (arith,
 
 pub not_two : (names : List (Bor Text)) → length names ≢ 2 → length (map (λ n. n.now) names) ≢ 2
 not_two names other = λ two. other (sym (length-map names (λ n. n.now)) ∙ two)
+
+-- A layout that is another's has the rank that a verb asks for, where that one has it.
+pub rank_kept : (verb : Verb) (l k : Parts) → HasRank (asked_rank verb) l → k ≡ l → HasRank (asked_rank verb) k
+rank_kept verb l k has same = subst (λ (p : Parts). HasRank (asked_rank verb) p) (sym same) has
+
+-- A layout has the rank that a verb asks for, where it has the one that was asked for.
+pub rank_asked : (verb : Verb) (asked : Option ℕ) (l : Parts) → HasRank asked l → asked ≡ asked_rank verb → HasRank (asked_rank verb) l
+rank_asked verb asked l has same = subst (λ (r : Option ℕ). HasRank r l) same has

@@ -2,6 +2,7 @@
 use Rattle.std.specs.Prelude.{◌≡◌, ◌≢◌, ◌⊎◌, ◌∷◌, ◌++◌, ℕ, Bool, false, List, [], Option, Some, None, Result, Ok, Err, IfErr, codes, length, string_bytes}
 use Rattle.std.specs.Io.KnownBytes.{Keeps}
 use Rattle.clap.specs.Words.{Text, subcommand_of}
+use Rattle.mpi_model.specs.declared.device.WriteReason.{WriteReason}
 use Rattle.mpi_model.specs.Failures.{HasFailed}
 use Rattle.mpi_model.specs.Layouts.{Parts}
 use Rattle.mpi_model.specs.declared.layout.Sends.TheVariants.{Wait}
@@ -23,10 +24,11 @@ use Rattle.run_inputs.specs.Inputs.{LacksRank, RefusesLoading, TellInput}
 use Rattle.run_inputs.specs.Looks.{BeginsAsText}
 use Rattle.run_inputs.specs.NoTexts.{AreNoTexts}
 use Rattle.run_inputs.specs.Prepared.{IsMadeOf}
+use Rattle.run_inputs.specs.SaidLines.{init_line_with, write_line}
 use Rattle.run_inputs.specs.Seen.{NamesPiped, Reads, RefusesLooks, RefusesTexts, Sees, cut_names}
 use Rattle.command_runs.specs.Verbs.{Ran, RanCluster}
 use Rattle.run_inputs.specs.declared.faults.fault.RunFault.{RunFault}
-use Rattle.run_inputs.specs.declared.faults.fault.RunFault.TheVariants.{Memory, Write}
+use Rattle.run_inputs.specs.declared.faults.fault.RunFault.TheVariants.{Memory}
 use Rattle.run_inputs.specs.declared.faults.init_fault.InitFault.{InitFault}
 use Rattle.run_inputs.specs.declared.faults.init_fault.InitFault.TheVariants.{Outside as NoRank}
 use Rattle.command_runs.specs.declared.run.Outcome.{Outcome}
@@ -55,7 +57,7 @@ EndsShowing in_words file fault old new e = (new ≡ old) × (e.status ≡ 1) ×
 -- the ending after such a run of `init`
 abbrev pub IsEndedInit : Result (Unit {0}) InitFault → Ending → Type 0
 IsEndedInit (Ok done) e = (e.status ≡ 0) × (string_bytes e.errors ≡ [])
-IsEndedInit (Err fault) e = (e.status ≡ 1) × (string_bytes e.errors ≡ init_fault_line_of fault)
+IsEndedInit (Err fault) e = (e.status ≡ 1) × (reason : Option WriteReason) × (string_bytes e.errors ≡ init_line_with fault reason)
 
 -- `init` ends so.
 abbrev pub EndsInit : {W : Type 0} → (List ℕ → Option (List ℕ)) → List (List ℕ) → Wish → Option Files → Option Files → Type 0 → (W → Option (List ℕ)) → (W → ℕ) → W → W → Ending → Type 0
@@ -177,7 +179,7 @@ EndsAsked fails failed s (init texts wish) written failures old new e =
 abbrev pub EndsFor : {W : Type 0} → CommandFault → (W → Option (List ℕ)) → (W → ℕ) → W → W → Ending → Type 0
 EndsFor fault written failures old new e =
     ((e.status ≡ 0) × (string_bytes e.errors ≡ []) × (0 ≡ status_of fault) × (failures new ≡ failures old))
-    ⊎ (((e.status ≡ 1) × (string_bytes e.errors ≡ fault_line_of Write) × (0 ≡ status_of fault) × HasFailed (failures old) (failures new))
+    ⊎ (((e.status ≡ 1) × ((reason : Option WriteReason) × (string_bytes e.errors ≡ write_line reason)) × (0 ≡ status_of fault) × HasFailed (failures old) (failures new))
     ⊎ (((e.status ≡ 1) × (string_bytes e.errors ≡ fault_line_of Memory) × Keeps (written old) (written new))
     ⊎ ((e.status ≡ 2) × (2 ≡ status_of fault) × Keeps (written old) (written new))))
 

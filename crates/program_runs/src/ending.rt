@@ -11,23 +11,27 @@ ghost use Rattle.run_inputs.specs.Files.{IsLength};
 ghost use Rattle.run_inputs.specs.InitAdvice.{IsInitShown};
 ghost use Rattle.run_inputs.specs.InitFaults.{init_fault_line_of};
 ghost use Rattle.run_inputs.specs.Inputs.{HasRank};
+ghost use Rattle.run_inputs.specs.SaidLines.{init_line_with, write_line};
 ghost use Rattle.program_runs.specs.Endings.{BeginsWithText, EndsCluster, EndsClusterKept, EndsClusterRun, EndsFiles, EndsFor, EndsInit, EndsInitNamed, EndsKept, EndsNamed, EndsPair, EndsRun, EndsStrange, EndsTexts, IsEndedBy, IsEnding, first_name, strange_line};
 
 use crate::run::run_with;
-use command_line::{Asked, CommandFault, Verb, Verbosity, Wanted, command_of};
+use command_line::{Asked, CommandFault, CommandLine, Verb, Verbosity, Wanted, command_of};
 use command_runs::{Outcome, Run, cluster};
-use mpi_model::{Sends, Write, write_all};
+use mpi_model::{Sends, Write, WriteReason, write_all};
 use run_files::{RunInput, Store};
 use run_inputs::{
-    Beside, FileName, InitFault, Opener, RunFault, Saying, Watcher, begins_as_text, borrowed,
-    fault_line, has_rank, init, init_fault_line, input_at, is_in_words, kept_files, no_text_of,
-    piped_of, prepared_of, shown_fault, shown_init_fault, tell, with_folders,
+    Beside, Crewed, FileName, InitFault, Opener, RunFault, Saying, SharedOpener, Watcher,
+    begins_as_text, borrowed, fault_line, has_rank, init, init_fault_line, init_line_with,
+    input_at, is_in_words, kept_files, line_with, no_text_of, piped_of, prepared_of, shown_fault,
+    shown_init_fault, tell, with_folders,
 };
 use std::alloc::{AllocError, Global};
+use std::collections::BTreeMap;
 use std::io::Eprint;
 use std::net::{Net, TcpListener, TcpStream};
 use std::sync::Wait;
 use std::thread::Threads;
+use text_layouts::Maker;
 
 /// The status of the program, and what standard error shows.
 #[derive(Drop)]
@@ -47,9 +51,9 @@ pub struct Ending {
 /// mistaken.
 pub fn ending_of<
     R: Net<Listener = TcpListener, Stream = TcpStream> + Threads + Wait + Sync + Eprint,
-    O: Opener,
+    O: SharedOpener,
     S: Store,
-    V: Watcher,
+    V: Watcher + Sync,
     W: Write,
 >(
     rt: &R,
@@ -60,14 +64,19 @@ pub fn ending_of<
     watcher: &mut V,
     out: &mut W,
 ) -> Result<Ending, AllocError>
+where
+    O::R: Send,
     ensures { IfOk result (IsEnding (Fails O.R.failures) (HasFailed (S.failures store.old) (S.failures store.new))
         (record { words = texts_of words.now; file = O.file files.now; store_before = S.files store.old; store_after = S.files store.new })
         W.written W.failures out.old out.new) }
 {
-    let asked = match command_of(alloc, words) {
-        Ok(asked) => asked,
+    let line = match command_of(alloc, words) {
+        Ok(line) => line,
         Err(fault) => return shown(alloc, &fault, out),
     };
+    let CommandLine { asked, threads } = line;
+    let crewed = Crewed { files, threads };
+    let files = &crewed;
     heed(asked.verbosity(), watcher);
     match asked {
         Asked::Pair {
@@ -101,7 +110,8 @@ fn heed<V: Watcher>(verbosity: Verbosity, watcher: &mut V) {
 }
 
 /// Runs a verb over a layout and a manifest, by the names of their files.
-fn over_pair<O: Opener, V: Watcher, W: Write>(
+#[tactic(auto, using(crate::proofs::Endings::rank_asked))]
+fn over_pair<O: SharedOpener, V: Watcher + Sync, W: Write>(
     alloc: Global,
     verb: Verb,
     names: (&str, &str),
@@ -109,6 +119,8 @@ fn over_pair<O: Opener, V: Watcher, W: Write>(
     watcher: &mut V,
     out: &mut W,
 ) -> Result<Ending, AllocError>
+where
+    O::R: Send,
     ensures { IfOk result (EndsPair (Fails O.R.failures) (O.file files.now) verb names.entry.0.now names.entry.1.now W.written W.failures out.old out.new) }
 {
     let (layout, manifest) = names;
@@ -117,12 +129,12 @@ fn over_pair<O: Opener, V: Watcher, W: Write>(
             let beside = Beside::new(alloc, files, manifest);
             over_kept(alloc, verb, &input, &beside, watcher, out)
         }
-        Err(fault) => showing(alloc, is_in_words(verb), &fault, files),
+        Err(fault) => showing(alloc, is_in_words(verb), &fault, None, files),
     }
 }
 
 /// Runs a verb over this input, whose files these are: of texts that may have been cut off over what is kept.
-fn over_kept<O: Opener, V: Watcher, W: Write>(
+fn over_kept<O: SharedOpener, V: Watcher + Sync, W: Write>(
     alloc: Global,
     verb: Verb,
     input: &RunInput,
@@ -130,33 +142,43 @@ fn over_kept<O: Opener, V: Watcher, W: Write>(
     watcher: &mut V,
     out: &mut W,
 ) -> Result<Ending, AllocError>
+where
+    O::R: Send,
     requires rank { HasRank (asked_rank verb) input.now.layout }
     ensures { IfOk result (EndsKept (Fails O.R.failures) (O.file files.now) verb input.now.layout input.now.manifest W.written W.failures out.old out.new) }
 {
     match kept_files(alloc, input.manifest.pieces(), files) {
-        Ok(seen) => over_input(alloc, verb, input, &seen, watcher, out),
-        Err(fault) => showing(alloc, is_in_words(verb), &fault, files),
+        Ok(seen) => {
+            let makers = BTreeMap::new(alloc);
+            over_input(alloc, verb, input, &makers, &seen, watcher, out)
+        }
+        Err(fault) => showing(alloc, is_in_words(verb), &fault, None, files),
     }
 }
 
-/// Runs a verb over this input, whose files these are.
-fn over_input<O: Opener, V: Watcher, W: Write>(
+/// Runs a verb over this input, whose objects were made by these functions, as far as that is known, and whose files these
+/// are.
+#[tactic(auto, using(crate::proofs::Endings::rank_kept))]
+fn over_input<O: SharedOpener, V: Watcher + Sync, W: Write>(
     alloc: Global,
     verb: Verb,
     input: &RunInput,
+    makers: &BTreeMap<u32, Maker>,
     files: &O,
     watcher: &mut V,
     out: &mut W,
 ) -> Result<Ending, AllocError>
+where
+    O::R: Send,
     requires rank { HasRank (asked_rank verb) input.now.layout }
     ensures { IfOk result (EndsRun (Fails O.R.failures) (O.file files.now) verb input.now.layout input.now.manifest W.written W.failures out.old out.new) }
 {
-    let ran = run_with(verb, &Run::new(alloc, input, files), watcher, out);
-    ending_after(alloc, is_in_words(verb), ran, files)
+    let ran = run_with(verb, &Run::new(alloc, input, files), makers, watcher, out);
+    ending_after(alloc, is_in_words(verb), ran, out.reason(), files)
 }
 
 /// Runs a verb over the files that its words name, where a folder stands for the texts in it.
-fn over_named<R: Eprint, O: Opener, V: Watcher, W: Write>(
+fn over_named<R: Eprint, O: SharedOpener, V: Watcher + Sync, W: Write>(
     rt: &R,
     alloc: Global,
     how: (Verb, Verbosity),
@@ -165,6 +187,8 @@ fn over_named<R: Eprint, O: Opener, V: Watcher, W: Write>(
     watcher: &mut V,
     out: &mut W,
 ) -> Result<Ending, AllocError>
+where
+    O::R: Send,
     ensures { IfOk result (EndsNamed (Fails O.R.failures) (O.file files.now) how.0 (texts_of words.now) W.written W.failures out.old out.new) }
 {
     match with_folders(alloc, words, files) {
@@ -177,7 +201,7 @@ fn over_named<R: Eprint, O: Opener, V: Watcher, W: Write>(
 }
 
 /// Runs a verb over its files: texts, or a layout and a manifest.
-fn over_files<R: Eprint, O: Opener, V: Watcher, W: Write>(
+fn over_files<R: Eprint, O: SharedOpener, V: Watcher + Sync, W: Write>(
     rt: &R,
     alloc: Global,
     how: (Verb, Verbosity),
@@ -186,6 +210,8 @@ fn over_files<R: Eprint, O: Opener, V: Watcher, W: Write>(
     watcher: &mut V,
     out: &mut W,
 ) -> Result<Ending, AllocError>
+where
+    O::R: Send,
     ensures { IfOk result (EndsFiles (Fails O.R.failures) (O.file files.now) how.0 (texts_of names.now) W.written W.failures out.old out.new) }
 {
     if are_texts(names, files) {
@@ -198,7 +224,8 @@ fn over_files<R: Eprint, O: Opener, V: Watcher, W: Write>(
 }
 
 /// Runs a verb over texts: makes the input of them, shows what was found, as much as is wanted, and runs.
-fn over_texts<R: Eprint, O: Opener, V: Watcher, W: Write>(
+#[tactic(auto, using(crate::proofs::Endings::rank_asked))]
+fn over_texts<R: Eprint, O: SharedOpener, V: Watcher + Sync, W: Write>(
     rt: &R,
     alloc: Global,
     how: (Verb, Verbosity),
@@ -207,6 +234,8 @@ fn over_texts<R: Eprint, O: Opener, V: Watcher, W: Write>(
     watcher: &mut V,
     out: &mut W,
 ) -> Result<Ending, AllocError>
+where
+    O::R: Send,
     ensures { IfOk result (EndsTexts (Fails O.R.failures) (O.file files.now) how.0 (texts_of texts.now) W.written W.failures out.old out.new) }
 {
     let (verb, verbosity) = how;
@@ -224,7 +253,7 @@ fn over_texts<R: Eprint, O: Opener, V: Watcher, W: Write>(
         let ranks = input.layout.ranks();
         return showing_init(alloc, verb, &InitFault::Outside { ranks }, files);
     }
-    over_input(alloc, verb, input, &seen, watcher, out)
+    over_input(alloc, verb, input, &prepared.makers, &seen, watcher, out)
 }
 
 /// Runs a cluster of a layout and a manifest, by the names of their files.
@@ -241,7 +270,7 @@ fn over_cluster<
             let beside = Beside::new(alloc, files, manifest);
             cluster_kept(rt, alloc, &input, &beside, out)
         }
-        Err(fault) => showing(alloc, false, &fault, files),
+        Err(fault) => showing(alloc, false, &fault, None, files),
     }
 }
 
@@ -255,7 +284,7 @@ fn cluster_kept<
 {
     match kept_files(alloc, input.manifest.pieces(), files) {
         Ok(seen) => cluster_over(rt, alloc, input, &seen, out),
-        Err(fault) => showing(alloc, false, &fault, files),
+        Err(fault) => showing(alloc, false, &fault, None, files),
     }
 }
 
@@ -268,11 +297,11 @@ fn cluster_over<
     ensures { IfOk result (EndsClusterRun (Fails O.R.failures) (O.file files.now) input.now.layout input.now.manifest W.written W.failures out.old out.new) }
 {
     let ran = cluster(rt, &Run::new(alloc, input, files), out);
-    ending_after(alloc, false, ran, files)
+    ending_after(alloc, false, ran, out.reason(), files)
 }
 
 /// Runs `init` over the texts that its words name, where a folder stands for the texts in it.
-fn init_named<O: Opener, S: Store, W: Write>(
+fn init_named<O: SharedOpener, S: Store, W: Write>(
     alloc: Global,
     words: &[&str],
     wanted: Wanted<'_>,
@@ -280,6 +309,8 @@ fn init_named<O: Opener, S: Store, W: Write>(
     store: &mut S,
     out: &mut W,
 ) -> Result<Ending, AllocError>
+where
+    O::R: Send,
     ensures { IfOk result (EndsInitNamed (O.file files.now) (texts_of words.now) (wish_of wanted.entry) (S.files store.old) (S.files store.new)
         (HasFailed (S.failures store.old) (S.failures store.new)) W.written W.failures out.old out.new) }
 {
@@ -288,22 +319,37 @@ fn init_named<O: Opener, S: Store, W: Write>(
             let names = borrowed(alloc, &standing)?;
             over_init(alloc, names.as_slice(), wanted, files, store, out)
         }
-        Err(fault) => refused_init(alloc, &fault),
+        Err(fault) => refused_word(alloc, &fault),
     }
 }
 
-/// The ending of `init` with a fault.
-fn refused_init(alloc: Global, fault: &InitFault) -> Result<Ending, AllocError>
+/// The ending of `init` where a word stands for no texts.
+fn refused_word(alloc: Global, fault: &InitFault) -> Result<Ending, AllocError>
     ensures status { IfOk result (λ e. e.status ≡ 1) }
     ensures errors { IfOk result (λ e. string_bytes e.errors ≡ init_fault_line_of fault.now) }
 {
-    let errors = init_fault_line(alloc, fault)?;
+    Ok(Ending {
+        status: 1,
+        errors: init_fault_line(alloc, fault)?,
+    })
+}
+
+/// The ending of `init` with a fault, of a refused write with this reason.
+fn refused_init(
+    alloc: Global,
+    fault: &InitFault,
+    reason: Option<WriteReason>,
+) -> Result<Ending, AllocError>
+    ensures status { IfOk result (λ e. e.status ≡ 1) }
+    ensures errors { IfOk result (λ e. string_bytes e.errors ≡ init_line_with fault.now reason) }
+{
+    let errors = init_line_with(alloc, fault, reason)?;
     let status = 1;
     Ok(Ending { status, errors })
 }
 
 /// Writes the layout and the manifest that are made of texts, both or none, and then what was found.
-fn over_init<O: Opener, S: Store, W: Write>(
+fn over_init<O: SharedOpener, S: Store, W: Write>(
     alloc: Global,
     texts: &[&str],
     wanted: Wanted<'_>,
@@ -311,12 +357,14 @@ fn over_init<O: Opener, S: Store, W: Write>(
     store: &mut S,
     out: &mut W,
 ) -> Result<Ending, AllocError>
+where
+    O::R: Send,
     ensures { IfOk result (EndsInit (O.file files.now) (texts_of texts.now) (wish_of wanted.entry) (S.files store.old) (S.files store.new)
         (HasFailed (S.failures store.old) (S.failures store.new)) W.written W.failures out.old out.new) }
 {
     match init(alloc, texts, wanted, files, store, out) {
         Ok(()) => Ok(silent(alloc, 0)),
-        Err(fault) => refused_init(alloc, &fault),
+        Err(fault) => refused_init(alloc, &fault, out.reason()),
     }
 }
 
@@ -400,6 +448,7 @@ fn ending_after<O: Opener>(
     alloc: Global,
     in_words: bool,
     ran: Result<Outcome, RunFault>,
+    reason: Option<WriteReason>,
     files: &O,
 ) -> Result<Ending, AllocError>
     ensures { IfOk result (IsEndedBy in_words (O.file files.now) ran) }
@@ -407,21 +456,22 @@ fn ending_after<O: Opener>(
     match ran {
         Ok(Outcome::Good) => Ok(silent(alloc, 0)),
         Ok(Outcome::CheckFailed) => Ok(silent(alloc, 1)),
-        Err(fault) => showing(alloc, in_words, &fault, files),
+        Err(fault) => showing(alloc, in_words, &fault, reason, files),
     }
 }
 
-/// The ending that shows a fault, in words or by its line alone.
+/// The ending that shows a fault, of a refused write with this reason, in words or by its line alone.
 fn showing<O: Opener>(
     alloc: Global,
     in_words: bool,
     fault: &RunFault,
+    reason: Option<WriteReason>,
     files: &O,
 ) -> Result<Ending, AllocError>
     ensures status { IfOk result (λ e. e.status ≡ 1) }
     ensures errors { IfOk result (λ e. IsShownIn in_words (O.file files.now) fault.now (string_bytes e.errors)) }
 {
-    let errors = shown_fault(alloc, in_words, fault, files)?;
+    let errors = shown_fault(alloc, in_words, fault, reason, files)?;
     Ok(Ending { status: 1, errors })
 }
 
@@ -471,6 +521,17 @@ fn refused(alloc: Global, fault: &RunFault) -> Result<Ending, AllocError>
     })
 }
 
+/// The ending where a write was refused for this reason.
+fn refused_write(alloc: Global, reason: Option<WriteReason>) -> Result<Ending, AllocError>
+    ensures status { IfOk result (λ e. e.status ≡ 1) }
+    ensures errors { IfOk result (λ e. string_bytes e.errors ≡ write_line reason) }
+{
+    Ok(Ending {
+        status: 1,
+        errors: line_with(alloc, &RunFault::Write, reason)?,
+    })
+}
+
 /// Shows why the words ask for nothing; the help and the version go to standard output.
 fn shown<W: Write>(alloc: Global, fault: &CommandFault, out: &mut W) -> Result<Ending, AllocError>
     ensures { IfOk result (EndsFor fault.now W.written W.failures out.old out.new) }
@@ -480,7 +541,7 @@ fn shown<W: Write>(alloc: Global, fault: &CommandFault, out: &mut W) -> Result<E
     match status {
         0 => match write_all(out, text.as_str().as_bytes()) {
             Ok(()) => Ok(silent(alloc, 0)),
-            Err(_) => refused(alloc, &RunFault::Write),
+            Err(_) => refused_write(alloc, out.reason()),
         },
         2 => Ok(Ending {
             status,

@@ -1,7 +1,9 @@
 //! What holds up a run: in words, as JSON, or as a picture.
 
-ghost use Rattle.std.specs.Prelude.{◌≡◌, false, IfErr, IfOk, OnOk};
+ghost use Rattle.std.specs.Prelude.{IfErr, IfOk, OnOk};
 ghost use Rattle.dumpi_text.specs.Failing.{Fails};
+ghost use Rattle.trace_know.specs.View.{View};
+ghost use Rattle.trace_node.specs.ByRank.{AnswersWithOps};
 ghost use Rattle.command_runs.specs.Explains.{IsExplainOf};
 ghost use Rattle.run_inputs.specs.Files.{NamesFailed};
 ghost use Rattle.command_runs.specs.Refusals.{RefusesNamed};
@@ -10,23 +12,26 @@ ghost use Rattle.command_runs.specs.Verbs.{RanSo};
 
 use crate::arguments::compare_arguments;
 use crate::cut_ranks::cut_ranks;
-use crate::facts::{add_places, facts_of};
+use crate::facts::{Facts, add_places, facts_of};
 use crate::moments::{Moments, with_last_calls};
 use call_words::Text;
 use command_line::Extent;
-use command_runs::{Answerer, Outcome, Run, noted_node, write_text};
+use command_runs::{NotedRun, Outcome, Run, noted_run, write_text};
 use diagnosis_value::Diagnosis;
 use diagnosis_words::{
     TextFacts, answer_doubts, diagnosis_json, diagnosis_picture, diagnosis_words, last_calls,
     rank_words,
 };
 use mpi_model::{Layout, Write};
-use run_inputs::{Opener, RunFault, Watcher};
+use run_inputs::{Opener, RunFault, SharedOpener, Watcher};
 use std::alloc::{AllocError, Global};
+use std::collections::BTreeMap;
+use text_layouts::{Maker, maker_text};
 use text_notes::{TextNote, put_notes, put_pieceless};
 use trace_diagnosis::diagnose;
 use trace_know::Knowledge;
-use trace_node::Answer;
+use trace_node::{Answer, AnswerWithOps};
+use trace_ops::ops_laws;
 
 /// How a diagnosis is printed.
 #[derive(Clone, Copy)]
@@ -50,81 +55,147 @@ fn asked_of(printing: Printing) -> Option<u32> {
 }
 
 /// Writes what holds up the run, by all that the pieces tell.
-pub(crate) fn explain<O: Opener, V: Watcher, W: Write>(
+pub(crate) fn explain<O: SharedOpener, V: Watcher + Sync, W: Write>(
     printing: Printing,
     run: &Run<'_, O>,
+    makers: &BTreeMap<u32, Maker>,
     watcher: &mut V,
     out: &mut W,
 ) -> Result<Outcome, RunFault>
+where
+    O::R: Send,
     ensures ran { RanSo (IsExplainOf (O.file run.now.files.now) run.now.layout.now run.now.manifest.now) (IsExplainOf (O.file run.now.files.now) run.now.layout.now run.now.manifest.now)
         (RefusesNamed (O.file run.now.files.now) run.now.layout.now.ranks run.now.manifest.now) result W.written W.failures out.old out.new }
     ensures failed { IfErr result (NamesFailed (Fails O.R.failures)) }
 {
-    let text = text_with(printing, run, watcher)?;
+    let text = text_with(printing, run, makers, watcher)?;
     write_text(&text, out)
 }
 
-/// What holds up the run, printed so.
-pub(crate) fn text_with<O: Opener, V: Watcher>(
+/// What holds up the run, printed so, with the functions that made its objects.
+pub(crate) fn text_with<O: SharedOpener, V: Watcher + Sync>(
     printing: Printing,
     run: &Run<'_, O>,
+    makers: &BTreeMap<u32, Maker>,
     watcher: &mut V,
 ) -> Result<Vec<u8>, RunFault>
+where
+    O::R: Send,
     ensures ok { IfOk result (λ text. IsExplainOf (O.file run.now.files.now) run.now.layout.now run.now.manifest.now text.items) }
     ensures err { IfErr result (RefusesNamed (O.file run.now.files.now) run.now.layout.now.ranks run.now.manifest.now) }
     ensures failed { IfErr result (NamesFailed (Fails O.R.failures)) }
 {
-    let (node, notes) = noted_node(run, watcher)?;
-    let text = diagnosed(printing, run.alloc, run.layout, node, notes, run.files)?;
+    let noted = noted_run(run, watcher)?;
+    let NotedRun { know, told, notes } = noted;
+    let text = diagnosed(printing, run, makers, &know, &told, notes)?;
     Ok(text)
 }
 
-/// What holds up the run by what a node knows, printed so, with what is noted of the texts. It drops the node.
-fn diagnosed<N: Answerer, O: Opener>(
-    printing: Printing,
+/// The names of the functions that made objects.
+fn names_of(
     alloc: Global,
-    layout: &Layout,
-    node: N,
-    notes: Vec<TextNote>,
-    files: &O,
-) -> Result<Vec<u8>, AllocError>
-    requires fresh { (N.held node).is_stale ≡ false }
-    requires own { layout.now ≡ (N.held node).layout }
-    ensures { OnOk result (IsDiagnosed (N.held node).layout (N.held node).know) }
+    makers: &BTreeMap<u32, Maker>,
+) -> Result<BTreeMap<u32, &'static str>, AllocError> {
+    let mut names = BTreeMap::new(alloc);
+    for (object, maker) in makers {
+        names.insert(*object, maker_text(*maker))?;
+    }
+    Ok(names)
+}
+
+/// What holds up the run by what is known of it, where these are the notes of the texts.
+fn diagnosis_of<O: Opener>(
+    run: &Run<'_, O>,
+    know: &Knowledge,
+    told: &AnswerWithOps,
+    notes: &[TextNote],
+) -> Result<Diagnosis, AllocError>
+    requires { AnswersWithOps run.now.layout.now know.now told.now }
 {
-    // (a new node isn't stale)
-    let Ok(answer) = node.told() else {
-        unreachable!()
-    };
-    let know = node.knowledge();
-    let cut = cut_ranks(alloc, know, answer.ranks(), &notes, files)?;
-    let diagnosis = diagnose(alloc, layout, answer, know, &cut)?;
-    let (mut texts, calls) = facts_of(alloc, &diagnosis, asked_of(printing), notes, files)?;
-    compare_arguments(alloc, layout, answer, know, &calls, &mut texts)?;
-    add_places(alloc, &mut texts, files)?;
+    let ops = told.ops();
+    let answer = &told.answer;
+    let cut = cut_ranks(run.alloc, know, answer.ranks(), notes, run.files)?;
+    let diagnosis = diagnose(run.alloc, run.layout, ops, answer, know, &cut)?;
+    Ok(diagnosis)
+}
+
+/// What the texts tell beside the diagnosis, with the functions that made objects.
+fn texts_of<O: Opener>(
+    printing: Printing,
+    run: &Run<'_, O>,
+    makers: &BTreeMap<u32, Maker>,
+    told: &AnswerWithOps,
+    diagnosis: &Diagnosis,
+    notes: Vec<TextNote>,
+) -> Result<TextFacts, AllocError>
+    requires { (view : View) × AnswersWithOps run.now.layout.now view told.now }
+{
+    ops_laws();
+    let ops = told.ops();
+    let answer = &told.answer;
+    let mut found = facts_of(run.alloc, diagnosis, asked_of(printing), notes, run.files)?;
+    compare_arguments(run.alloc, run.layout, answer, ops, &mut found)?;
+    let Facts { texts, .. } = found;
+    let mut texts = texts;
+    add_places(run.alloc, &mut texts, run.files)?;
+    texts.makers = names_of(run.alloc, makers)?;
+    Ok(texts)
+}
+
+/// The diagnosis, printed so, with what the texts tell beside it.
+fn printed<O: Opener>(
+    printing: Printing,
+    run: &Run<'_, O>,
+    know: &Knowledge,
+    told: &AnswerWithOps,
+    diagnosis: &Diagnosis,
+    texts: &TextFacts,
+) -> Result<Vec<u8>, AllocError>
+    requires { AnswersWithOps run.now.layout.now know.now told.now }
+{
+    ops_laws();
+    let (alloc, layout, files) = (run.alloc, run.layout, run.files);
+    let ops = told.ops();
+    let answer = &told.answer;
     match printing {
-        Printing::Words(extent) => {
-            in_words(alloc, layout, &diagnosis, &texts, answer, know, extent)
-        }
-        Printing::Json => diagnosis_json(alloc, layout, &diagnosis, &texts),
+        Printing::Words(extent) => in_words(alloc, layout, diagnosis, texts, answer, know, extent),
+        Printing::Json => diagnosis_json(alloc, layout, diagnosis, texts),
         Printing::Page => {
-            let json = diagnosis_json(alloc, layout, &diagnosis, &texts)?;
+            let json = diagnosis_json(alloc, layout, diagnosis, texts)?;
             let moments = Moments {
                 alloc,
                 layout,
                 answer,
+                ops,
                 know,
-                diagnosis: &diagnosis,
-                texts: &texts,
+                diagnosis,
+                texts,
                 files,
             };
             with_last_calls(&moments, json)
         }
-        Printing::Rank(rank) => of_rank(alloc, layout, &diagnosis, &texts, answer, know, rank),
+        Printing::Rank(rank) => of_rank(alloc, layout, diagnosis, texts, answer, know, rank),
         Printing::Picture(extent) => {
-            diagnosis_picture(alloc, layout, &diagnosis, &texts, extent == Extent::Whole)
+            diagnosis_picture(alloc, layout, diagnosis, texts, extent == Extent::Whole)
         }
     }
+}
+
+/// What holds up the run by what is known of it, printed so, with what is noted of the texts.
+fn diagnosed<O: Opener>(
+    printing: Printing,
+    run: &Run<'_, O>,
+    makers: &BTreeMap<u32, Maker>,
+    know: &Knowledge,
+    told: &AnswerWithOps,
+    notes: Vec<TextNote>,
+) -> Result<Vec<u8>, AllocError>
+    requires { AnswersWithOps run.now.layout.now know.now told.now }
+    ensures { OnOk result (IsDiagnosed run.now.layout.now know.now) }
+{
+    let diagnosis = diagnosis_of(run, know, told, &notes)?;
+    let texts = texts_of(printing, run, makers, told, &diagnosis, notes)?;
+    printed(printing, run, know, told, &diagnosis, &texts)
 }
 
 /// In words, and below them what is noted of the texts.

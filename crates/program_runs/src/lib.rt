@@ -35,6 +35,8 @@ mod cut_ranks;
 mod ending;
 mod explain;
 mod facts;
+mod last_bytes;
+mod last_calls;
 mod moments;
 mod page;
 mod run;

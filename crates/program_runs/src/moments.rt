@@ -2,20 +2,23 @@
 //! them.
 
 ghost use Rattle.call_table.specs.Partners.{IsAnswered};
+ghost use Rattle.trace_ops.specs.Ops.{AreOwn};
 
+use crate::last_bytes::{chunk_room, last_bytes_of};
+use crate::last_calls::{LastCalls, last_calls};
 use call_table::{
     CallTable, Completions, Partners, RankCalls, RankTexts, ReceivedBytes, RowForm, count_of,
     put_row, slot_count,
 };
-use command_runs::ops_of_all;
 use diagnosis_value::Diagnosis;
 use diagnosis_words::{TextFacts, first_ranks};
-use mpi_model::Layout;
+use mpi_model::{Call, Layout, MemoryReader};
 use run_inputs::{Opener, reopened};
 use std::alloc::{AllocError, Global};
 use text_notes::TextNote;
 use trace_know::Knowledge;
 use trace_node::Answer;
+use trace_ops::RankOps;
 
 /// The most ranks whose last calls are shown.
 const MOST_RANKS: usize = 64;
@@ -30,12 +33,19 @@ const MOST_ROWS: usize = 4;
 /// The most bytes of a row: a name in a text may have 64 KB.
 const LONGEST_ROW: usize = 1000;
 
+/// The most calls at the end of a text that are looked at there, and the most bytes in which they are looked for.
+const MOST_LAST: u64 = 1024;
+
+const LAST_BYTES: usize = 65_536;
+
 /// Of what the last moments are made.
 #[derive(Drop)]
 pub(crate) struct Moments<'a, O: Opener> {
     pub alloc: Global,
     pub layout: &'a Layout,
     pub answer: &'a Answer,
+    /// What each rank did.
+    pub ops: &'a [RankOps],
     pub know: &'a Knowledge,
     pub diagnosis: &'a Diagnosis,
     pub texts: &'a TextFacts,
@@ -89,20 +99,86 @@ fn ranks_of(
     Ok(ranks)
 }
 
-/// What the texts of a rank say of so many calls: nothing where a text can't be looked at.
+/// Whether the names of datatypes in other calls of a rank are asked for where a row of this call is made: its own
+/// lines have none.
+fn asks_other_calls(call: &Call) -> bool {
+    matches!(
+        call,
+        Call::Start(_) | Call::Startall(_) | Call::Mprobe(_) | Call::Improbe(_)
+    )
+}
+
+/// From which call on the texts of a rank are asked where the rows of its calls from this one on are made.
+fn asked_from(calls: &RankCalls<'_>, first: u64) -> u64 {
+    for number in first..calls.count() {
+        if let Some(called) = calls.called(number) {
+            if asks_other_calls(called.call) {
+                return 0;
+            }
+        }
+    }
+    first
+}
+
+/// What a text says of its last calls, where these can be looked at alone: from a call of its rank on.
+fn last_text<O: Opener>(
+    alloc: Global,
+    note: &TextNote,
+    from: u64,
+    files: &O,
+    chunk: &mut Vec<u8>,
+) -> Result<Option<LastCalls>, AllocError> {
+    let end = note.first().saturating_add(note.calls());
+    let count = end.saturating_sub(from.max(note.first()));
+    if from <= note.first() || count > MOST_LAST {
+        return Ok(None);
+    }
+    let Some(bytes) = last_bytes_of(alloc, note.path(), LAST_BYTES, files, chunk)? else {
+        return Ok(None);
+    };
+    let Some(last) = last_calls(alloc, note, count, &bytes)? else {
+        return Ok(None);
+    };
+    if note.first().saturating_add(last.first) <= from {
+        Ok(Some(last))
+    } else {
+        Ok(None)
+    }
+}
+
+/// Adds what a text says of the calls of its rank from one on.
+fn with_text<O: Opener>(
+    alloc: Global,
+    texts: RankTexts,
+    note: &TextNote,
+    from: u64,
+    files: &O,
+    chunk: &mut Vec<u8>,
+) -> Result<RankTexts, AllocError> {
+    if let Some(last) = last_text(alloc, note, from, files, chunk)? {
+        let first = note.first().saturating_add(last.first);
+        return texts.reading(alloc, MemoryReader::new(&last.bytes), first);
+    }
+    match reopened(note.path(), files) {
+        Some(reader) => texts.reading(alloc, reader, note.first()),
+        None => Ok(texts),
+    }
+}
+
+/// What the texts of a rank say of so many calls from one on: nothing where a text can't be looked at.
 fn texts_of<O: Opener>(
     alloc: Global,
     notes: &[TextNote],
     rank: u32,
     calls: u64,
+    from: u64,
     files: &O,
 ) -> Result<RankTexts, AllocError> {
     let mut texts = RankTexts::new(alloc, calls)?;
+    let mut chunk = chunk_room(alloc)?;
     for note in notes {
-        if note.rank() == rank {
-            if let Some(reader) = reopened(note.path(), files) {
-                texts = texts.reading(alloc, reader, note.first())?;
-            }
+        if note.rank() == rank && note.first().saturating_add(note.calls()) > from {
+            texts = with_text(alloc, texts, note, from, files, &mut chunk)?;
         }
     }
     Ok(texts)
@@ -179,17 +255,35 @@ fn put_last<O: Opener>(
     let events = moments.know.readable(rank);
     let count = count_of(&events);
     let completions = Completions::of(alloc, &events)?;
-    let texts = texts_of(alloc, &moments.texts.notes, rank, count, moments.files)?;
     let received = ReceivedBytes::new(alloc, 0)?;
+    let none = RankTexts::new(alloc, 0)?;
+    let untold = RankCalls {
+        layout: moments.layout,
+        table: &*table,
+        rank,
+        events: &events,
+        texts: &none,
+        completions: &completions,
+    };
+    let first = first_of_last(&untold, most);
+    let from = asked_from(&untold, first);
+    let texts = texts_of(
+        alloc,
+        &moments.texts.notes,
+        rank,
+        count,
+        from,
+        moments.files,
+    )?;
     let calls = RankCalls {
         layout: moments.layout,
-        table,
+        table: &*table,
         rank,
         events: &events,
         texts: &texts,
         completions: &completions,
     };
-    for number in first_of_last(&calls, most)..count {
+    for number in first..count {
         put_rows(alloc, json, &calls, &received, number)?;
     }
     Ok(())
@@ -200,12 +294,12 @@ pub(crate) fn with_last_calls<O: Opener>(
     moments: &Moments<'_, O>,
     explained: Vec<u8>,
 ) -> Result<Vec<u8>, AllocError>
-    requires { IsAnswered moments.now.answer.now }
+    requires answered { IsAnswered moments.now.answer.now }
+    requires did { AreOwn 0 moments.now.ops.now }
 {
     let alloc = moments.alloc;
     let partners = Partners::of_answer(alloc, moments.answer)?;
-    let ops = ops_of_all(alloc, moments.layout, moments.know)?;
-    let table = CallTable::new(alloc, &ops, partners)?;
+    let table = CallTable::new(alloc, moments.ops, partners)?;
     let ranks = ranks_of(alloc, moments.layout, moments.diagnosis, moments.texts)?;
     let most = rows_of_each(ranks.len());
     let mut json = explained;

@@ -14,8 +14,10 @@ use command_runs::{
     Outcome, Run, calls, check, check_as_json, pack, replay, report, report_as_json, timeline,
 };
 use mpi_model::Write;
-use run_inputs::{Opener, RunFault, Watcher};
+use run_inputs::{RunFault, SharedOpener, Watcher};
 use std::alloc::{AllocError, Global};
+use std::collections::BTreeMap;
+use text_layouts::Maker;
 
 /// The bytes of the block that is asked for and given back before a run: 31 MB. From a freed block of more than 32 MB
 /// glibc learns nothing.
@@ -29,26 +31,30 @@ fn keep_freed_memory(alloc: Global) {
     drop(block);
 }
 
-/// Runs a verb. Nothing is written before all pieces were read and the answer is made; `calls` and `timeline` read them
+/// Runs a verb; `makers` has the functions that made objects of the layout, by the objects' ids, as far as they are known.
+/// Nothing is written before all pieces were read and the answer is made; `calls` and `timeline` read them
 /// a second time while they write. A cluster, which takes threads, is run by
 /// [`cluster`](command_runs::cluster). [`RunFault`] says why a run was refused.
-pub fn run_with<O: Opener, V: Watcher, W: Write>(
+pub fn run_with<O: SharedOpener, V: Watcher + Sync, W: Write>(
     verb: Verb,
     run: &Run<'_, O>,
+    makers: &BTreeMap<u32, Maker>,
     watcher: &mut V,
     out: &mut W,
 ) -> Result<Outcome, RunFault>
+where
+    O::R: Send,
     requires rank { HasRank (asked_rank verb) run.now.layout.now }
     ensures ran { Ran (O.file run.now.files.now) verb run.now.layout.now run.now.manifest.now result W.written W.failures out.old out.new }
     ensures failed { IfErr result (NamesFailed (Fails O.R.failures)) }
 {
     keep_freed_memory(run.alloc);
     match verb {
-        Verb::Explain(extent) => explain(Printing::Words(extent), run, watcher, out),
-        Verb::ExplainJson => explain(Printing::Json, run, watcher, out),
-        Verb::ExplainRank(rank) => explain(Printing::Rank(rank), run, watcher, out),
-        Verb::Graph(extent) => explain(Printing::Picture(extent), run, watcher, out),
-        Verb::Page => page(run, watcher, out),
+        Verb::Explain(extent) => explain(Printing::Words(extent), run, makers, watcher, out),
+        Verb::ExplainJson => explain(Printing::Json, run, makers, watcher, out),
+        Verb::ExplainRank(rank) => explain(Printing::Rank(rank), run, makers, watcher, out),
+        Verb::Graph(extent) => explain(Printing::Picture(extent), run, makers, watcher, out),
+        Verb::Page => page(run, makers, watcher, out),
         Verb::Report => report(run, watcher, out),
         Verb::ReportJson => report_as_json(run, watcher, out),
         Verb::Calls(form) => calls(form, run, watcher, out),

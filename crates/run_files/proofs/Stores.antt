@@ -5,9 +5,13 @@ use Rattle.std.proofs.Math.Nat.{le-min, min-le_left, min-le_right}
 use Rattle.std.proofs.lemmas.Bool.{cases_Bool, false≢true}
 use Rattle.std.proofs.lemmas.Slice.Eq.{bytes_eq-Decides}
 use Rattle.mpi_model.specs.Failures.{HasFailed}
-use Rattle.run_files.specs.Stores.{Adds, AddsBoth, AreDistinct, File, Files, Goes, HasBoth, Moves, RefusesAdding, RefusesReplacing, Removes, RemovesBoth, Same, fault_of_spares}
+use Rattle.run_files.specs.Stores.{Adds, AddsBoth, AreDistinct, File, Files, Goes, HasBoth, LeavesSpares, LeftOfAdding, LeftOfReplacing, MayLack, Moves, RefusesAdding, RefusesReplacing, Removes, RemovesBoth, Same, fault_of_adding, fault_of_spares}
 use Rattle.run_files.specs.declared.store.PutFault.{PutFault}
 use Rattle.run_files.specs.declared.store.PutFault.TheVariants as puts
+use Rattle.run_files.specs.declared.store.StoreFault.{StoreFault}
+use Rattle.run_files.specs.declared.store.StoreFault.TheVariants as stores
+use Rattle.run_files.specs.declared.store.Which.{Which}
+use Rattle.run_files.specs.declared.store.Which.TheVariants as sides
 
 -- one change, and then another
 abbrev pub Then : (Files → Files → Type 0) → (Files → Files → Type 0) → Files → Files → Type 0
@@ -120,3 +124,43 @@ spares_refused one other spare other_spare files failed (puts.There which) apart
 spares_refused one other spare other_spare files failed (puts.SpareThere which) apart h = absurd h
 spares_refused one other spare other_spare files failed (puts.Failed which) apart h = h
 spares_refused one other spare other_spare files failed (puts.Half which) apart h = h
+
+-- what is left where a file wasn't added, and the one before it was taken away again
+pub nothing_left : (one : File) (fault : StoreFault) (which : Which) (old now : Option Files) → Goes Same old now → Goes (LeftOfAdding one (fault_of_adding fault which)) old now
+nothing_left one stores.There which old now h = h
+nothing_left one stores.Failed which old now h = h
+
+-- the first of two spare files is gone or left, where the store didn't take both away
+first_left : (one : List ℕ) (bytes : List ℕ) (mid two now : Files) → mid one ≡ Some bytes → Same mid two → (now one ≡ None) ⊎ (now one ≡ two one) → (now one ≡ None) ⊎ (now one ≡ Some bytes)
+first_left one bytes mid two now there same (inl gone) = inl gone
+first_left one bytes mid two now there same (inr left) = inr (left ∙ same one ∙ there)
+
+spares_left_now : (spare other_spare : File) → spare.name ≢ other_spare.name → (old mid two now : Files)
+    → AddsBoth spare other_spare old mid → Same mid two → MayLack spare.name two now → LeavesSpares spare other_spare old now
+spares_left_now spare other_spare apart old mid two now adds same lacks = record {
+  none_was = adds.none_was;
+  first = first_left spare.name spare.bytes mid two now adds.both.one_there same lacks.first;
+  second = lacks.others other_spare.name (flipped apart) ∙ same other_spare.name ∙ adds.both.other_there;
+  others = λ name n m. lacks.others name n ∙ same name ∙ adds.both.others name n m;
+}
+
+pub spares_left : (spare other_spare : File) → spare.name ≢ other_spare.name → (old mid two now : Option Files)
+    → Goes (AddsBoth spare other_spare) old mid → Goes Same mid two → Goes (MayLack spare.name) two now → Goes (LeavesSpares spare other_spare) old now
+spares_left spare other_spare apart old mid two now adds same lacks =
+    let Adding : Files → Files → Type 0 = AddsBoth spare other_spare in
+    goes_weaker (Then (Then Adding Same) (MayLack spare.name)) (LeavesSpares spare other_spare) old now
+    (λ before after h. spares_left_now spare other_spare apart before h.1.0 h.0 after h.1.1 h.1.2 h.2)
+    (both_go (Then Adding Same) (MayLack spare.name) old two now (both_go Adding Same old mid two adds same) lacks)
+
+-- what is left where two spare files weren't added
+pub spares_unadded : (one spare other_spare : File) (fault : PutFault) (old now : Option Files)
+    → Goes (LeftOfAdding spare fault) old now → Goes (LeftOfReplacing one spare other_spare (fault_of_spares fault)) old now
+spares_unadded one spare other_spare puts.Memory old now h = h
+spares_unadded one spare other_spare puts.OneName old now h = h
+spares_unadded one spare other_spare (puts.There which) old now h = h
+spares_unadded one spare other_spare (puts.SpareThere which) old now h = h
+spares_unadded one spare other_spare (puts.Failed which) old now h = h
+spares_unadded one spare other_spare (puts.Half sides.First) old now h =
+    goes_weaker (LeftOfAdding spare (puts.Half sides.First)) (LeftOfReplacing one spare other_spare (puts.Half sides.First)) old now (λ before after none. absurd none) h
+spares_unadded one spare other_spare (puts.Half sides.Second) old now h =
+    goes_weaker (LeftOfAdding spare (puts.Half sides.Second)) (LeftOfReplacing one spare other_spare (puts.Half sides.Second)) old now (λ before after adds. inl adds) h

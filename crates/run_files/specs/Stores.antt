@@ -1,5 +1,5 @@
 -- Files by their names, and how a store of them changes.
-use Rattle.std.specs.Prelude.{◌≡◌, ◌≢◌, ◌≤◌, ◌++◌, ℕ, List, Option, Some, None, Result, MatchResult, codes}
+use Rattle.std.specs.Prelude.{◌≡◌, ◌≢◌, ◌≤◌, ◌⊎◌, ◌++◌, ℕ, List, Option, Some, None, Result, MatchResult, codes}
 use Rattle.mpi_model.specs.Failures.{one_more}
 use Rattle.run_files.specs.declared.store.NewFile.{NewFile}
 use Rattle.run_files.specs.declared.store.PutFault.{PutFault}
@@ -73,6 +73,11 @@ pub record RemovesBoth (one other : List ℕ) (old now : Files) : Type 0 where
   pub absent : (now one ≡ None) × (now other ≡ None)
   pub others : (name : List ℕ) → name ≢ one → name ≢ other → now name ≡ old name
 
+-- There is no file of the first name, or the same as before, and no other has changed.
+pub record MayLack (one : List ℕ) (old now : Files) : Type 0 where
+  pub first : (now one ≡ None) ⊎ (now one ≡ old one)
+  pub others : (name : List ℕ) → name ≢ one → now name ≡ old name
+
 -- no two of these names are the same
 pub record AreDistinct (a b c d : List ℕ) : Type 0 where
   pub first : (a ≢ b) × (a ≢ c) × (a ≢ d)
@@ -103,6 +108,77 @@ fault_of_spares fault = fault
 -- The fault says that nothing is left of what was to be kept.
 abbrev pub LeavesNothing : PutFault → Type 0
 LeavesNothing fault = (half : Which) → fault ≢ puts.Half half
+
+-- What is left of two new files: nothing, and at `Half` the first, which couldn't be taken away again.
+abbrev pub LeftOfAdding : File → PutFault → Files → Files → Type 0
+LeftOfAdding one (puts.Half First) = λ old now. ⊥
+LeftOfAdding one (puts.Half Second) = Adds one.name one.bytes
+LeftOfAdding one fault = Same
+
+-- Of two spare files, which weren't there, the second is left, and maybe the first; no other file has changed.
+pub record LeavesSpares (spare other_spare : File) (old now : Files) : Type 0 where
+  pub none_was : (old spare.name ≡ None) × (old other_spare.name ≡ None)
+  pub first : (now spare.name ≡ None) ⊎ (now spare.name ≡ Some spare.bytes)
+  pub second : now other_spare.name ≡ Some other_spare.bytes
+  pub others : (name : List ℕ) → name ≢ spare.name → name ≢ other_spare.name → now name ≡ old name
+
+-- The first file has its name, and the second its spare name; no other file has changed, so that of the second name is
+-- the old one.
+pub record ReplacesFirst (one spare other_spare : File) (old now : Files) : Type 0 where
+  pub none_was : (old spare.name ≡ None) × (old other_spare.name ≡ None)
+  pub first : now one.name ≡ Some one.bytes
+  pub absent : now spare.name ≡ None
+  pub second : now other_spare.name ≡ Some other_spare.bytes
+  pub others : (name : List ℕ) → name ≢ one.name → name ≢ spare.name → name ≢ other_spare.name → now name ≡ old name
+
+-- What is left of two files that don't take the place of others: nothing, and at `Half` spare files, and maybe the
+-- first file in its place.
+abbrev pub LeftOfReplacing : (one spare other_spare : File) → PutFault → Files → Files → Type 0
+LeftOfReplacing one spare other_spare (puts.Half First) = LeavesSpares spare other_spare
+LeftOfReplacing one spare other_spare (puts.Half Second) = λ old now. Adds spare.name spare.bytes old now ⊎ ReplacesFirst one spare other_spare old now
+LeftOfReplacing one spare other_spare fault = Same
+
+-- a file under another name
+abbrev pub named : List ℕ → File → File
+named name file = record { name = name; bytes = file.bytes }
+
+-- the name of the last file that a store has refused, after this refusal to add one
+abbrev pub last_refused : List ℕ → List ℕ → StoreFault → List ℕ
+last_refused path last stores.There = last
+last_refused path last stores.Failed = path
+
+-- Where a store tells the name of the last file that it has refused, that is this one where it failed to add it.
+abbrev pub TellsAdding : {T : Type 0} → List ℕ → Option (List ℕ) → Option (List ℕ) → Result T StoreFault → Type 0
+TellsAdding path None now r = Unit {0}
+TellsAdding path (Some last) now r = MatchResult r (λ _. now ≡ Some last) (λ fault. now ≡ Some (last_refused path last fault))
+
+-- The same, where it failed to remove or rename this one.
+abbrev pub TellsChange : {T E : Type 0} → List ℕ → Option (List ℕ) → Option (List ℕ) → Result T E → Type 0
+TellsChange path None now r = Unit {0}
+TellsChange path (Some last) now r = MatchResult r (λ _. now ≡ Some last) (λ _. now ≡ Some path)
+
+-- The last file that a store has refused is this one, where it tells which.
+abbrev pub IsLastRefused : List ℕ → Option (List ℕ) → Option (List ℕ) → Type 0
+IsLastRefused path None now = Unit {0}
+IsLastRefused path (Some last) now = now ≡ Some path
+
+-- It has refused none since.
+abbrev pub RefusesNone : Option (List ℕ) → Option (List ℕ) → Type 0
+RefusesNone None now = Unit {0}
+RefusesNone (Some last) now = now ≡ Some last
+
+-- A fault of two new files names the one that couldn't be written.
+abbrev pub NamesUnadded : (one other : List ℕ) → PutFault → Option (List ℕ) → Option (List ℕ) → Type 0
+NamesUnadded one other (puts.Failed First) last now = IsLastRefused one last now
+NamesUnadded one other (puts.Failed Second) last now = IsLastRefused other last now
+NamesUnadded one other fault last now = Unit {0}
+
+-- A fault of two files that don't take the place of others names the one that couldn't be written under its spare name,
+-- or, of the first, renamed.
+abbrev pub NamesUnreplaced : (one spare other_spare : List ℕ) → PutFault → Option (List ℕ) → Option (List ℕ) → Type 0
+NamesUnreplaced one spare other_spare (puts.Failed First) last now = IsLastRefused spare last now ⊎ IsLastRefused one last now
+NamesUnreplaced one spare other_spare (puts.Failed Second) last now = IsLastRefused other_spare last now
+NamesUnreplaced one spare other_spare fault last now = Unit {0}
 
 -- Why two files of these names aren't added to a store: they have one name, a file is there, or the store failed
 -- meanwhile.

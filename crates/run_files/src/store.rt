@@ -1,6 +1,6 @@
 //! Where the two files are kept: both or none.
 
-ghost use Rattle.std.specs.Prelude.{◌≡◌, ◌≤◌, ◌↔◌, IfErr, IsTrue, None, OnErr, OnOk, Option, ℕ};
+ghost use Rattle.std.specs.Prelude.{◌≡◌, ◌≤◌, ◌↔◌, IfErr, IsTrue, List, None, OnErr, OnOk, Option, ℕ};
 ghost use Rattle.mpi_model.specs.Failures.{CountsFailure, HasFailed};
 ghost use Rattle.run_files.specs.Stores.{
   Adds,
@@ -12,16 +12,25 @@ ghost use Rattle.run_files.specs.Stores.{
   HasBoth,
   IsThere,
   LeavesNothing,
+  LeftOfAdding,
+  LeftOfReplacing,
+  MayLack,
   Moves,
+  NamesUnadded,
+  NamesUnreplaced,
   RefusesAdding,
+  RefusesNone,
   RefusesReplacing,
   Removes,
   RemovesBoth,
   Same,
+  TellsAdding,
+  TellsChange,
   Told,
   fault_of_adding,
   fault_of_spares,
   file_of,
+  named,
   spare_name,
 };
 ghost use Rattle.run_files.specs.declared.store.StoreFault.TheVariants.{There};
@@ -48,25 +57,32 @@ pub trait Store: Drop {
     /// How often it has failed, up to 2^64 - 1.
     ghost failures: { Self → ℕ };
 
+    /// The name of the file at which it has failed last; `None` if no contract can know it.
+    ghost refused: { Self → Option (List ℕ) } = { λ _. None };
+
     /// Adds a file of a name that no file has, whole or not at all. On an error no file changes; `There` says that
     /// there is such a file.
     fn add(&mut self, path: &str, bytes: &[u8]) -> Result<(), StoreFault>
         ensures ok { OnOk result (Goes (Adds path.now bytes.now) (files self.old) (files self.new)) }
         ensures err { OnErr result (Goes Same (files self.old) (files self.new)) }
         ensures there { IfErr result (λ fault. fault ≡ There → Told (IsThere path.now) (files self.old)) }
-        ensures failures { CountsAdding (failures self.old) (failures self.new) result };
+        ensures failures { CountsAdding (failures self.old) (failures self.new) result }
+        ensures refused { TellsAdding path.now (refused self.old) (refused self.new) result };
 
     /// Removes a file. On `Failed` no file changes.
     fn remove(&mut self, path: &str) -> Result<(), Failed>
         ensures ok { OnOk result (Goes (Removes path.now) (files self.old) (files self.new)) }
         ensures err { OnErr result (Goes Same (files self.old) (files self.new)) }
-        ensures failures { CountsFailure (failures self.old) (failures self.new) result };
+        ensures failures { CountsFailure (failures self.old) (failures self.new) result }
+        ensures refused { TellsChange path.now (refused self.old) (refused self.new) result };
 
-    /// Renames a file, and replaces the file that has the new name. On `Failed` no file changes.
+    /// Renames a file, and replaces the file that has the new name. On `Failed` no file changes, and the file that it has
+    /// failed at is that of the new name.
     fn rename(&mut self, from: &str, to: &str) -> Result<(), Failed>
         ensures ok { OnOk result (Goes (Moves from.now to.now) (files self.old) (files self.new)) }
         ensures err { OnErr result (Goes Same (files self.old) (files self.new)) }
-        ensures failures { CountsFailure (failures self.old) (failures self.new) result };
+        ensures failures { CountsFailure (failures self.old) (failures self.new) result }
+        ensures refused { TellsChange to.now (refused self.old) (refused self.new) result };
 }
 
 /// A file to be written: its name and its bytes.
@@ -123,7 +139,8 @@ fn fault_of(fault: StoreFault, which: Which) -> PutFault
     }
 }
 
-/// Writes two new files, both or none. At a fault the files are as they were, unless the fault is `Half`.
+/// Writes two new files, both or none. At a fault the files are as they were, unless the fault is `Half`: then the first
+/// one is left.
 pub fn add_both<S: Store>(
     store: &mut S,
     one: NewFile<'_>,
@@ -134,6 +151,9 @@ pub fn add_both<S: Store>(
     ensures cause { IfErr result (RefusesAdding one.entry.name.now other.entry.name.now (S.files store.old)
         (HasFailed (S.failures store.old) (S.failures store.new))) }
     ensures failures { S.failures store.old ≤ S.failures store.new }
+    ensures left { IfErr result (λ fault. Goes (LeftOfAdding (file_of one.entry) fault) (S.files store.old) (S.files store.new)) }
+    ensures refused { IfErr result (λ fault. NamesUnadded one.entry.name.now other.entry.name.now fault (S.refused store.old) (S.refused store.new)) }
+    ensures none { OnOk result (RefusesNone (S.refused store.old) (S.refused store.new)) }
 {
     if one.name == other.name {
         return Err(PutFault::OneName);
@@ -162,6 +182,8 @@ fn remove_both<S: Store>(store: &mut S, one: &str, other: &str) -> Result<(), Fa
     ensures ok { OnOk result (Goes (RemovesBoth one.now other.now) (S.files store.old) (S.files store.new)) }
     ensures failed { OnErr result (HasFailed (S.failures store.old) (S.failures store.new)) }
     ensures failures { S.failures store.old ≤ S.failures store.new }
+    ensures left { OnErr result (Goes (MayLack one.now) (S.files store.old) (S.files store.new)) }
+    ensures none { OnOk result (RefusesNone (S.refused store.old) (S.refused store.new)) }
 {
     store.remove(one)?;
     store.remove(other)
@@ -189,6 +211,10 @@ fn replace_by<S: Store>(
     ensures err { IfErr result (λ fault. LeavesNothing fault → Goes Same (S.files store.old) (S.files store.new)) }
     ensures cause { IfErr result (RefusesReplacing one.entry.name.now other.entry.name.now spares.entry.0.now spares.entry.1.now
         (S.files store.old) (HasFailed (S.failures store.old) (S.failures store.new))) }
+    ensures left { IfErr result (λ fault. Goes (LeftOfReplacing (file_of one.entry) (named spares.entry.0.now (file_of one.entry))
+        (named spares.entry.1.now (file_of other.entry)) fault) (S.files store.old) (S.files store.new)) }
+    ensures refused { IfErr result (λ fault. NamesUnreplaced one.entry.name.now spares.entry.0.now spares.entry.1.now fault
+        (S.refused store.old) (S.refused store.new)) }
 {
     let (first, second) = spares;
     let spare = NewFile {
@@ -215,7 +241,8 @@ fn replace_by<S: Store>(
 }
 
 /// Writes two files in place of those of their names, both or none. At a fault the files are as they were, unless the
-/// fault is `Half`.
+/// fault is `Half`: then spare files are left, and the first file may be in its place. The file of the second name is the
+/// old one.
 pub fn replace_both<S: Store>(
     alloc: Global,
     store: &mut S,
@@ -226,6 +253,10 @@ pub fn replace_both<S: Store>(
     ensures err { IfErr result (λ fault. LeavesNothing fault → Goes Same (S.files store.old) (S.files store.new)) }
     ensures cause { IfErr result (RefusesReplacing one.entry.name.now other.entry.name.now (spare_name one.entry.name.now)
         (spare_name other.entry.name.now) (S.files store.old) (HasFailed (S.failures store.old) (S.failures store.new))) }
+    ensures left { IfErr result (λ fault. Goes (LeftOfReplacing (file_of one.entry) (named (spare_name one.entry.name.now) (file_of one.entry))
+        (named (spare_name other.entry.name.now) (file_of other.entry)) fault) (S.files store.old) (S.files store.new)) }
+    ensures refused { IfErr result (λ fault. NamesUnreplaced one.entry.name.now (spare_name one.entry.name.now)
+        (spare_name other.entry.name.now) fault (S.refused store.old) (S.refused store.new)) }
 {
     let first = format!(in alloc; "{}.new", one.name)?;
     let second = format!(in alloc; "{}.new", other.name)?;

@@ -9,5 +9,6 @@ pub mod Ordered
 pub mod Preparing
 pub mod Reading
 pub mod Runs
+pub mod Seats
 pub mod Seen
 pub mod SeenTexts

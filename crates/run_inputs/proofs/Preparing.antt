@@ -2,7 +2,7 @@
 use Rattle.std.proofs.Common.{◌≡◌, ◌∙◌, ◌-◌, ◌^◌, ℕ, Bool, true, List, Option, Some, None, String, Global, ap, cond, inl, inr, is_some, length, min, sym}
 use Rattle.mpi_model.specs.declared.layout.Sends.{Sends}
 use Rattle.comm_makings.specs.declared.calls.RankCalls.{RankCalls}
-use Rattle.text_layouts.specs.Seats.{IsSpread, in_order, kept, seats_by, seats_for, spread_by, told_size}
+use Rattle.text_layouts.specs.Seats.{IsSpread, beyond_by, in_order, kept, seats_by, seats_for, spread_by, told_size}
 use Rattle.text_layouts.specs.declared.made.Made.{Made}
 use Rattle.run_inputs.specs.Prepared.{AreSeated, Form, IsByRank, IsPrepared, IsPreparedBy, RefusesSaid, RefusesWords, made_notes}
 use Rattle.run_inputs.specs.TextCalls.{AllSay}
@@ -14,9 +14,9 @@ abbrev pub told_so : Option ℕ → Bool → Bool
 told_so spread by_digits = cond (is_some spread) true by_digits
 
 abbrev pub seated_so : (file : List ℕ → Option (List ℕ)) (words names : List (List ℕ)) (by_digits : Bool) (read : List RankCalls) (count : ℕ) (seats : List (Option (List ℕ)))
-    → IsByRank words by_digits names → AllSay file (in_order names) read count → seats ≡ seats_by (told_size read) names → AreSeated file words seats
-seated_so file words names by_digits read count seats by_rank say are =
-    record { by_digits = by_digits; names = names; by_rank = by_rank; read = read; count = count; say = say; are = are }
+    → IsByRank words by_digits names → AllSay file (in_order names) read count → beyond_by (told_size read) names ≡ None → seats ≡ seats_by (told_size read) names → AreSeated file words seats
+seated_so file words names by_digits read count seats by_rank say within are =
+    record { by_digits = by_digits; names = names; by_rank = by_rank; read = read; count = count; say = say; within = within; are = are }
 
 pub prepared_so : (file : List ℕ → Option (List ℕ)) (form : Form) (sends : Sends) (words : List (List ℕ)) (told : Bool) (ranks : List RankCalls) (calls shown : ℕ)
     (seats : List (Option (List ℕ))) (made : Made) (notes : List ℕ) (seated : AreSeated file words seats)
@@ -32,7 +32,7 @@ prepared_so file form sends words told ranks calls shown seats made notes seated
 pub said_refused : (file : List ℕ → Option (List ℕ)) (words : List (List ℕ)) (seats : List (Option (List ℕ))) (ranks : List RankCalls) (calls : ℕ) (fault : InitFault)
     → AreSeated file words seats → AllSay file seats ranks calls → RefusesSaid ranks fault → RefusesWords file words fault
 said_refused file words seats ranks calls faults.Memory seated say h = inl tt
-said_refused file words seats ranks calls (faults.Made f) seated say h = inr (inr (seats, seated, inr (ranks, (calls, say), h)))
+said_refused file words seats ranks calls (faults.Made f) seated say h = inr (inr (inr (seats, seated, inr (ranks, (calls, say), h))))
 said_refused file words seats ranks calls (faults.Text f) seated say h = absurd h
 said_refused file words seats ranks calls (faults.NoCall path) seated say h = absurd h
 said_refused file words seats ranks calls (faults.Piped path) seated say h = absurd h
@@ -40,6 +40,7 @@ said_refused file words seats ranks calls (faults.Strange path start) seated say
 said_refused file words seats ranks calls (faults.NoTexts path) seated say h = absurd h
 said_refused file words seats ranks calls faults.TooMany seated say h = absurd h
 said_refused file words seats ranks calls (faults.Twice path) seated say h = absurd h
+said_refused file words seats ranks calls (faults.Beyond path) seated say h = absurd h
 said_refused file words seats ranks calls (faults.There path) seated say h = absurd h
 said_refused file words seats ranks calls (faults.SpareThere path) seated say h = absurd h
 said_refused file words seats ranks calls (faults.NotWritten path) seated say h = absurd h

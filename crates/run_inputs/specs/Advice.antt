@@ -1,6 +1,7 @@
 -- What is said below the line of a fault to a person who asked for words: what was found, and what to do.
 use Rattle.std.specs.Prelude.{◌≡◌, ◌++◌, ℕ, Bool, true, false, List, [], Option, Some, None, codes, decimal, string_bytes, Vec}
 use Rattle.std.specs.declared.alloc.Global.{Global}
+use Rattle.mpi_model.specs.declared.device.WriteReason.{WriteReason}
 use Rattle.dumpi_calls.specs.Readings.{name_of}
 use Rattle.dumpi_calls.specs.declared.parameter.Parameter.{Parameter}
 use Rattle.dumpi_text.specs.declared.fault.TextCause.{TextCause}
@@ -8,7 +9,7 @@ use Rattle.dumpi_text.specs.declared.fault.TextCause.TheVariants as causes
 use Rattle.text_notes.specs.declared.start.Start.{Start}
 use Rattle.command_line.specs.declared.Verb.{Verb}
 use Rattle.command_line.specs.declared.Verb.TheVariants as verbs
-use Rattle.run_inputs.specs.FaultLines.{fault_line_of}
+use Rattle.run_inputs.specs.SaidLines.{line_with}
 use Rattle.run_inputs.specs.Starts.{BeginsSo, HasValueSo}
 use Rattle.run_inputs.specs.Sentences.{begun_text, field_text, folder_text, layout_text, line_text, packed_text, plain_text, said, wanted_text}
 use Rattle.run_inputs.specs.ShownBytes.{value_text}
@@ -78,7 +79,8 @@ is_in_words (verbs.Explain extent) = true
 is_in_words (verbs.ExplainRank rank) = true
 is_in_words _ = false
 
--- The line of the fault is shown, and below it, where it is to be in words, what was found and what to do.
+-- The line of the fault is shown, of a refused write perhaps with a reason, and below it, where it is to be in words, what was found and what to do.
 abbrev pub IsShownIn : Bool → (List ℕ → Option (List ℕ)) → RunFault → List ℕ → Type 0
-IsShownIn false file fault errors = errors ≡ fault_line_of fault
-IsShownIn true file fault errors = (found : Found) × IsFound file fault found × (errors ≡ fault_line_of fault ++ advice_text fault found)
+IsShownIn false file fault errors = (reason : Option WriteReason) × (errors ≡ line_with fault reason)
+IsShownIn true file fault errors = (reason : Option WriteReason) × (found : Found) × IsFound file fault found
+    × (errors ≡ line_with fault reason ++ advice_text fault found)

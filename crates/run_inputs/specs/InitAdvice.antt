@@ -2,23 +2,29 @@
 use Rattle.std.specs.Prelude.{◌≡◌, ◌==◌, ◌-◌, ◌++◌, ℕ, Bool, true, false, List, [], Option, None, codes, decimal, string_bytes, if◌then◌else◌}
 use Rattle.command_line.specs.declared.Verb.{Verb}
 use Rattle.run_inputs.specs.Advice.{IsFound, advice_text, is_in_words}
+use Rattle.run_inputs.specs.FileNames.{shown_name}
 use Rattle.run_inputs.specs.Starts.{BeginsSo}
 use Rattle.run_inputs.specs.Sentences.{begun_text, layout_text, said}
 use Rattle.run_inputs.specs.declared.faults.found.Found.{Found}
 use Rattle.text_layouts.specs.declared.fault.MadeFault.TheVariants as mades
 use Rattle.run_inputs.specs.InitFaults.{init_fault_line_of}
 use Rattle.run_inputs.specs.declared.faults.init_fault.InitFault.{InitFault}
-use Rattle.run_inputs.specs.declared.faults.init_fault.InitFault.TheVariants.{Text, NoCall, Made, Outside}
+use Rattle.run_inputs.specs.declared.faults.init_fault.InitFault.TheVariants.{Text, NoCall, Beyond, Made, Outside}
 
 -- which ranks there are
 abbrev pub ranks_there_text : ℕ → List ℕ
 ranks_there_text ranks = if ranks - 1 == 0 then said (codes "there is rank 0 alone") else codes "  there are ranks 0 to " ++ decimal (ranks - 1) ++ codes "\n"
 
--- the words: of a text that is refused those of its fault, of one without a call what it begins as, of a layout that
--- breaks a rule the rule, and of a rank that is not there which there are
+-- which text is of a rank that no layout has
+abbrev pub beyond_text : List ℕ → List ℕ
+beyond_text name = codes "  " ++ shown_name name ++ codes " is of a rank above 1023, by the digits of its name: a layout has at most 1024 ranks\n"
+
+-- the words: of a text that is refused those of its fault, of one without a call what it begins as, of one whose rank no
+-- layout has its name, of a layout that breaks a rule the rule, and of a rank that is not there which there are
 abbrev pub init_advice_text : InitFault → Found → List ℕ
 init_advice_text (Text fault) found = advice_text fault found
 init_advice_text (NoCall path) found = begun_text found.start
+init_advice_text (Beyond path) found = beyond_text (string_bytes path)
 init_advice_text (Made (mades.Layout fault)) found = layout_text fault
 init_advice_text (Outside ranks) found = ranks_there_text ranks
 init_advice_text fault found = []

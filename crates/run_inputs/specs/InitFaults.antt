@@ -1,5 +1,6 @@
 -- The line of a fault.
 use Rattle.std.specs.Prelude.{◌≡◌, ◌==◌, ℕ, List, ◌++◌, codes, decimal, string_bytes, if◌then◌else◌}
+use Rattle.mpi_model.specs.declared.layout.fault.LayoutFault.TheVariants.{RankCount}
 use Rattle.run_files.specs.declared.store.PutFault.{PutFault}
 use Rattle.run_files.specs.declared.store.PutFault.TheVariants as puts
 use Rattle.run_files.specs.declared.store.Which.{Which}
@@ -10,7 +11,7 @@ use Rattle.run_inputs.specs.Sentences.{strange_text}
 use Rattle.text_layouts.specs.declared.fault.MadeFault.{MadeFault}
 use Rattle.text_layouts.specs.declared.fault.MadeFault.TheVariants as mades
 use Rattle.run_inputs.specs.declared.faults.init_fault.InitFault.{InitFault}
-use Rattle.run_inputs.specs.declared.faults.init_fault.InitFault.TheVariants.{Memory, Text, NoCall, Piped, Strange, NoTexts, TooMany, Twice, Made, There, SpareThere, NotWritten, Half, Outside, OneName, Write}
+use Rattle.run_inputs.specs.declared.faults.init_fault.InitFault.TheVariants.{Memory, Text, NoCall, Piped, Strange, NoTexts, TooMany, Twice, Beyond, Made, There, SpareThere, NotWritten, Half, Outside, OneName, Write}
 
 -- two ranks, and what is said of them
 abbrev pub ranks_text : ℕ → ℕ → List ℕ → List ℕ
@@ -43,6 +44,7 @@ init_fault_text (Strange path start) = shown_name (string_bytes path) ++ strange
 init_fault_text (NoTexts path) = shown_name (string_bytes path) ++ codes " is a folder without a file whose name ends in .txt"
 init_fault_text TooMany = codes "more than 1024 texts, which are more ranks than a layout can have"
 init_fault_text (Twice path) = shown_name (string_bytes path) ++ codes " is of the rank of a text before it, by the digits of its name"
+init_fault_text (Beyond path) = made_fault_text (mades.Layout RankCount)
 init_fault_text (Made fault) = made_fault_text fault
 init_fault_text (There path) = shown_name (string_bytes path) ++ codes " is there already: --force writes over it"
 init_fault_text (SpareThere path) = shown_name (string_bytes path) ++ codes " can not be written while there is a file of its name with .new behind it"

@@ -4,7 +4,7 @@ use Rattle.std.specs.Io.KnownBytes.{Appends, Keeps}
 use Rattle.mpi_model.specs.declared.layout.Sends.{Sends}
 use Rattle.command_line.specs.Program.{Wish}
 use Rattle.run_files.specs.Manifests.{PieceParts, marked}
-use Rattle.run_files.specs.Stores.{AddsBoth, File, Files, Goes, HasBoth, LeavesNothing, RefusesAdding, RefusesReplacing, Same, spare_name}
+use Rattle.run_files.specs.Stores.{AddsBoth, File, Files, Goes, HasBoth, LeavesNothing, LeftOfAdding, LeftOfReplacing, RefusesAdding, RefusesReplacing, Same, named, spare_name}
 use Rattle.run_files.specs.Values.{manifest_value}
 use Rattle.run_files.specs.declared.store.PutFault.{PutFault}
 use Rattle.text_layouts.specs.Making.{IsFile, RefusesLayoutFile, RefusesManifestFile, made_layout}
@@ -55,13 +55,22 @@ refuses_keeping false one other = RefusesAdding one other
 abbrev pub RefusesPutting : Wish → Option Files → Type 0 → PutFault → Type 0
 RefusesPutting wish = refuses_keeping wish.force wish.layout wish.manifest
 
+-- What is left of both files: where they may replace others, and else.
+abbrev pub LeftOfPutting : Bool → File → File → PutFault → Files → Files → Type 0
+LeftOfPutting true one other = LeftOfReplacing one (named (spare_name one.name) one) (named (spare_name other.name) other)
+LeftOfPutting false one other = LeftOfAdding one
+
 -- What was made of the texts isn't kept for this cause; nothing has changed, unless the fault says that something is
 -- left.
-pub record IsUnkept (wish : Wish) (old new : Option Files) (failed : Type 0) (fault : InitFault) : Type 0 where
+pub record IsUnkept (wish : Wish) (made : Made) (is_cut : List ℕ → Bool) (old new : Option Files) (failed : Type 0) (fault : InitFault) : Type 0 where
+  pub layout : List ℕ
+  pub manifest : List ℕ
+  pub are : AreFilesOf made is_cut layout manifest
   pub why : PutFault
   pub told : IsPutFault wish.layout wish.manifest why fault
   pub cause : RefusesPutting wish old failed why
-  pub left : LeavesNothing why → Goes Same old new
+  pub nothing : LeavesNothing why → Goes Same old new
+  pub left : Goes (LeftOfPutting wish.force (file_with wish.layout layout) (file_with wish.manifest manifest) why) old new
 
 -- ---- `init`
 
@@ -96,7 +105,7 @@ RanInit file words wish old new failed (Ok done) written failures before after =
     × KeepsMade wish of.made of.is_cut old new × Appends (written before) (written after) (notes_of (wished_form wish) of.made of.is_made)
 RanInit file words wish old new failed (Err fault) written failures before after =
     (RefusesTexts file words fault × Goes Same old new × Keeps (written before) (written after))
-    ⊎ (((of : MakesOf file wish.sends words) × ((RefusesFiles of.made of.is_cut fault × Goes Same old new) ⊎ IsUnkept wish old new failed fault)
+    ⊎ (((of : MakesOf file wish.sends words) × ((RefusesFiles of.made of.is_cut fault × Goes Same old new) ⊎ IsUnkept wish of.made of.is_cut old new failed fault)
     × Keeps (written before) (written after))
     ⊎ ((fault ≡ faults.Write) × ((of : MakesOf file wish.sends words) × KeepsMade wish of.made of.is_cut old new
     × BreaksOff (λ text. text ≡ notes_of (wished_form wish) of.made of.is_made) written failures before after)))

@@ -10,12 +10,14 @@ pub mod Inputs
 pub mod Looks
 pub mod NoTexts
 pub mod Prepared
+pub mod SaidLines
 pub mod Seen
 pub mod Sentences
 pub mod ShownBytes
 pub mod Starts
 pub mod Telling
 pub mod TextCalls
+pub mod TextReads
 pub mod WalkFaults
 pub mod Whole
 pub mod Writing

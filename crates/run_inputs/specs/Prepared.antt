@@ -1,5 +1,5 @@
 -- The input of a run that is made of texts, and why none is.
-use Rattle.std.specs.Prelude.{◌≡◌, ◌<◌, ◌≤◌, ◌⊎◌, ◌++◌, ℕ, Bool, true, false, List, [], Option, Some, ◌-◌, ◌^◌, codes, is_some, length, map, min, slice_get, string_bytes, if◌then◌else◌}
+use Rattle.std.specs.Prelude.{◌≡◌, ◌<◌, ◌≤◌, ◌⊎◌, ◌++◌, ℕ, Bool, true, false, List, [], Option, Some, None, ◌-◌, ◌^◌, codes, is_some, length, map, min, slice_get, string_bytes, if◌then◌else◌}
 use Rattle.mpi_model.specs.Layouts.{Holds}
 use Rattle.mpi_model.specs.declared.layout.Sends.{Sends}
 use Rattle.mpi_model.specs.declared.layout.TheConstants.{MOST_RANKS}
@@ -10,7 +10,7 @@ use Rattle.run_files.specs.Values.{line_of}
 use Rattle.text_layouts.specs.Found.{found_value}
 use Rattle.text_layouts.specs.Making.{AreObjectsOf, RefusesMaking}
 use Rattle.text_layouts.specs.Names.{IsOrder, IsTwice, numbers_of}
-use Rattle.text_layouts.specs.Seats.{in_order, missing_from, missing_text, seats_by, spread_by, texts_from, told_size}
+use Rattle.text_layouts.specs.Seats.{beyond_by, in_order, missing_from, missing_text, seats_by, spread_by, texts_from, told_size}
 use Rattle.text_layouts.specs.Words.{notes_text}
 use Rattle.text_layouts.specs.declared.made.Made.{Made}
 use Rattle.text_layouts.specs.declared.order.Order.{Order}
@@ -19,7 +19,7 @@ use Rattle.run_inputs.specs.TextCalls.{AllSay, RefusesOne}
 use Rattle.run_inputs.specs.declared.load.prepared.Saying.{Saying}
 use Rattle.run_inputs.specs.declared.load.prepared.Saying.TheVariants as sayings
 use Rattle.run_inputs.specs.declared.faults.init_fault.InitFault.{InitFault}
-use Rattle.run_inputs.specs.declared.faults.init_fault.InitFault.TheVariants.{Memory, TooMany, Twice, Made as NotMade}
+use Rattle.run_inputs.specs.declared.faults.init_fault.InitFault.TheVariants.{Memory, TooMany, Twice, Beyond, Made as NotMade}
 
 -- These are the names at those places, in their order.
 abbrev pub AreAt : List (List ℕ) → List ℕ → List (List ℕ) → Type 0
@@ -42,7 +42,7 @@ IsByRank words by_digits names = (order : Order) × IsOrder (numbers_of words) o
 
 -- The texts that these words name are those of these ranks: in the order of their names' digits or else of the words;
 -- but by the numbers of their names, with ranks that have no text, where these and what the texts in that order tell of
--- the size of MPI_COMM_WORLD say so.
+-- the size of MPI_COMM_WORLD say so. None has the number of a rank that no layout has.
 pub record AreSeated (file : List ℕ → Option (List ℕ)) (words : List (List ℕ)) (seats : List (Option (List ℕ))) : Type 0 where
   pub by_digits : Bool
   pub names : List (List ℕ)
@@ -50,6 +50,7 @@ pub record AreSeated (file : List ℕ → Option (List ℕ)) (words : List (List
   pub read : List RankCalls
   pub count : ℕ
   pub say : AllSay file (in_order names) read count
+  pub within : beyond_by (told_size read) names ≡ None
   pub are : seats ≡ seats_by (told_size read) names
 
 -- the digits of the names tell which text is of which rank
@@ -81,17 +82,30 @@ RefusesNames words TooMany = MOST_RANKS < length words
 RefusesNames words (Twice path) = (length words ≤ MOST_RANKS) × (one other : ℕ) × IsTwice (numbers_of words) one other × (slice_get words other ≡ Some (string_bytes path))
 RefusesNames words _ = ⊥
 
+-- The first of these texts whose name has the number of a rank that no layout has, by the size that is told.
+abbrev pub RefusesBeyond : List RankCalls → List (List ℕ) → InitFault → Type 0
+RefusesBeyond read names Memory = Unit {0}
+RefusesBeyond read names (Beyond path) = beyond_by (told_size read) names ≡ Some (string_bytes path)
+RefusesBeyond read names _ = ⊥
+
+-- By its number a name is of a rank that no layout has: by what the texts in the order of their names' digits or of the
+-- words tell of the size of MPI_COMM_WORLD.
+abbrev pub RefusesNumber : (List ℕ → Option (List ℕ)) → List (List ℕ) → InitFault → Type 0
+RefusesNumber file words fault = (names : List (List ℕ)) × ((by_digits : Bool) × IsByRank words by_digits names)
+    × ((read : List RankCalls) × ((count : ℕ) × AllSay file (in_order names) read count) × RefusesBeyond read names fault)
+
 -- What the texts of these ranks say makes no layout.
 abbrev pub RefusesMade : (List ℕ → Option (List ℕ)) → List (Option (List ℕ)) → InitFault → Type 0
 RefusesMade file seats (NotMade fault) = (ranks : List RankCalls) × ((calls : ℕ) × AllSay file seats ranks calls) × RefusesMaking ranks fault
 RefusesMade file seats _ = ⊥
 
--- Why nothing is made of the texts that these words name: their names, then one of the texts in their order or of the
--- ranks, then what they say together.
+-- Why nothing is made of the texts that these words name: their names, then one of the texts in their order, then the
+-- number of a name, then one of the texts of the ranks, then what they say together.
 abbrev pub RefusesWords : (List ℕ → Option (List ℕ)) → List (List ℕ) → InitFault → Type 0
 RefusesWords file words fault = RefusesNames words fault
     ⊎ (((names : List (List ℕ)) × ((by_digits : Bool) × IsByRank words by_digits names) × (length words ≤ MOST_RANKS) × RefusesOne file (in_order names) fault)
-    ⊎ ((seats : List (Option (List ℕ))) × AreSeated file words seats × (RefusesOne file seats fault ⊎ RefusesMade file seats fault)))
+    ⊎ (RefusesNumber file words fault
+    ⊎ ((seats : List (Option (List ℕ))) × AreSeated file words seats × (RefusesOne file seats fault ⊎ RefusesMade file seats fault))))
 
 -- ---- what is said of it
 

@@ -4,14 +4,14 @@ ghost use Rattle.std.specs.Prelude.{◌≡◌, ◌≢◌, IfErr, IfOk, OnOk, map
 ghost use Rattle.mpi_model.specs.Failures.{HasFailed};
 ghost use Rattle.run_files.specs.Stores.{Goes, LeavesNothing, Same};
 ghost use Rattle.command_line.specs.Program.{texts_of, wish_of};
-ghost use Rattle.run_inputs.specs.Inits.{AreFilesOf, PutsBoth, RanInit, RefusesFiles, RefusesPutting, all_marked, file_with, wished_form};
+ghost use Rattle.run_inputs.specs.Inits.{AreFilesOf, LeftOfPutting, PutsBoth, RanInit, RefusesFiles, RefusesPutting, all_marked, file_with, wished_form};
 ghost use Rattle.run_inputs.specs.Prepared.{form_of};
 ghost use Rattle.run_inputs.specs.Seen.{is_cut, kept_of};
 ghost use Rattle.run_inputs.specs.declared.faults.init_fault.InitFault.TheVariants.{Memory};
 
 use crate::faults::init_fault::{InitFault, put_fault};
 use crate::load::cut_files::CutFiles;
-use crate::load::opener::Opener;
+use crate::load::opener::{Opener, SharedOpener};
 use crate::load::prepared::{Prepared, Saying};
 use crate::load::seen::prepared_of;
 use command_line::Wanted;
@@ -75,6 +75,8 @@ fn keep<S: Store>(
     ensures ok { OnOk result (Goes (PutsBoth wanted.entry.force (file_with wanted.entry.layout.now both.now.layout.items) (file_with wanted.entry.manifest.now both.now.manifest.items))
         (S.files store.old) (S.files store.new)) }
     ensures err { IfErr result (λ fault. LeavesNothing fault → Goes Same (S.files store.old) (S.files store.new)) }
+    ensures left { IfErr result (λ fault. Goes (LeftOfPutting wanted.entry.force (file_with wanted.entry.layout.now both.now.layout.items)
+        (file_with wanted.entry.manifest.now both.now.manifest.items) fault) (S.files store.old) (S.files store.new)) }
     ensures cause { IfErr result (RefusesPutting (wish_of wanted.entry) (S.files store.old)
         (HasFailed (S.failures store.old) (S.failures store.new))) }
 {
@@ -119,7 +121,7 @@ fn saying_of<'a>(wanted: Wanted<'a>) -> Saying<'a>
 }
 
 /// Makes both files of the texts, keeps them, and prints what was found.
-pub fn init<O: Opener, S: Store, W: Write>(
+pub fn init<O: SharedOpener, S: Store, W: Write>(
     alloc: Global,
     texts: &[&str],
     wanted: Wanted<'_>,
@@ -127,6 +129,8 @@ pub fn init<O: Opener, S: Store, W: Write>(
     store: &mut S,
     out: &mut W,
 ) -> Result<(), InitFault>
+where
+    O::R: Send,
     ensures { RanInit (O.file files.now) (texts_of texts.now) (wish_of wanted.entry) (S.files store.old) (S.files store.new)
         (HasFailed (S.failures store.old) (S.failures store.new)) result W.written W.failures out.old out.new }
 {

@@ -6,6 +6,7 @@ pub(crate) mod file_name;
 pub(crate) mod found;
 pub(crate) mod init_advice;
 pub(crate) mod init_fault;
+pub(crate) mod said_line;
 pub(crate) mod sentences;
 pub(crate) mod shown_bytes;
 pub(crate) mod walk_fault;

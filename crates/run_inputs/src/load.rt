@@ -1,6 +1,7 @@
 //! Where the input of a run comes from: files, and texts of all ranks.
 
 pub(crate) mod beside;
+pub(crate) mod crewed;
 pub(crate) mod cut;
 pub(crate) mod cut_files;
 pub(crate) mod first_look;
@@ -15,6 +16,7 @@ pub(crate) mod second_look;
 pub(crate) mod seen;
 pub(crate) mod telling;
 pub(crate) mod terminal;
+pub(crate) mod text_reads;
 pub(crate) mod texts;
 pub(crate) mod watch;
 pub(crate) mod watched;

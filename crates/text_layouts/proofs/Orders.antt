@@ -27,6 +27,16 @@ passed false place later e = (refl, e)
 pub record Stands (number place : ℕ) (numbers : List (Option ℕ)) (found : ℕ) : Type 0 where
   pub from : place ≤ found
   pub there : slice_get numbers (found - place) ≡ Some (Some number)
+  pub none : (k : ℕ) → k < found - place → slice_get numbers k ≢ Some (Some number)
+
+other_number : (number : ℕ) (named : Option ℕ) → is_number number named ≡ false → named ≢ Some number
+other_number number named other same = false≢true (sym other ∙ ap (is_number number) same ∙ is_own number)
+
+-- where the first of them has another number, it is found no sooner
+not_before : (number place : ℕ) (named : Option ℕ) (names : List (Option ℕ)) (found : ℕ) → place < found → is_number number named ≡ false
+    → ((k : ℕ) → k < found - (place + 1) → slice_get names k ≢ Some (Some number)) → (k : ℕ) → k < found - place → slice_get (named ∷ names) k ≢ Some (Some number)
+not_before number place named names found low other rest zero below h = other_number number named other (let same : Some named ≡ Some (Some number) = h in cc)
+not_before number place named names found low other rest (suc k) below h = rest k (omega arith) h
 
 pub first_found : (number place : ℕ) (numbers : List (Option ℕ)) (found : ℕ) → first_from number place numbers ≡ Some found → Stands number place numbers found
 first_found number place [] found e = absurd (cc)
@@ -34,12 +44,12 @@ first_found number place (named ∷ names) found e = elim (chosen (is_number num
   | inl here ↦ (
       let at = here.1 in
       let none : found - place ≡ 0 = omega arith in
-      record { from = omega arith; there = ap (slice_get (named ∷ names)) none ∙ ap Some (stands_as number named here.0) })
+      record { from = omega arith; there = ap (slice_get (named ∷ names)) none ∙ ap Some (stands_as number named here.0); none = λ k below. absurd (omega arith) })
   | inr later ↦ (
       let rest = first_found number (place + 1) names found later.1 in
       let low = rest.from in
       let one_more : found - place ≡ suc (found - (place + 1)) = omega arith in
-      record { from = omega arith; there = ap (slice_get (named ∷ names)) one_more ∙ rest.there })
+      record { from = omega arith; there = ap (slice_get (named ∷ names)) one_more ∙ rest.there; none = not_before number place named names found (omega arith) later.0 rest.none })
 ]
 
 pub first_missed : (number place : ℕ) (numbers : List (Option ℕ)) → first_from number place numbers ≡ None → (k : ℕ) → slice_get numbers k ≢ Some (Some number)
@@ -76,15 +86,39 @@ none_later place (Some at) later e = absurd (cc)
 drop_next : {X : Type 0} (xs : List X) (i : ℕ) (d : X) → i < length xs → drop i xs ≡ get_or xs i d ∷ drop (i + 1) xs
 drop_next {X} xs i d below = drop-cons xs i d below ∙ ap (λ (n : ℕ). get_or xs i d ∷ drop n xs) (let one : suc i ≡ i + 1 = omega arith in one)
 
+-- the first number doesn't stand among the others
+alone : (place : ℕ) (number : Option ℕ) (numbers : List (Option ℕ)) (n : ℕ) → again_for place number numbers ≡ None → number ≡ Some n → (k : ℕ) → slice_get numbers k ≢ Some (Some n)
+alone place None numbers n e is k h = absurd (cc)
+alone place (Some m) numbers n e is k h = first_missed m (place + 1) numbers e k (h ∙ ap Some (sym is))
+
 record TwiceFrom (place : ℕ) (numbers : List (Option ℕ)) (first second : ℕ) : Type 0 where
   pub number : ℕ
   pub from : place ≤ first
   pub before : first < second
   pub one : slice_get numbers (first - place) ≡ Some (Some number)
   pub other : slice_get numbers (second - place) ≡ Some (Some number)
+  pub none_before : (i j n : ℕ) → i < first - place → i < j → slice_get numbers i ≡ Some (Some n) → slice_get numbers j ≢ Some (Some n)
+  pub none_between : (j : ℕ) → first - place < j → j < second - place → slice_get numbers j ≢ Some (Some number)
 
-further : (place : ℕ) (number : Option ℕ) (numbers : List (Option ℕ)) (first second : ℕ) → TwiceFrom (place + 1) numbers first second → TwiceFrom place (number ∷ numbers) first second
-further place number numbers first second t =
+-- no number before stands again, where neither the first does nor those behind it
+further_before : (place : ℕ) (number : Option ℕ) (numbers : List (Option ℕ)) (first : ℕ) → place < first
+    → ((n k : ℕ) → number ≡ Some n → slice_get numbers k ≢ Some (Some n))
+    → ((i j n : ℕ) → i < first - (place + 1) → i < j → slice_get numbers i ≡ Some (Some n) → slice_get numbers j ≢ Some (Some n))
+    → (i j n : ℕ) → i < first - place → i < j → slice_get (number ∷ numbers) i ≡ Some (Some n) → slice_get (number ∷ numbers) j ≢ Some (Some n)
+further_before place number numbers first low alone rest zero zero n below less h g = absurd (omega arith)
+further_before place number numbers first low alone rest zero (suc j) n below less h g = alone n j (let one : Some number ≡ Some (Some n) = h in cc) g
+further_before place number numbers first low alone rest (suc i) zero n below less h g = absurd (omega arith)
+further_before place number numbers first low alone rest (suc i) (suc j) n below less h g = rest i j n (omega arith) (omega arith) h g
+
+further_between : (place number : ℕ) (named : Option ℕ) (numbers : List (Option ℕ)) (first second : ℕ) → place < first
+    → ((j : ℕ) → first - (place + 1) < j → j < second - (place + 1) → slice_get numbers j ≢ Some (Some number))
+    → (j : ℕ) → first - place < j → j < second - place → slice_get (named ∷ numbers) j ≢ Some (Some number)
+further_between place number named numbers first second low rest zero behind below h = absurd (omega arith)
+further_between place number named numbers first second low rest (suc j) behind below h = rest j (omega arith) (omega arith) h
+
+further : (place : ℕ) (number : Option ℕ) (numbers : List (Option ℕ)) (first second : ℕ) → ((n k : ℕ) → number ≡ Some n → slice_get numbers k ≢ Some (Some n))
+    → TwiceFrom (place + 1) numbers first second → TwiceFrom place (number ∷ numbers) first second
+further place number numbers first second alone t =
     let from = t.from in
     let before = t.before in
     let first_more : first - place ≡ suc (first - (place + 1)) = omega arith in
@@ -95,7 +129,15 @@ further place number numbers first second t =
       before = t.before;
       one = ap (slice_get (number ∷ numbers)) first_more ∙ t.one;
       other = ap (slice_get (number ∷ numbers)) second_more ∙ t.other;
+      none_before = further_before place number numbers first (omega arith) alone t.none_before;
+      none_between = further_between place t.number number numbers first second (omega arith) t.none_between;
     }
+
+here_between : (place number : ℕ) (named : Option ℕ) (numbers : List (Option ℕ)) (at first second : ℕ) → first ≡ place → second ≡ at
+    → ((k : ℕ) → k < at - (place + 1) → slice_get numbers k ≢ Some (Some number))
+    → (j : ℕ) → first - place < j → j < second - place → slice_get (named ∷ numbers) j ≢ Some (Some number)
+here_between place number named numbers at first second one two none zero behind below h = absurd (omega arith)
+here_between place number named numbers at first second one two none (suc j) behind below h = none j (omega arith) h
 
 here_twice : (place number : ℕ) (numbers : List (Option ℕ)) (at first second : ℕ) → Stands number (place + 1) numbers at → first ≡ place → second ≡ at → TwiceFrom place (Some number ∷ numbers) first second
 here_twice place number numbers at first second s one two =
@@ -108,20 +150,17 @@ here_twice place number numbers at first second s one two =
       before = omega arith;
       one = ap (slice_get (Some number ∷ numbers)) none;
       other = ap (slice_get (Some number ∷ numbers)) more ∙ s.there;
+      none_before = λ i j n below. absurd (omega arith);
+      none_between = here_between place number (Some number) numbers at first second one two s.none;
     }
 
 twice_found : (place : ℕ) (numbers : List (Option ℕ)) (both : ℕ × ℕ) → twice_from place numbers ≡ Some both → TwiceFrom place numbers both.0 both.1
 twice_found place [] both e = absurd (cc)
-twice_found place (None ∷ numbers) both e = further place None numbers both.0 both.1 (twice_found (place + 1) numbers both e)
+twice_found place (None ∷ numbers) both e = further place None numbers both.0 both.1 (λ n k is. absurd (cc)) (twice_found (place + 1) numbers both e)
 twice_found place (Some n ∷ numbers) both e = elim (later_found place (first_from n (place + 1) numbers) (twice_from (place + 1) numbers) both e) [
   | inl here ↦ here_twice place n numbers here.0 both.0 both.1 (first_found n (place + 1) numbers here.0 here.1) (ap (λ (p : ℕ × ℕ). p.0) here.2) (ap (λ (p : ℕ × ℕ). p.1) here.2)
-  | inr later ↦ further place (Some n) numbers both.0 both.1 (twice_found (place + 1) numbers both later.1)
+  | inr later ↦ further place (Some n) numbers both.0 both.1 (λ m k is. alone place (Some n) numbers m later.0 is k) (twice_found (place + 1) numbers both later.1)
 ]
-
--- the first number doesn't stand among the others
-alone : (place : ℕ) (number : Option ℕ) (numbers : List (Option ℕ)) (n : ℕ) → again_for place number numbers ≡ None → number ≡ Some n → (k : ℕ) → slice_get numbers k ≢ Some (Some n)
-alone place None numbers n e is k h = absurd (cc)
-alone place (Some m) numbers n e is k h = first_missed m (place + 1) numbers e k (h ∙ ap Some (sym is))
 
 twice_missed : (place : ℕ) (numbers : List (Option ℕ)) → twice_from place numbers ≡ None → AllApart numbers
 twice_missed place [] e i j n below h g = absurd (cc)
@@ -189,5 +228,7 @@ twice numbers given both is all e =
         before = t.before;
         one = ap (slice_get numbers) (sym one) ∙ t.one;
         other = ap (slice_get numbers) (sym two) ∙ t.other;
+        none_before = λ i j n below. t.none_before i j n (omega (arith, below));
+        none_between = λ j behind below. t.none_between j (omega (arith, behind)) (omega (arith, below));
       },
     )

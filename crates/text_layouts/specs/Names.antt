@@ -102,12 +102,14 @@ AreNumbered numbers = (place : ℕ) → slice_get numbers place ≢ Some None
 abbrev pub AllApart : List (Option ℕ) → Type 0
 AllApart numbers = (i j number : ℕ) → i < j → slice_get numbers i ≡ Some (Some number) → slice_get numbers j ≢ Some (Some number)
 
--- two names have one number
+-- The first name that shares its number with a later one, and the next name of that number.
 pub record IsTwice (numbers : List (Option ℕ)) (first second : ℕ) : Type 0 where
   pub number : ℕ
   pub before : first < second
   pub one : slice_get numbers first ≡ Some (Some number)
   pub other : slice_get numbers second ≡ Some (Some number)
+  pub none_before : (i j n : ℕ) → i < first → i < j → slice_get numbers i ≡ Some (Some n) → slice_get numbers j ≢ Some (Some n)
+  pub none_between : (j : ℕ) → first < j → j < second → slice_get numbers j ≢ Some (Some number)
 
 -- which text is of which rank: by the numbers at the names' ends, or else in the order of the words
 abbrev pub IsOrder : List (Option ℕ) → Order → Type 0

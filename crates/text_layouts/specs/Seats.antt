@@ -5,7 +5,7 @@ use Rattle.mpi_model.specs.declared.layout.TheConstants.{MOST_RANKS}
 use Rattle.comm_makings.specs.declared.calls.RankCalls.{RankCalls}
 use Rattle.call_words.specs.Ranges.{named_ranks_text}
 use Rattle.run_files.specs.Manifests.{PieceParts, whole_text}
-use Rattle.text_layouts.specs.Names.{first_from, numbers_of}
+use Rattle.text_layouts.specs.Names.{are_numbered, first_from, numbers_of}
 
 -- ---- how many ranks there are
 
@@ -52,6 +52,17 @@ abbrev pub spread_of : Option ℕ → List (Option ℕ) → Option ℕ
 spread_of (Some size) numbers = if are_below size numbers then unless_each (length numbers) size else None
 spread_of None numbers = if is_some (first_from 0 0 numbers) && are_below MOST_RANKS numbers then unless_each (length numbers) (count_of numbers) else None
 
+-- the first place of a name without a number below this one, where the first of these has this place
+abbrev pub first_beyond : ℕ → ℕ → List (Option ℕ) → Option ℕ
+first_beyond most place [] = None
+first_beyond most place (number ∷ numbers) = if is_below most number then first_beyond most (place + 1) numbers else Some place
+
+-- The first place of a number that is of no rank, since a layout has fewer: where no text tells a size, and each name has a
+-- number and one has 0, the numbers are those of ranks.
+abbrev pub beyond_of : Option ℕ → List (Option ℕ) → Option ℕ
+beyond_of (Some size) numbers = None
+beyond_of None numbers = if is_some (first_from 0 0 numbers) && are_numbered numbers then first_beyond MOST_RANKS 0 numbers else None
+
 -- ---- the text of each rank
 
 -- the text whose name has the number of the rank
@@ -66,6 +77,10 @@ texts_upto numbers names (suc ranks) = texts_upto numbers names ranks ++ text_of
 -- the texts, each of the rank of its place
 abbrev pub in_order : List (List ℕ) → List (Option (List ℕ))
 in_order names = map (λ name. Some name) names
+
+-- the first text whose name has a number that is of no rank, by the size that is told
+abbrev pub beyond_by : Option ℕ → List (List ℕ) → Option (List ℕ)
+beyond_by size names = option_and_then (slice_get names) (beyond_of size (numbers_of names))
 
 -- for how many ranks the names are spread by their numbers, by the size that is told
 abbrev pub spread_by : Option ℕ → List (List ℕ) → Option ℕ

@@ -134,7 +134,7 @@ fn by_digits(alloc: Global, numbers: &[Option<u64>]) -> Result<Option<Vec<usize>
 }
 
 /// Whether each name has a number.
-fn are_numbered(numbers: &[Option<u64>]) -> bool
+pub(crate) fn are_numbered(numbers: &[Option<u64>]) -> bool
     ensures { result ≡ are_numbered numbers.now }
 {
     for number in numbers {

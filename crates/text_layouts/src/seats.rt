@@ -2,9 +2,9 @@
 
 ghost use Rattle.std.specs.Prelude.{◌≡◌, ◌++◌, ◌<◌, ◌≤◌, ◌^◌, IfNone, IfOk, IfSome, None, OnOk, length, map, option_and_then, option_map, slice_get, string_bytes};
 ghost use Rattle.mpi_model.specs.declared.layout.TheConstants.{MOST_RANKS};
-ghost use Rattle.text_layouts.specs.Seats.{IsSpread, are_below, count_of, greater, in_order, is_below, kept, missing_from, one_missing, one_text, spread_by, spread_of, texts_from, texts_upto, told_size, unless_each, with_number};
+ghost use Rattle.text_layouts.specs.Seats.{IsSpread, are_below, beyond_by, beyond_of, count_of, first_beyond, greater, in_order, is_below, kept, missing_from, one_missing, one_text, spread_by, spread_of, texts_from, texts_upto, told_size, unless_each, with_number};
 
-use crate::order::{first_from, numbers_of};
+use crate::order::{are_numbered, first_from, numbers_of};
 use comm_makings::RankCalls;
 use mpi_model::MOST_RANKS;
 use run_files::Piece;
@@ -111,6 +111,35 @@ fn spread_of(size: Option<u32>, numbers: &[Option<u64>]) -> Option<u64>
     }
 }
 
+/// The first place of a name without a number below this one.
+fn first_beyond(most: u64, numbers: &[Option<u64>]) -> Option<usize>
+    ensures { result ≡ first_beyond most 0 numbers.now }
+{
+    for place in 0..numbers.len() {
+        if !is_below(most, numbers[place]) {
+            return Some(place);
+        }
+    }
+    None
+}
+
+/// The first place of a number that is of no rank, since a layout has fewer: where no text tells a size, and each name
+/// has a number and one has 0, the numbers are those of ranks.
+fn beyond_of(size: Option<u32>, numbers: &[Option<u64>]) -> Option<usize>
+    ensures { result ≡ beyond_of size numbers.now }
+{
+    match size {
+        Some(_) => None,
+        None => {
+            if first_from(numbers, 0, 0).is_some() && are_numbered(numbers) {
+                first_beyond(MOST_RANKS as u64, numbers)
+            } else {
+                None
+            }
+        }
+    }
+}
+
 /// The text at a place among the names, where there is a place.
 fn name_at(
     alloc: Global,
@@ -166,6 +195,19 @@ pub fn in_order(alloc: Global, names: &[String]) -> Result<Vec<Option<String>>, 
         seats.push(Some(name.as_str().to_string(alloc)?))?;
     }
     Ok(seats)
+}
+
+/// The first text that is of a rank by the number of its name which no layout has: 1,024 or above, where the texts in
+/// the order of these names tell no size of MPI_COMM_WORLD, and each name has a number and one has 0.
+pub fn text_beyond(
+    alloc: Global,
+    names: &[String],
+    ranks: &[RankCalls],
+) -> Result<Option<String>, AllocError>
+    ensures { IfOk result (λ text. option_map string_bytes text ≡ beyond_by (told_size ranks.now) (map string_bytes names.now)) }
+{
+    let numbers = numbers_of(alloc, names)?;
+    name_at(alloc, names, beyond_of(told_size(ranks), &numbers))
 }
 
 /// The text of each rank by the numbers of the names, where some rank has none; what the texts in the order of these

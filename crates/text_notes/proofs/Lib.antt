@@ -6,3 +6,4 @@ pub mod NotedMore
 pub mod Walking
 pub mod Values
 pub mod Looked
+pub mod FrontLooks

@@ -45,11 +45,11 @@ in_front : (text : List ℕ) (calls : List TextCall) (at : Position) (rest : Opt
 in_front text calls at None read = absurd read
 in_front text calls at (Some rest) read = ((meaning_of at None rest).calls, ap (λ (m : Meaning). m.calls) read)
 
-nothing_more : (calls : List TextCall) → calls ≡ calls ++ []
+pub nothing_more : (calls : List TextCall) → calls ≡ calls ++ []
 nothing_more [] = refl
 nothing_more (c ∷ cs) = ap (λ (l : List TextCall). c ∷ l) (nothing_more cs)
 
-all_in_front : (text : List ℕ) (calls : List TextCall) (view : TextState) → IsRead (Some text) calls view → (more : List TextCall) × ((text_meaning text).calls ≡ calls ++ more)
+pub all_in_front : (text : List ℕ) (calls : List TextCall) (view : TextState) → IsRead (Some text) calls view → (more : List TextCall) × ((text_meaning text).calls ≡ calls ++ more)
 all_in_front text calls view read = elim read.stands [
   | inl e ↦ in_front text calls view.at (rest_of view.rest) e.1
   | inr e ↦ ([], ap (λ (m : Meaning). m.calls) e.1 ∙ nothing_more calls)

@@ -12,7 +12,7 @@ use Rattle.dumpi_calls.specs.declared.collect.Memory.{Memory}
 use Rattle.dumpi_calls.specs.declared.fault.WalkFault.{WalkFault}
 use Rattle.dumpi_calls.specs.declared.walking.Walked.{Walked}
 use Rattle.text_notes.specs.Lines.{IsLineOf, line_in}
-use Rattle.text_notes.specs.Noted.{Noted, TellsNotes, noted, nothing_noted, unread_from}
+use Rattle.text_notes.specs.Noted.{Noted, TellsNeeds, TellsNotes, needs_from, noted, nothing_noted, unread_from}
 use Rattle.text_notes.specs.Whole.{TellsLine}
 use Rattle.text_notes.specs.Words.{NoteParts, walked_in}
 
@@ -25,6 +25,11 @@ events_after state (call ∷ calls) = events_after (noted state call) calls
 unread_after : (state : Noted) (calls : List Seen) → (after noted state calls).unread ≡ unread_from state.calls state.unread calls
 unread_after state [] = refl
 unread_after state (call ∷ calls) = unread_after (noted state call) calls
+
+-- and for what they are looked at once more
+needs_after : (state : Noted) (calls : List Seen) → (after noted state calls).needs ≡ needs_from state.calls state.needs calls
+needs_after state [] = refl
+needs_after state (call ∷ calls) = needs_after (noted state call) calls
 
 handed : (calls : List TextCall) (new : Noted) (count : ℕ) → HandedOn noted calls nothing_noted new count → HandedOn collected calls [] new.events count
 handed calls new count h = record {
@@ -62,6 +67,17 @@ tells_noted (Some text) new walked w = record {
   skipped_is = w.skipped;
   first_skipped_is = w.first_skipped;
   unfinished_is = w.unfinished;
+}
+
+pub tells_needed : (text : Option (List ℕ)) (new : Noted) (walked : Walked) → IsWalked noted text nothing_noted new walked → TellsNeeds text new.needs
+tells_needed None new walked w = tt
+tells_needed (Some text) new walked w = record {
+  calls = w.calls;
+  seen = w.handed.seen;
+  at = w.at;
+  whole = w.means;
+  typed_as = w.handed.typed_as;
+  needs_are = ap (λ (n : Noted). n.needs) w.handed.state ∙ needs_after nothing_noted w.handed.seen;
 }
 
 -- ---- the line of the last call

@@ -8,3 +8,4 @@ pub mod Values
 pub mod Sites
 pub mod Arguments
 pub mod Looks
+pub mod FrontLooks

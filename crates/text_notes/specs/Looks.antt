@@ -5,7 +5,6 @@ use Rattle.std.specs.Ordering.{nat_cmp}
 use Rattle.std.specs.Str.{bytes_eq}
 use Rattle.mpi_model.specs.Failures.{one_more}
 use Rattle.mpi_model.specs.declared.call.Call.{Call}
-use Rattle.mpi_model.specs.declared.call.Call.TheVariants as variants
 use Rattle.dumpi_text.specs.Call.{TextCall, first_value}
 use Rattle.dumpi_text.specs.Grammar.{Complete, text_meaning}
 use Rattle.dumpi_text.specs.Value.{value_of}
@@ -18,15 +17,10 @@ use Rattle.dumpi_text.specs.declared.value.Value.TheVariants as values
 use Rattle.dumpi_calls.specs.Rows.{typed}
 use Rattle.dumpi_calls.specs.declared.typing.TypedCall.{TypedCall}
 use Rattle.text_notes.specs.Arguments.{CallToldParts, arguments_from, call_told}
-use Rattle.text_notes.specs.Noted.{UnreadParts, counted}
+use Rattle.text_notes.specs.Noted.{UnreadParts, counted, is_local}
 use Rattle.text_notes.specs.Sites.{SiteParts, site_of}
 
 -- ---- one call
-
--- a call that is local: no other rank can have to do with it
-abbrev pub is_local : Call → Bool
-is_local variants.Local = true
-is_local _ = false
 
 -- the name that a number's note gives it is MPI_COMM_WORLD
 abbrev pub is_world_name : NumName → Bool

@@ -7,7 +7,7 @@ use Rattle.dumpi_calls.specs.declared.fault.WalkFault.{WalkFault}
 use Rattle.dumpi_calls.specs.declared.walking.Walked.{Walked}
 use Rattle.mpi_model.specs.declared.event.Event.{Event}
 use Rattle.text_notes.specs.Lines.{IsLineOf}
-use Rattle.text_notes.specs.Noted.{Noted, TellsNotes, noted, nothing_noted}
+use Rattle.text_notes.specs.Noted.{Noted, TellsNeeds, TellsNotes, noted, nothing_noted}
 use Rattle.text_notes.specs.Words.{NoteParts, line_in_note, walked_in}
 
 -- It keeps the events that a walk into a `Collect` keeps.
@@ -22,6 +22,10 @@ StopsNoted = (text : Option (List ℕ)) (new : Noted) (fault : WalkFault Memory)
 -- Over a whole text it notes what that tells.
 abbrev pub TellsNoted : Type 0
 TellsNoted = (text : Option (List ℕ)) (new : Noted) (walked : Walked) → IsWalked noted text nothing_noted new walked → TellsNotes text new.unread walked
+
+-- And it notes for what that is looked at a second time.
+abbrev pub TellsNeeded : Type 0
+TellsNeeded = (text : Option (List ℕ)) (new : Noted) (walked : Walked) → IsWalked noted text nothing_noted new walked → TellsNeeds text new.needs
 
 -- The line that a note tells of a call is the one where it begins.
 abbrev pub TellsLine : Type 0

@@ -3,7 +3,7 @@ use Rattle.std.specs.Prelude.{◌+◌, ◌-◌, ◌&&◌, ◌||◌, ◌==◌, �
 use Rattle.std.specs.List.{flat_map, list_any}
 use Rattle.call_words.specs.More.{more_text}
 use Rattle.call_words.specs.Ranges.{named_ranks_text}
-use Rattle.text_notes.specs.Noted.{UnreadParts, counted, sum_of}
+use Rattle.text_notes.specs.Noted.{CallNotesParts, LookNeeds, UnreadParts, counted, sum_of}
 use Rattle.text_notes.specs.Places.{first_where, place_of}
 use Rattle.dumpi_calls.specs.declared.walking.Walked.{Walked}
 use Rattle.text_notes.specs.declared.totals.TheConstants.{MOST_SHOWN}
@@ -14,8 +14,8 @@ use Rattle.text_notes.specs.declared.words.Kind.TheVariants.{Unread, Callless, S
 
 -- What was noted of the text of a piece: the piece's rank and first call, the name of its file and how a line shows it,
 -- how many calls it has and how many lines were skipped, the first of these, the line of its last call, where that has
--- not returned, the functions of its calls that aren't read, and, where it was looked at again, what a text without
--- calls is taken for.
+-- not returned, the functions of its calls that aren't read, for what it is looked at a second time, and, where it was
+-- looked at again, what a text without calls is taken for.
 pub record NoteParts : Type 0 where
   pub rank : ℕ
   pub first : ℕ
@@ -26,12 +26,13 @@ pub record NoteParts : Type 0 where
   pub first_skipped : Option ℕ
   pub unfinished : Option ℕ
   pub unread : List UnreadParts
+  pub needs : LookNeeds
   pub start : Option Start
 
 -- the same, by the piece's rank and first call, the name of its file and how a line shows it, and what was told of its
 -- text
-abbrev pub noted_of : ℕ × ℕ → List ℕ → List ℕ → Walked → List UnreadParts → Option Start → NoteParts
-noted_of piece path file walked unread start = record {
+abbrev pub noted_of : ℕ × ℕ → List ℕ → List ℕ → Walked → CallNotesParts → Option Start → NoteParts
+noted_of piece path file walked notes start = record {
   rank = piece.0;
   first = piece.1;
   path = path;
@@ -40,7 +41,8 @@ noted_of piece path file walked unread start = record {
   skipped = walked.skipped;
   first_skipped = walked.first_skipped;
   unfinished = walked.unfinished;
-  unread = unread;
+  unread = notes.unread;
+  needs = notes.needs;
   start = start;
 }
 

@@ -41,7 +41,7 @@ impl CallTold {
 }
 
 /// The kind of a collective call, blocking or not.
-fn kind_of(call: &Call) -> Option<Kind>
+pub(crate) fn kind_of(call: &Call) -> Option<Kind>
     ensures { result ≡ kind_of call.now }
 {
     match call {

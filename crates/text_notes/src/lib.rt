@@ -1,14 +1,14 @@
 //! What is noted of trace texts while they are read, for a person who doubts an answer.
 //!
 //! A walk into [`Noting`] keeps the events that one into `dumpi_calls::Collect` keeps, and notes beside them which
-//! functions aren't read. Work is in proportion to the texts, memory to the functions that are noted.
+//! functions aren't read, and for what the text is looked at a second time ([`needs`]). Work is in proportion to the texts, memory to the functions that are noted.
 //!
 //! - [`function`]: a function whose calls aren't read; [`noting`]: the sink; [`note`]: what was noted of one text;
 //!   [`start`]: what a text without calls is taken for
 //! - [`totals`]: the functions of all texts; [`pieceless`]: the ranks without a text
 //! - [`value`]: a second look at a text, at what it has for a parameter of a call; [`look`]: one at many calls, by a
 //!   sink ([`looking`]) that keeps from where in the program they were made ([`site`]), and
-//!   what collective ones tell of their arguments ([`arguments`])
+//!   what collective ones tell of their arguments ([`arguments`]); [`front_look`]: one at its first calls
 //! - [`words`]: what is said of it
 //! - [`laws`]: that a walk into the sink collects what one without notes does
 //!
@@ -18,10 +18,12 @@
 #![tactic(auto)]
 
 mod arguments;
+mod front_look;
 mod function;
 mod laws;
 mod look;
 mod looking;
+mod needs;
 mod note;
 mod noting;
 mod pieceless;
@@ -32,9 +34,11 @@ mod value;
 mod words;
 
 pub use arguments::CallTold;
+pub use front_look::{FrontLook, look_at_front};
 pub use function::UnreadFunction;
 pub use laws::noted_texts;
 pub use look::{Look, look_at};
+pub use needs::{CallNotes, LookNeeds};
 pub use note::{TextNote, note_of};
 pub use noting::Noting;
 pub use pieceless::put_pieceless;

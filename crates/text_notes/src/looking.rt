@@ -3,8 +3,8 @@
 ghost use Rattle.std.specs.Prelude.{◌≡◌, ◌≤◌, ◌++◌, IfOk, OnErr, OnOk, option_to_list, vec_capacity, vec_len};
 ghost use Rattle.std.specs.Option.{option_copied, option_map};
 ghost use Rattle.dumpi_text.specs.Value.{value_of};
-ghost use Rattle.text_notes.specs.Looks.{greater, is_local, is_world, is_world_name, natural_of, natural_value, nothing_looked, size_of, tells_size, value_in, wanted_site, with_local};
-ghost use Rattle.text_notes.specs.Noted.{counted};
+ghost use Rattle.text_notes.specs.Looks.{greater, is_world, is_world_name, natural_of, natural_value, nothing_looked, size_of, tells_size, value_in, wanted_site, with_local};
+ghost use Rattle.text_notes.specs.Noted.{counted, is_local};
 
 use crate::arguments::{CallTold, call_told, push_told};
 use crate::function::{UnreadFunction, place_of};
@@ -77,7 +77,7 @@ impl<'a> Looking<'a> {
 }
 
 /// Whether no other rank can have to do with the call.
-fn is_local(call: &Call) -> bool
+pub(crate) fn is_local(call: &Call) -> bool
     ensures { result ≡ is_local call.now }
 {
     matches!(call, Call::Local)
@@ -153,7 +153,7 @@ fn tells_size(alloc: Global, raw: &RawCall) -> Result<bool, Memory>
 }
 
 /// The size of the world that a call tells.
-fn size_of(alloc: Global, raw: &RawCall) -> Result<Option<u64>, Memory>
+pub(crate) fn size_of(alloc: Global, raw: &RawCall) -> Result<Option<u64>, Memory>
     ensures { IfOk result (λ size. size ≡ size_of raw.now) }
 {
     if tells_size(alloc, raw)? {
@@ -164,7 +164,7 @@ fn size_of(alloc: Global, raw: &RawCall) -> Result<Option<u64>, Memory>
 }
 
 /// The greater of two sizes, where both are told.
-fn greater(one: Option<u64>, other: Option<u64>) -> Option<u64>
+pub(crate) fn greater(one: Option<u64>, other: Option<u64>) -> Option<u64>
     ensures { result ≡ greater one other }
 {
     match (one, other) {
@@ -175,7 +175,7 @@ fn greater(one: Option<u64>, other: Option<u64>) -> Option<u64>
 }
 
 /// Where a call was made, if it is wanted.
-fn site_where(
+pub(crate) fn site_where(
     alloc: Global,
     wanted: &BTreeSet<u64>,
     number: u64,
@@ -231,7 +231,7 @@ fn count_local(
 }
 
 /// Adds a call site, where there is one.
-fn push_site(sites: &mut Vec<CallSite>, site: Option<CallSite>) -> Result<(), AllocError>
+pub(crate) fn push_site(sites: &mut Vec<CallSite>, site: Option<CallSite>) -> Result<(), AllocError>
     ensures ok { OnOk result (sites.new.items ≡ sites.old.items ++ option_to_list site) }
     ensures full { OnErr result (vec_capacity sites.old ≤ vec_len sites.old) }
 {

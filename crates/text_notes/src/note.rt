@@ -4,6 +4,7 @@ ghost use Rattle.std.specs.Prelude.{◌≡◌, ◌<◌, IfSome, length, string_b
 ghost use Rattle.text_notes.specs.Words.{has_call, line_in_note, note_of, noted_of};
 
 use crate::function::UnreadFunction;
+use crate::needs::{CallNotes, LookNeeds};
 use crate::start::Start;
 use dumpi_calls::Walked;
 use std::marker::Model;
@@ -16,7 +17,7 @@ pub struct TextNote {
     path: String,
     file: Vec<u8>,
     walked: Walked,
-    unread: Vec<UnreadFunction>,
+    notes: CallNotes,
     start: Option<Start>,
 }
 
@@ -26,22 +27,22 @@ impl Model for TextNote {
 
     ghost Value = { NoteParts };
 
-    ghost view = { λ n. noted_of (n.rank, n.first) (string_bytes n.path) n.file.items n.walked n.unread.items n.start };
+    ghost view = { λ n. noted_of (n.rank, n.first) (string_bytes n.path) n.file.items n.walked n.notes n.start };
 }
 
 impl TextNote {
     /// The note of a text: the rank and the first call of its piece, the name of its file and how a line for a person
-    /// shows it, what a walk over it told, the functions of its calls that are not read, and, where it was looked at
-    /// again, what it is taken for.
+    /// shows it, what a walk over it told, what was noted of its calls, and, where it was looked at again, what it is
+    /// taken for.
     pub fn new(
         piece: (u32, u64),
         path: String,
         file: Vec<u8>,
         walked: Walked,
-        unread: Vec<UnreadFunction>,
+        notes: CallNotes,
         start: Option<Start>,
     ) -> TextNote
-        ensures { result ≡ noted_of piece (string_bytes path) file.items walked unread.items start }
+        ensures { result ≡ noted_of piece (string_bytes path) file.items walked notes start }
     {
         let (rank, first) = piece;
         TextNote {
@@ -50,7 +51,7 @@ impl TextNote {
             path,
             file,
             walked,
-            unread,
+            notes,
             start,
         }
     }
@@ -108,7 +109,14 @@ impl TextNote {
     pub fn unread(&self) -> &[UnreadFunction]
         ensures { result.now ≡ self.now.unread }
     {
-        self.unread.as_slice()
+        self.notes.unread.as_slice()
+    }
+
+    /// For what the text is looked at a second time.
+    pub fn needs(&self) -> &LookNeeds
+        ensures { result.now ≡ self.now.needs }
+    {
+        &self.notes.needs
     }
 
     /// What the text is taken for by its first bytes; `None` if it wasn't looked at.

@@ -3,21 +3,28 @@
 ghost use Rattle.std.specs.Prelude.{◌≡◌};
 ghost use Rattle.dumpi_calls.specs.Collected.{collected};
 ghost use Rattle.mpi_model.specs.Failures.{one_more};
-ghost use Rattle.text_notes.specs.Noted.{nothing_noted};
+ghost use Rattle.text_notes.specs.Noted.{is_some_compared, last_size_with, nothing_noted};
+ghost use Rattle.text_notes.specs.Arguments.{kind_of};
 
+use crate::arguments::kind_of;
 use crate::function::{UnreadFunction, place_of};
+use crate::looking::is_local;
+use crate::needs::{CallNotes, LookNeeds, is_some_compared};
 use dumpi_calls::{CallSink, Collect, Memory};
 use mpi_model::{Call, Exit, Stamp};
 use std::alloc::Global;
 use std::marker::Model;
 
-/// The events of calls, as [`Collect`] keeps them, and the functions of those that are not read. Memory beside the
-/// events grows with the names of these functions, not with their calls.
+/// The events of calls, as [`Collect`] keeps them, the functions of those that are not read, and for what they are looked
+/// at a second time. Memory beside the events grows with the names of functions, not with their calls.
 #[derive(Drop)]
 pub struct Noting {
     collect: Collect,
     calls: u64,
     unread: Vec<UnreadFunction>,
+    local: Vec<UnreadFunction>,
+    last_size: Option<u64>,
+    compares: bool,
 }
 
 impl Model for Noting {
@@ -25,7 +32,7 @@ impl Model for Noting {
 
     ghost Value = { Noted };
 
-    ghost view = { λ n. record { events = n.collect; calls = n.calls; unread = n.unread.items } };
+    ghost view = { λ n. record { events = n.collect; calls = n.calls; unread = n.unread.items; needs = record { local = n.local.items; last_size = n.last_size; compares = n.compares } } };
 }
 
 impl Noting {
@@ -37,20 +44,43 @@ impl Noting {
             collect: Collect::new(alloc),
             calls: 0,
             unread: Vec::new(alloc),
+            local: Vec::new(alloc),
+            last_size: None,
+            compares: false,
         }
     }
 
-    /// The events, and the functions of the calls that are not read, in the order of their first such calls.
-    pub fn into_parts(self) -> (Collect, Vec<UnreadFunction>)
+    /// The events, and what is noted of the calls.
+    pub fn into_parts(self) -> (Collect, CallNotes)
         ensures events { result.0 ≡ self.events }
-        ensures unread { result.1.items ≡ self.unread }
+        ensures unread { result.1.unread ≡ self.unread }
+        ensures needs { result.1.needs ≡ self.needs }
     {
         let Noting {
             collect,
             unread,
+            local,
+            last_size,
+            compares,
             ..
         } = self;
-        (collect, unread)
+        let needs = LookNeeds {
+            local,
+            last_size,
+            compares,
+        };
+        (collect, CallNotes { unread, needs })
+    }
+}
+
+/// The number of the last call of MPI_Comm_size, with a call more.
+fn last_size_with(number: u64, name: &[u8], last_size: Option<u64>) -> Option<u64>
+    ensures { result ≡ last_size_with number name.now last_size }
+{
+    if name == b"MPI_Comm_size".as_slice() {
+        Some(number)
+    } else {
+        last_size
     }
 }
 
@@ -168,7 +198,9 @@ impl CallSink for Noting {
         enter: Stamp,
         exit: Option<Exit>,
     ) -> Result<(), Memory> {
+        let compares = self.compares || is_some_compared(kind_of(&call));
         self.collect.on_collective(call, enter, exit)?;
+        self.compares = compares;
         self.calls = self.calls.saturating_add(1);
         Ok(())
     }
@@ -179,7 +211,9 @@ impl CallSink for Noting {
         enter: Stamp,
         exit: Option<Exit>,
     ) -> Result<(), Memory> {
+        let compares = self.compares || is_some_compared(kind_of(&call));
         self.collect.on_icollective(call, enter, exit)?;
+        self.compares = compares;
         self.calls = self.calls.saturating_add(1);
         Ok(())
     }
@@ -264,8 +298,28 @@ impl CallSink for Noting {
         enter: Stamp,
         exit: Option<Exit>,
     ) -> Result<(), Memory> {
-        self.collect.on_other(name, call, enter, exit)?;
-        self.calls = self.calls.saturating_add(1);
-        Ok(())
+        if !is_local(&call) {
+            self.collect.on_other(name, call, enter, exit)?;
+            self.calls = self.calls.saturating_add(1);
+            return Ok(());
+        }
+        match place_of(&self.local, name) {
+            Some(at) => {
+                self.collect.on_other(name, call, enter, exit)?;
+                self.local[at].add(1);
+                self.last_size = last_size_with(self.calls, name, self.last_size);
+                self.calls = self.calls.saturating_add(1);
+                Ok(())
+            }
+            None => {
+                let function = UnreadFunction::new(*self.local.allocator(), name, self.calls, 1)?;
+                self.local.reserve(1)?;
+                self.collect.on_other(name, call, enter, exit)?;
+                self.local.push(function)?;
+                self.last_size = last_size_with(self.calls, name, self.last_size);
+                self.calls = self.calls.saturating_add(1);
+                Ok(())
+            }
+        }
     }
 }

@@ -61,6 +61,29 @@ impl CallSite {
     }
 }
 
+impl CallSite {
+    ghost use Rattle.text_notes.specs.FrontLooks.{behind};
+
+    /// The same call, where its text stands behind so many calls and lines of another. Counts stay at the greatest value
+    /// of their type.
+    pub fn behind(self, calls: u64, lines: u64) -> CallSite
+        ensures { result ≡ behind calls lines self }
+    {
+        let CallSite {
+            number,
+            line,
+            name,
+            caller,
+        } = self;
+        CallSite {
+            number: number.saturating_add(calls),
+            line: line.saturating_add(lines),
+            name,
+            caller,
+        }
+    }
+}
+
 /// The first of two values that is there.
 fn first_of<'a>(one: Option<&'a [u8]>, other: Option<&'a [u8]>) -> Option<&'a [u8]>
     ensures { option_copied result ≡ first_of (option_copied one.entry) (option_copied other.entry) }

@@ -7,6 +7,7 @@ ghost use Rattle.dumpi_text.specs.Shown.{put_in};
 ghost use Rattle.dumpi_text.specs.declared.step.TheConstants.{MOST_LINES};
 ghost use Rattle.text_notes.specs.Values.{GoesOn, IsValueAt, OfRead};
 
+use dumpi_calls::Memory;
 use dumpi_text::{RawCall, TextCause, TextFault, Texts};
 use mpi_model::Read;
 use std::alloc::{AllocError, Global};
@@ -22,6 +23,17 @@ pub enum LookFault {
     Refused,
 }
 
+impl From<Memory> for LookFault {
+    ghost use Rattle.std.specs.Prelude.{◌≡◌};
+    ghost use Rattle.text_notes.specs.declared.value.LookFault.TheVariants.{Memory as RefusedMemory};
+
+    ghost from_gives = { λ _ e. e ≡ RefusedMemory };
+
+    fn from(_refused: Memory) -> LookFault {
+        LookFault::Memory
+    }
+}
+
 impl From<AllocError> for LookFault {
     ghost use Rattle.std.specs.Prelude.{◌≡◌};
     ghost use Rattle.text_notes.specs.declared.value.LookFault.TheVariants.{Memory};
@@ -35,7 +47,7 @@ impl From<AllocError> for LookFault {
 
 /// The next call of the text, put in the place of the one before: whether there is one. Behind a line that is refused
 /// there is none.
-fn next_call<R: Read>(texts: &mut Texts<R>, raw: &mut RawCall) -> Result<bool, LookFault>
+pub(crate) fn next_call<R: Read>(texts: &mut Texts<R>, raw: &mut RawCall) -> Result<bool, LookFault>
     ensures goes_on { OfRead texts.old (λ text calls. IfOk result (λ found. GoesOn text calls (put_in found raw.new) texts.new)) }
     ensures failed { OfRead texts.old (λ text calls. result ≡ Err LookFault.Read → Fails R.failures) }
     ensures progress { result ≡ Ok true → texts.old.at.line < texts.new.at.line }

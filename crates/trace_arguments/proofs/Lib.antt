@@ -1,4 +1,4 @@
 pub mod Lists
 pub mod Members
-pub mod Own
+pub mod Keys
 pub mod Added

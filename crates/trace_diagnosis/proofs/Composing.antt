@@ -1,5 +1,5 @@
 -- The parts of a diagnosis put together.
-use Rattle.std.proofs.Common.{◌≡◌, ◌∙◌, ℕ, Bool, List, Option, Result, Ok, Err, ap, map, subst, sym}
+use Rattle.std.proofs.Common.{◌≡◌, ◌∙◌, ℕ, Bool, List, Option, Result, Ok, Err, ap, map, subst}
 use Rattle.std.specs.Prelude.{IfOk}
 use Rattle.mpi_model.specs.Layouts.{Parts}
 use Rattle.trace_know.specs.View.{View}
@@ -10,8 +10,8 @@ use Rattle.trace_wait.specs.Conditions.{run_of}
 use Rattle.trace_wait.specs.declared.round.Round.{Round}
 use Rattle.trace_diagnosis.specs.Conditions.{Asker, conditions, does_wait, has_gone_on}
 use Rattle.trace_diagnosis.specs.Holding.{is_held}
-use Rattle.trace_diagnosis.specs.LeftOver.{IsUnmatched}
 use Rattle.trace_diagnosis.specs.Roots.{HaveRoots}
+use Rattle.trace_diagnosis.specs.Unmatched.{IsUnmatched}
 use Rattle.trace_diagnosis.specs.Waiting.{IsWaiting, held_in, held_told}
 use Rattle.diagnosis_value.specs.declared.diagnosis.Unmatched.{Unmatched}
 use Rattle.diagnosis_value.specs.declared.diagnosis.Waiting.{Waiting}
@@ -47,8 +47,9 @@ waiting_same able ranks n ws us told e f held roots = record {
 }
 
 -- what is told of messages, by other names of the same
-pub unmatched_same : (ops os : List Ops) (pairs : List Pair) (ws us : List (Option Wait)) (told : Unmatched) → ops ≡ os → ws ≡ us → IsUnmatched ops pairs (map is_held ws) (map does_wait ws) told
-    → IsUnmatched os pairs (map is_held us) (map does_wait us) told
-unmatched_same ops os pairs ws us told e f is =
-    subst (λ (x : List Ops). IsUnmatched x pairs (map is_held us) (map does_wait us) told) e
-    (subst (λ (x : List (Option Wait)). IsUnmatched ops pairs (map is_held x) (map does_wait x) told) f is)
+pub unmatched_same : (layout : Parts) (ops os : List Ops) (pairs : List Pair) (askers asks : List Asker) (ws us : List (Option Wait)) (told : Unmatched) → ops ≡ os → askers ≡ asks → ws ≡ us
+    → IsUnmatched layout ops pairs askers (map is_held ws) (map does_wait ws) told → IsUnmatched layout os pairs asks (map is_held us) (map does_wait us) told
+unmatched_same layout ops os pairs askers asks ws us told e a f is =
+    subst (λ (x : List Ops). IsUnmatched layout x pairs asks (map is_held us) (map does_wait us) told) e
+    (subst (λ (x : List Asker). IsUnmatched layout ops pairs x (map is_held us) (map does_wait us) told) a
+    (subst (λ (x : List (Option Wait)). IsUnmatched layout ops pairs askers (map is_held x) (map does_wait x) told) f is))

@@ -1,5 +1,5 @@
 -- Components, and what leads to them.
-use Rattle.std.proofs.Common.{◌≡◌, ◌∙◌, ℕ, Bool, true, false, Option, Some, None, List, [], ◌∷◌, ◌++◌, Vec, Global, All, filter, refl, sym, ap, subst}
+use Rattle.std.proofs.Common.{◌≡◌, ◌∙◌, ℕ, Bool, true, Option, Some, None, List, [], ◌∷◌, ◌++◌, Vec, Global, All, filter, refl, sym, subst}
 use Rattle.std.specs.List.{range_with_len}
 use Rattle.std.specs.Prelude.{is_some}
 use Rattle.std.proofs.lemmas.List.Elements.{All-weaker, filter_passes}
@@ -12,7 +12,7 @@ chain_next : (step : ℕ → ℕ → Bool) (through : List ℕ) (r s t : ℕ) �
 chain_next step [] r s t e h = (subst (λ (x : ℕ). step x t ≡ true) (sym e) h, refl)
 chain_next step (u ∷ through) r s t c h = (c.0, chain_next step through u s t c.1 h)
 
-leads_next : (step : ℕ → ℕ → Bool) (r s t : ℕ) → Leads step r s → step s t ≡ true → Leads step r t
+pub leads_next : (step : ℕ → ℕ → Bool) (r s t : ℕ) → Leads step r s → step s t ≡ true → Leads step r t
 leads_next step r s t p h = (p.0 ++ t ∷ [], chain_next step p.0 r s t p.1 h)
 
 chain_back : (step against : ℕ → ℕ → Bool) → ((x y : ℕ) → against x y ≡ step y x) → (through : List ℕ) (r s : ℕ) → IsChain against r through s → Leads step s r

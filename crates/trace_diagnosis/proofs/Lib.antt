@@ -12,3 +12,15 @@ mod Stuck
 mod Tailing
 mod Found
 mod Composing
+mod Drawn
+mod Covering
+mod Naming
+mod Listing
+mod Fronting
+mod Fewest
+mod Alike
+mod Shelving
+mod Joining
+mod Nearing
+mod Telling
+mod Keeping

@@ -1,5 +1,5 @@
 -- Lists: filters of filters, maps of maps, and places that are written.
-use Rattle.std.proofs.Common.{◌≡◌, ◌∙◌, ◌<◌, ◌≤◌, ◌+◌, ◌-◌, ℕ, Bool, true, false, ◌&&◌, ◌||◌, ◌==◌, not, List, [], ◌∷◌, ◌++◌, Option, Some, None, filter, map, length, take, drop, set, get_or, refl, sym, ap, arith, if◌then◌else◌, zero, suc, ⊎_elim, ◌⊎◌}
+use Rattle.std.proofs.Common.{◌≡◌, ◌∙◌, ◌<◌, ◌≤◌, ◌+◌, ◌-◌, ℕ, Bool, true, false, ◌&&◌, ◌||◌, List, [], ◌∷◌, ◌++◌, Option, None, filter, map, length, take, drop, set, get_or, refl, sym, ap, arith, if◌then◌else◌, zero, suc, ⊎_elim, ◌⊎◌}
 use Rattle.std.specs.Prelude.{unwrap_or, slice_get}
 use Rattle.std.specs.List.{flat_map, list_any, range_with_len}
 use Rattle.std.specs.List.Sorted.{IsNonDecreasing, IsStrictlyIncreasing}
@@ -7,7 +7,7 @@ use Rattle.std.proofs.lemmas.Grind.{flat_map-append}
 use Rattle.std.proofs.lemmas.List.FromFn.{map-range_with_len_more}
 use Rattle.std.proofs.lemmas.List.Kept.{AllPairs-from_increasing}
 use Rattle.std.proofs.lemmas.List.Elements.{filter-append, filter_more}
-use Rattle.std.proofs.lemmas.List.{append-nil, length-append, length-map, map-append, take_at, drop_at, append_assoc, take_more, map_more, get_or-set_same, get_or-set_other, length-set}
+use Rattle.std.proofs.lemmas.List.{append-nil, length-append, length-map, map-append, take_at, drop_at, append_assoc, take_more, map_more, get_or-set_same, get_or-set_other}
 use Rattle.std.proofs.lemmas.Option.{unwrap_or-slice_get}
 
 pub or_first : (a b : Bool) → (a || b) ≡ false → a ≡ false
@@ -133,7 +133,7 @@ mapped : (xs : List ℕ) → map (λ x. x) xs ≡ xs
 mapped [] = refl
 mapped (x ∷ xs) = ap (λ (l : List ℕ). x ∷ l) (mapped xs)
 
-one_range : (n : ℕ) → range_with_len 0 (n + 1) ≡ range_with_len 0 n ++ n ∷ []
+pub one_range : (n : ℕ) → range_with_len 0 (n + 1) ≡ range_with_len 0 n ++ n ∷ []
 one_range n = sym (mapped (range_with_len 0 (n + 1))) ∙ map-range_with_len_more (λ x. x) 0 n n (omega arith) ∙ ap (λ (l : List ℕ). l ++ n ∷ []) (mapped (range_with_len 0 n))
 
 pub flat_range_step : {A C : Type 0} (f : A → C) (g : ℕ → List C) (old new : List A) (n : ℕ) → map f new ≡ map f old ++ g n → map f old ≡ flat_map g (range_with_len 0 n) → map f new ≡ flat_map g (range_with_len 0 (n + 1))

@@ -1,12 +1,12 @@
 -- What conditions need, level by level.
-use Rattle.std.proofs.Common.{Vec, Global, ◌≡◌, ◌∙◌, ℕ, Bool, true, false, not, ◌||◌, List, [], ◌∷◌, ◌++◌, map, filter, refl, ap, if◌then◌else◌, append-nil}
+use Rattle.std.proofs.Common.{Vec, Global, ◌≡◌, ◌∙◌, ℕ, Bool, true, false, List, [], ◌∷◌, ◌++◌, map, filter, refl, ap, if◌then◌else◌}
 use Rattle.std.specs.List.{flat_map, list_any}
 use Rattle.std.specs.declared.sync.Arc.{Arc}
 use Rattle.trace_stuck.specs.declared.condition.Condition.{Condition}
 use Rattle.trace_stuck.specs.declared.condition.Condition.TheViews as views
 use Rattle.trace_stuck.specs.declared.condition.RoundName.{RoundName}
 use Rattle.trace_stuck.specs.Shape.{OnRank, shape, waits_of}
-use Rattle.trace_diagnosis.specs.Holding.{holds, one_holds}
+use Rattle.trace_diagnosis.specs.Holding.{holds}
 use Rattle.trace_diagnosis.specs.Needs.{needs_of, needs_of_all, needs_of_one}
 use Rattle.trace_diagnosis.specs.Parts.{may_need, of_parts, of_rank, of_ranks, unmet}
 use Rattle.diagnosis_value.specs.declared.diagnosis.Need.{Need}

@@ -1,13 +1,16 @@
 -- A run in which no rank waits or polls, and no sure message is without a pair.
 use Rattle.std.proofs.Common.{◌≡◌, ◌∙◌, ◌+◌, ◌&&◌, ℕ, Bool, true, false, not, List, [], ◌∷◌, ◌++◌, Option, Some, None, All, map, refl, sym, ap, filter, subst, suc, zero, arith}
-use Rattle.std.specs.Prelude.{is_some}
+use Rattle.std.specs.Prelude.{if◌then◌else◌, is_some}
 use Rattle.std.specs.List.{flat_map, range_with_len}
 use Rattle.std.specs.Option.{option_map}
 use Rattle.std.proofs.lemmas.List.Elements.{All-map, All-nil}
+use Rattle.mpi_model.specs.Layouts.{Parts}
 use Rattle.mpi_model.specs.Trusts.{is_sure, is_void}
 use Rattle.mpi_model.specs.declared.message.Message.{Message}
+use Rattle.mpi_model.specs.declared.message.Receive.{Receive}
 use Rattle.trace_ops.specs.Ops.{Ops}
 use Rattle.trace_pair.specs.declared.pair.Pair.{Pair}
+use Rattle.trace_stuck.specs.Graph.{is_up}
 use Rattle.trace_stuck.specs.Shape.{Wait}
 use Rattle.trace_wait.specs.Conditions.{conditions_from, does_one_wait, waits_for}
 use Rattle.trace_pair.specs.After.{comes_after}
@@ -16,9 +19,11 @@ use Rattle.trace_wait.specs.Matching.{free_receives, is_unpaired_message}
 use Rattle.trace_wait.specs.Parts.{Run}
 use Rattle.trace_wait.specs.Conditions.{run_of}
 use Rattle.trace_diagnosis.specs.Askers.{asker, case_conditions}
-use Rattle.trace_diagnosis.specs.Conditions.{condition_at, conditions, has_gone_on, unless, wait_at}
-use Rattle.trace_diagnosis.specs.LeftOver.{IsOfWaiting, IsUnmatched, has_sure_loose, is_left, is_loose, is_sure_loose, is_told, left_over, unfinished_of}
+use Rattle.trace_diagnosis.specs.Conditions.{Asker, condition_at, conditions, does_wait, has_gone_on, unless, wait_at}
+use Rattle.trace_diagnosis.specs.LeftOver.{has_sure_loose, is_left, is_loose, is_sure_loose, is_told, left_over, unfinished_of}
 use Rattle.trace_diagnosis.specs.Missed.{HasNearMessages, HasNearReceives}
+use Rattle.trace_diagnosis.specs.Starving.{starving}
+use Rattle.trace_diagnosis.specs.Unmatched.{IsUnmatched, is_of_waiting}
 use Rattle.trace_diagnosis.specs.declared.conditions.Case.{Case}
 use Rattle.trace_diagnosis.specs.declared.conditions.Poller.{Poller}
 use Rattle.diagnosis_value.specs.declared.diagnosis.LeftOver.{LeftOver}
@@ -82,15 +87,27 @@ case_none case e none =
     let gone = has_gone_on case.know.now case.cut.now case.stuck.now in
     subst (λ (ps : List Poller). All (λ w. w ≡ None) (conditions run (map asker ps) gone case.ranks)) (sym none) (none_waits run gone case.ranks e)
 
+none_up : (ws : List (Option Wait)) → All (λ w. w ≡ None) ws → (r : ℕ) → is_up (map does_wait ws) r ≡ false
+none_up [] all r = refl
+none_up (w ∷ ws) all zero = ap does_wait (all 0 w (omega arith))
+none_up (w ∷ ws) all (suc r) = none_up ws (λ k d lt. all (suc k) d (omega (arith, lt))) r
+
+none_of : {X : Type 0} (p : X → Bool) → ((x : X) → p x ≡ false) → (xs : List X) → filter p xs ≡ []
+none_of p fails [] = refl
+none_of {X = X} p fails (x ∷ xs) = ap (λ (b : Bool). if b then x ∷ filter p xs else filter p xs) (fails x) ∙ none_of p fails xs
+
 -- what is told of no messages and receives
-pub unmatched_none : (ops : List Ops) (pairs : List Pair) (held waits : List Bool) (told : Unmatched) → has_sure_loose pairs ops ≡ false → told.left_over.items ≡ [] → told.starving.items ≡ []
-    → told.unfinished.items ≡ flat_map unfinished_of ops → IsUnmatched ops pairs held waits told
-unmatched_none ops pairs held waits told none left starve unfinished =
+pub unmatched_none : (layout : Parts) (ops : List Ops) (pairs : List Pair) (askers : List Asker) (held : List Bool) (ws : List (Option Wait)) (told : Unmatched) → has_sure_loose pairs ops ≡ false
+    → All (λ w. w ≡ None) ws → told.left_over.items ≡ [] → told.starving.items ≡ [] → told.unfinished.items ≡ flat_map unfinished_of ops
+    → IsUnmatched layout ops pairs askers held (map does_wait ws) told
+unmatched_none layout ops pairs askers held ws told none all left starve unfinished =
+    let waits = map does_wait ws in
     let messages : List LeftOver → List Message = map (λ l. l.message) in
+    let receives : List Starving → List Receive = map (λ s. s.receive) in
     record {
       left_over = ap messages left ∙ sym (ap (filter (is_told held waits)) (none_left ops pairs none));
-      starving = subst (λ (l : List Starving). All (IsOfWaiting waits) l) (sym starve) (All-nil (IsOfWaiting waits));
-      near_receives = subst (λ (l : List LeftOver). All HasNearReceives l) (sym left) (All-nil HasNearReceives);
-      near_messages = subst (λ (l : List Starving). All HasNearMessages l) (sym starve) (All-nil HasNearMessages);
+      starving = ap receives starve ∙ sym (none_of (is_of_waiting waits) (λ q. none_up ws all q.at) (starving layout ops pairs askers));
+      near_receives = subst (λ (l : List LeftOver). All (HasNearReceives (starving layout ops pairs askers)) l) (sym left) (All-nil (HasNearReceives (starving layout ops pairs askers)));
+      near_messages = subst (λ (l : List Starving). All (HasNearMessages (left_over ops pairs)) l) (sym starve) (All-nil (HasNearMessages (left_over ops pairs)));
       unfinished = unfinished;
     }

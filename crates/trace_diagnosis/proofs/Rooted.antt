@@ -1,5 +1,5 @@
 -- Roots that stay sound while they are joined and ordered.
-use Rattle.std.proofs.Common.{◌≡◌, ◌<◌, ◌+◌, ℕ, Bool, true, false, List, [], ◌∷◌, ◌++◌, Vec, Global, All, arith, get_or, length, set, subst, sym}
+use Rattle.std.proofs.Common.{◌≡◌, ◌<◌, ℕ, true, false, List, [], ◌∷◌, ◌++◌, Vec, Global, All, arith, get_or, length, set, subst, sym}
 use Rattle.std.specs.List.Sorted.{IsPermutation}
 use Rattle.std.proofs.lemmas.List.Elements.{All-append, All-cons, All-set}
 use Rattle.std.proofs.lemmas.List.{length-append}
@@ -10,7 +10,7 @@ use Rattle.trace_stuck.specs.Graph.{is_up}
 use Rattle.trace_stuck.specs.Hearts.{IsInHeart, Reaches}
 use Rattle.diagnosis_value.specs.declared.diagnosis.Root.{Root}
 use Rattle.diagnosis_value.specs.declared.diagnosis.RootKind.{RootKind}
-use Rattle.trace_diagnosis.specs.Roots.{AddsRoot, IsRoot, IsSound, JoinsRoots, KeepRoots, is_round}
+use Rattle.trace_diagnosis.specs.Roots.{AddsRoot, IsSound, JoinsRoots, KeepRoots, is_round}
 
 none : (P : Root → Type 0) → All P []
 none P = λ k d lt. absurd (omega (arith, lt))

@@ -1,5 +1,5 @@
 -- Ranks that poll, as the code has them. No public clause speaks of it.
-use Rattle.std.specs.Prelude.{◌≡◌, ◌<◌, ◌≤◌, ℕ, Bool, ◌==◌, Option, Some, None, List, [], ◌∷◌, length, if◌then◌else◌, map}
+use Rattle.std.specs.Prelude.{◌≡◌, ◌<◌, ◌≤◌, ℕ, Bool, ◌==◌, Option, Some, List, [], ◌∷◌, length, if◌then◌else◌, map}
 use Rattle.mpi_model.specs.declared.call.Call.{Call}
 use Rattle.trace_stuck.specs.Shape as waits
 use Rattle.trace_stuck.specs.Shape.{OnOne, shape, waits_of}

@@ -1,9 +1,9 @@
 -- Who needs whom. A node for each rank, and behind them one for all rounds.
-use Rattle.std.specs.Prelude.{◌≡◌, ◌<◌, ℕ, Bool, true, false, ◌&&◌, not, ◌==◌, Option, Some, None, List, [], map, slice_get, length, Vec, if◌then◌else◌}
+use Rattle.std.specs.Prelude.{◌≡◌, ℕ, Bool, true, false, ◌&&◌, not, ◌==◌, Option, Some, None, List, [], map, slice_get, Vec, if◌then◌else◌}
 use Rattle.std.specs.declared.alloc.Global.{Global}
 use Rattle.trace_ops.specs.declared.state.State.{State}
 use Rattle.trace_ops.specs.declared.state.State.TheVariants.{Free, Waiting, Ended}
-use Rattle.trace_stuck.specs.Graph.{is_up}
+use Rattle.trace_stuck.specs.Graph.{edge, is_up}
 use Rattle.trace_stuck.specs.Named.{at_rank}
 use Rattle.trace_stuck.specs.Shape as waits
 use Rattle.trace_diagnosis.specs.Conditions.{wait_at}
@@ -44,3 +44,7 @@ node_of ranks (needs.Round round) = ranks
 pub record HaveEdges (ranks : ℕ) (all : List (Vec Need Global)) (edges : List (Vec ℕ Global)) : Type 0 where
   pub there : (r : ℕ) (v : Vec Need Global) → slice_get all r ≡ Some v → at_rank edges r ≡ map (node_of ranks) v.items
   pub none : (r : ℕ) → slice_get all r ≡ None → at_rank edges r ≡ []
+
+-- Edges lead only out of held ranks.
+abbrev pub LeadOutOfHeld : List (Vec ℕ Global) → List Bool → Type 0
+LeadOutOfHeld edges held = (r s : ℕ) → edge edges r s ≡ true → is_up held r ≡ true

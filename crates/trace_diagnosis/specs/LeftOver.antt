@@ -1,5 +1,5 @@
 -- Messages that are left over, and requests that were never completed.
-use Rattle.std.specs.Prelude.{◌≡◌, ℕ, Bool, true, ◌&&◌, ◌||◌, not, List, [], All, filter, map}
+use Rattle.std.specs.Prelude.{Bool, ◌&&◌, ◌||◌, not, List, [], filter, map}
 use Rattle.std.specs.List.{flat_map, list_any}
 use Rattle.mpi_model.specs.declared.event.OpName.{OpName}
 use Rattle.mpi_model.specs.declared.message.Message.{Message}
@@ -13,9 +13,6 @@ use Rattle.trace_pair.specs.Ends.{may_take}
 use Rattle.trace_pair.specs.declared.pair.Pair.{Pair}
 use Rattle.trace_stuck.specs.Graph.{is_up}
 use Rattle.trace_wait.specs.Matching.{free_receives, is_unpaired_message}
-use Rattle.trace_diagnosis.specs.Missed.{HasNearMessages, HasNearReceives}
-use Rattle.diagnosis_value.specs.declared.diagnosis.Starving.{Starving}
-use Rattle.diagnosis_value.specs.declared.diagnosis.Unmatched.{Unmatched}
 
 -- a message in no pair that wasn't cancelled
 abbrev pub is_loose : List Pair → Message → Bool
@@ -62,17 +59,3 @@ unfinished_of o = of o.state
     of Ended = map (λ p. p.1) o.active
     of Free = []
     of Waiting = []
-
--- The receive is of a rank that waits or polls.
-abbrev pub IsOfWaiting : List Bool → Starving → Type 0
-IsOfWaiting waits told = is_up waits told.receive.at ≡ true
-
--- What is told of messages, receives and requests, where these ranks are held and these wait or poll: all that is left
--- over and to be told, by name; receives of ranks that wait or poll; each with near misses of the sort that is told;
--- and all requests that were never completed.
-pub record IsUnmatched (ops : List Ops) (pairs : List Pair) (held waits : List Bool) (told : Unmatched) : Type 0 where
-  pub left_over : map (λ l. l.message) told.left_over.items ≡ filter (is_told held waits) (left_over ops pairs)
-  pub starving : All (IsOfWaiting waits) told.starving.items
-  pub near_receives : All HasNearReceives told.left_over.items
-  pub near_messages : All HasNearMessages told.starving.items
-  pub unfinished : told.unfinished.items ≡ flat_map unfinished_of ops

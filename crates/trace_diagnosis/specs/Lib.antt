@@ -13,4 +13,12 @@ pub mod Askers
 pub mod Rounds
 pub mod Near
 pub mod Missed
+pub mod Nearest
+pub mod Places
+pub mod Fewest
+pub mod Shelves
+pub mod Ways
 pub mod Waiting
+pub mod Starving
+pub mod Listed
+pub mod Unmatched

@@ -1,5 +1,5 @@
 -- In what a message and a receive differ that would be a pair else.
-use Rattle.std.specs.Prelude.{ℕ, Bool, true, false, ◌&&◌, not, ◌==◌, Option, Some, None}
+use Rattle.std.specs.Prelude.{ℕ, Bool, false, ◌&&◌, not, ◌==◌, Option, Some, None}
 use Rattle.mpi_model.specs.Fit.{admits, envelopes_fit}
 use Rattle.mpi_model.specs.declared.message.Message.{Message}
 use Rattle.mpi_model.specs.declared.message.Receive.{Receive}

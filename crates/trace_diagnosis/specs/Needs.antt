@@ -1,5 +1,5 @@
 -- What a held rank needs: ranks that go on, and rounds that end.
-use Rattle.std.specs.Prelude.{ℕ, Bool, true, false, ◌||◌, not, List, [], ◌∷◌, ◌++◌, if◌then◌else◌}
+use Rattle.std.specs.Prelude.{ℕ, Bool, ◌||◌, not, List, [], ◌∷◌, ◌++◌, if◌then◌else◌}
 use Rattle.trace_stuck.specs.Shape as waits
 use Rattle.trace_stuck.specs.Shape.{Waits, OnNothing, OnRank, OnAll, OnOne, OnMismatched, none, and}
 use Rattle.trace_diagnosis.specs.Holding.{holds, nobody, one_holds}

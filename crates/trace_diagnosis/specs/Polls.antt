@@ -1,11 +1,9 @@
 -- Polls without success (MPI 4.0, 3.7.3, 3.7.5, 3.8.1 and 3.8.2).
-use Rattle.std.specs.Prelude.{Bool, true, false, not, Option, Some, None, is_none, List, [], ◌∷◌}
+use Rattle.std.specs.Prelude.{Bool, true, false, not, is_none, List, [], ◌∷◌}
 use Rattle.mpi_model.specs.declared.call.Call.{Call}
-use Rattle.mpi_model.specs.declared.call.Call.TheVariants.{Local, Test, Testall, Testany, Testsome, Iprobe, Improbe}
+use Rattle.mpi_model.specs.declared.call.Call.TheVariants.{Test, Testall, Testany, Testsome, Iprobe, Improbe}
 use Rattle.mpi_model.specs.declared.outcome.Outs.{Outs}
 use Rattle.mpi_model.specs.declared.outcome.Outs.TheVariants.{Flag, Index, Several}
-use Rattle.trace_diagnosis.specs.declared.polls.Part.{Part}
-use Rattle.trace_diagnosis.specs.declared.polls.Part.TheVariants as parts
 
 -- the call tests or probes, and doesn't wait
 abbrev pub is_poll : Call → Bool

@@ -1,5 +1,5 @@
 -- How ranks stand: whether a rank has ended, and where its last call stands.
-use Rattle.std.specs.Prelude.{ℕ, Bool, true, false, ◌==◌, ◌%◌, not, Option, Some, None, List, if◌then◌else◌}
+use Rattle.std.specs.Prelude.{ℕ, Bool, ◌==◌, ◌%◌, not, Option, Some, None, List, if◌then◌else◌}
 use Rattle.trace_know.specs.View.{View, cell}
 use Rattle.trace_know.specs.Prefix.{is_beyond, is_unread, prefix_of}
 use Rattle.trace_know.specs.declared.cell.Known.{Known}

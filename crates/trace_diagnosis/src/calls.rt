@@ -3,6 +3,7 @@
 ghost use Rattle.std.specs.Prelude.{◌≡◌, ◌≤◌, ◌^◌, slice_get};
 ghost use Rattle.std.specs.Option.{option_copied, option_map};
 ghost use Rattle.trace_diagnosis.specs.Called.{called_in, called_plain, count_of, entered_at, entered_in, returned_at, returned_in};
+ghost use Rattle.trace_diagnosis.specs.Starving.{call_name};
 
 use mpi_model::{Call, Event, OpName, Outs};
 use trace_know::{Cell, Knowledge, Readable};
@@ -115,7 +116,9 @@ pub(crate) fn call_named<'a>(know: &'a Knowledge, name: OpName) -> Option<&'a Ca
 }
 
 /// The operation of a rank's call, which is no Startall.
-pub(crate) fn named(rank: u32, call: u64) -> OpName {
+pub(crate) fn named(rank: u32, call: u64) -> OpName
+    ensures { result ≡ call_name rank call }
+{
     OpName {
         rank,
         call,

@@ -1,7 +1,7 @@
 //! The first three things of each pattern.
 
+use crate::few::MOST_NEAR;
 use crate::patterns::{Pattern, pattern_of, patterns_of};
-use crate::shelf::MOST_NEAR;
 use mpi_model::{Message, Receive};
 use std::alloc::{AllocError, Global};
 use std::collections::BTreeMap;

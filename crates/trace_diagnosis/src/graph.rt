@@ -9,7 +9,8 @@ ghost use Rattle.std.specs.List.{range_with_len};
 ghost use Rattle.trace_stuck.specs.Graph.{edge};
 ghost use Rattle.trace_stuck.specs.Shape.{shape};
 ghost use Rattle.trace_diagnosis.specs.Askers.{shapes};
-ghost use Rattle.trace_diagnosis.specs.Graph.{HaveEdges, has_not_ended, needs_at, needs_in, node_of};
+ghost use Rattle.trace_diagnosis.specs.Holding.{is_held};
+ghost use Rattle.trace_diagnosis.specs.Graph.{HaveEdges, LeadOutOfHeld, has_not_ended, needs_at, needs_in, node_of};
 
 use crate::holding::{Going, is_unmet, push_needs};
 use diagnosis_value::Need;
@@ -29,7 +30,7 @@ pub(crate) struct Graph {
 }
 
 /// Whether a rank hasn't ended.
-fn has_not_ended(state: &State) -> bool
+pub(crate) fn has_not_ended(state: &State) -> bool
     ensures { result ≡ has_not_ended state.now }
 {
     match state {
@@ -148,6 +149,7 @@ pub(crate) fn graph_of(
     ensures needs { IfOk result (λ g. map (λ needs. needs.items) g.needs.items ≡ map (needs_at able.now (shapes conditions.now)) (range_with_len 0 ranks)) }
     ensures len { IfOk result (λ g. vec_len g.edges ≡ ranks + 1) }
     ensures edges { IfOk result (λ g. HaveEdges ranks g.needs.items g.edges.items) }
+    ensures held { IfOk result (λ g. LeadOutOfHeld g.edges.items (map is_held (shapes conditions.now))) }
     ensures same { IfOk result (λ g. vec_len g.askers ≡ vec_len g.edges) }
     ensures askers { IfOk result (λ g. (r s : ℕ) → edge g.askers.items s r ≡ edge g.edges.items r s) }
 {

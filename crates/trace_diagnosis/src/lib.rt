@@ -11,18 +11,21 @@
 //! - [`holding`]: whether conditions hold, and what those need that don't; [`graph`]: who needs whom; [`roots`]: what
 //!   holds up ranks and is held up by nobody else
 //! - [`rounds`]: mismatched rounds and open ones
-//! - [`loose`]: messages and receives in no pair; [`patterns`]: how receives name messages; [`starved`]: receives that
-//!   starve; [`before`]: what came through; [`unmatched`]: all of these together
-//! - [`near`]: what would be a pair but for one thing, by [`shelf`]s and the [`firsts`] of a pattern; [`taken`]: what
-//!   earlier receives took; [`idle`]: persistent requests that aren't active, by their [`inits`]
+//! - [`loose`]: messages and receives in no pair; [`patterns`]: how receives name messages; [`candidates`]: receives
+//!   that may starve; [`listed`]: messages by such names, found by [`sets`] of them; [`starved`]: receives that starve;
+//!   [`before`]: what came through; [`unmatched`]: all of these together
+//! - [`near`]: what would be a pair but for one thing, by [`shelf`]s with [`few`] things under a key, [`joined`]; by the
+//!   [`firsts`] of a pattern: [`taken`]: what earlier receives took; [`idle`]: persistent requests that aren't active, by
+//!   their [`inits`]
 //! - [`doubts`]: what may make it wrong; [`operations`]: what it names
 //!
 //! To change something, open:
 //!
 //! - what a held rank needs, and what is a root: `specs/Holding.antt`, `specs/Needs.antt`, `specs/Graph.antt`,
 //!   `specs/Roots.antt`; [`holding`], [`graph`], [`roots`]
-//! - which messages are left over, which receives starve: `specs/LeftOver.antt`; [`loose`], [`starved`]
-//! - the nearest misses: [`near`], [`shelf`], [`taken`], [`idle`]
+//! - which messages are left over: `specs/LeftOver.antt`; [`loose`]
+//! - which receives starve: `specs/Starving.antt`; [`candidates`], [`starved`]
+//! - the nearest misses: `specs/Near.antt`, `specs/Missed.antt`; [`near`], [`shelf`], [`taken`], [`idle`]
 //! - a field of the diagnosis: `crates/diagnosis_value/src/diagnosis.rt`
 //!
 //! # Choices
@@ -37,13 +40,17 @@
 
 mod before;
 mod calls;
+mod candidates;
 mod conditions;
 mod doubts;
+mod few;
 mod firsts;
 mod graph;
 mod holding;
 mod idle;
 mod inits;
+mod joined;
+mod listed;
 mod loose;
 mod near;
 mod operations;
@@ -51,6 +58,7 @@ mod patterns;
 mod polls;
 mod roots;
 mod rounds;
+mod sets;
 mod shelf;
 mod standing;
 mod starved;

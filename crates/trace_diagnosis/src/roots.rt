@@ -4,14 +4,19 @@
 //! out of, and the rounds that don't match. Where one root of a kind holds up the same ranks as another, the two are
 //! one thing to say.
 
-ghost use Rattle.std.specs.Prelude.{◌≡◌, ◌≤◌, ◌<◌, ◌+◌, ◌^◌, ◌++◌, ◌∷◌, [], if◌then◌else◌, ℕ, All, IfOk, OnOk, true, false, filter, is_some, vec_len};
-ghost use Rattle.std.specs.List.Sorted.{IsPermutation};
-ghost use Rattle.std.specs.List.{range_with_len};
+ghost use Rattle.std.specs.Prelude.{◌≡◌, ◌≤◌, ◌<◌, ◌+◌, ◌-◌, ◌^◌, ◌++◌, ◌∷◌, [], if◌then◌else◌, ℕ, All, IfOk, OnOk, true, false, filter, is_some, length, map, min, slice_index_or, vec_len};
+ghost use Rattle.std.specs.List.Sorted.{IsPermutation, IsSortedByKey};
+ghost use Rattle.std.specs.List.{Contains, filter_map, range_with_len};
 ghost use Rattle.trace_stuck.specs.Graph.{edge, is_up, label_at};
 ghost use Rattle.trace_stuck.specs.Hearts.{AreHearts};
-ghost use Rattle.trace_diagnosis.specs.Roots.{AddsRoot, IsRoot, IsSound, JoinsRoots, KeepRoots, LeadFrom, is_labelled, is_round, members};
+ghost use Rattle.trace_stuck.specs.Named.{at_rank};
+ghost use Rattle.trace_stuck.specs.declared.condition.RoundName.{RoundName as Name};
+ghost use Rattle.trace_diagnosis.specs.Graph.{LeadOutOfHeld, has_not_ended};
+ghost use Rattle.trace_diagnosis.specs.Roots.{AddsRoot, Covers, HaveComponent, HaveComponents, HaveRounds, IsInGraph, IsJoined, IsRoot, IsSound, KeepRoots, LeadFrom, is_labelled, is_round, kind_at, kind_number, members, root_place, root_place_cmp, round_of, round_place, rounds_in};
+ghost use Rattle.diagnosis_value.specs.declared.diagnosis.Root.{Root as Told};
+ghost use Rattle.diagnosis_value.specs.declared.diagnosis.RootKind.TheVariants.{Mismatch};
 
-use crate::graph::Graph;
+use crate::graph::{Graph, has_not_ended};
 use crate::holding::is_up;
 use crate::rounds::ranks_entered;
 use diagnosis_value::{MismatchedRound, Need, Root, RootKind};
@@ -33,19 +38,23 @@ pub(crate) struct Ranks<'a> {
 }
 
 impl<'a> Ranks<'a> {
-    /// Whether the rank has ended.
-    fn has_ended(&self, rank: u32) -> bool {
+    /// Whether the rank hasn't ended.
+    fn is_able(&self, rank: u32) -> bool
+        ensures { result ≡ is_up (map has_not_ended self.now.states.now) rank }
+    {
         match self.states.get(rank as usize) {
-            Some(state) => *state == State::Ended,
-            None => true,
+            Some(state) => has_not_ended(state),
+            None => false,
         }
     }
 
     /// What a rank is that others need, and the others of its component.
-    fn kind_of(&self, rank: u32) -> RootKind {
+    fn kind_of(&self, rank: u32) -> RootKind
+        ensures { result ≡ kind_at (map has_not_ended self.now.states.now) self.now.held.now self.now.waits.now rank }
+    {
         if is_up(self.held, rank) {
             RootKind::Cycle
-        } else if self.has_ended(rank) {
+        } else if !self.is_able(rank) {
             RootKind::Ended
         } else if is_up(self.waits, rank) {
             RootKind::Open
@@ -216,6 +225,7 @@ fn root_of_rank(
     requires small { ranks.now.count < 2 ^ 31 }
     requires same { vec_len graph.now.askers ≡ vec_len graph.now.edges }
     requires askers { (r s : ℕ) → edge graph.now.askers.items s r ≡ edge graph.now.edges.items r s }
+    ensures kind { IfOk result (λ root. root.kind ≡ kind_at (map has_not_ended ranks.now.states.now) ranks.now.held.now ranks.now.waits.now least) }
     ensures own { IfOk result (λ root. root.ranks.items ≡ members labels.now ranks.now.count least) }
     ensures holds_up { IfOk result (λ root. All (λ r. (is_up ranks.now.held.now r ≡ true) × LeadFrom graph.now.edges.items labels.now least r) root.holds_up.items) }
 {
@@ -247,7 +257,7 @@ fn root_of_round(
     requires count { vec_len graph.now.edges ≡ ranks.now.count + 1 }
     requires small { ranks.now.count < 2 ^ 31 }
     requires same { vec_len graph.now.askers ≡ vec_len graph.now.edges }
-    ensures { IfOk result (λ root. is_round root.kind ≡ true) }
+    ensures { IfOk result (λ root. root.kind ≡ Mismatch round) }
 {
     let starts = flags_for(alloc, graph, ranks.count + 1, round)?;
     let leading = firsts(alloc, &graph.askers, &starts)?;
@@ -263,7 +273,9 @@ fn root_of_round(
 }
 
 /// Whether edges lead to the node.
-fn is_needed(graph: &Graph, node: u32) -> bool {
+fn is_needed(graph: &Graph, node: u32) -> bool
+    ensures { result ≡ false → at_rank graph.now.askers.items node ≡ [] }
+{
     match graph.askers.get(node as usize) {
         Some(askers) => !askers.is_empty(),
         None => false,
@@ -272,7 +284,8 @@ fn is_needed(graph: &Graph, node: u32) -> bool {
 
 /// Whether a rank is the least of a component of the graph.
 fn is_root(graph: &Graph, ranks: &Ranks<'_>, labels: &[Option<u32>], rank: u32) -> bool
-    ensures { result ≡ true → is_labelled labels.now rank rank ≡ true }
+    ensures labelled { result ≡ true → is_labelled labels.now rank rank ≡ true }
+    ensures other { result ≡ false → is_labelled labels.now rank rank ≡ true → (is_up ranks.now.held.now rank ≡ false) × (at_rank graph.now.askers.items rank ≡ []) }
 {
     is_labelled(labels, rank, rank) && (is_up(ranks.held, rank) || is_needed(graph, rank))
 }
@@ -292,8 +305,11 @@ fn push_root(
     requires same { vec_len graph.now.askers ≡ vec_len graph.now.edges }
     requires askers { (r s : ℕ) → edge graph.now.askers.items s r ≡ edge graph.now.edges.items r s }
     requires hearts { AreHearts graph.now.edges.items labels.now }
-    ensures { OnOk result (All (IsRoot graph.now.edges.items ranks.now.held.now ranks.now.count) roots.old.items
+    ensures sound { OnOk result (All (IsRoot graph.now.edges.items ranks.now.held.now ranks.now.count) roots.old.items
         → All (IsRoot graph.now.edges.items ranks.now.held.now ranks.now.count) roots.new.items) }
+    ensures kept { OnOk result ((root : Told) → Contains roots.old.items root → Contains roots.new.items root) }
+    ensures more { OnOk result (is_labelled labels.now rank rank ≡ true → IsInGraph graph.now.edges.items ranks.now.held.now rank
+        → HaveComponent (kind_at (map has_not_ended ranks.now.states.now) ranks.now.held.now ranks.now.waits.now rank) (members labels.now ranks.now.count rank) roots.new.items) }
 {
     if !is_root(graph, ranks, labels, rank) {
         return Ok(());
@@ -310,7 +326,9 @@ fn roots_of_ranks(alloc: Global, graph: &Graph, ranks: &Ranks<'_>) -> Result<Vec
     requires small { ranks.now.count < 2 ^ 31 }
     requires same { vec_len graph.now.askers ≡ vec_len graph.now.edges }
     requires askers { (r s : ℕ) → edge graph.now.askers.items s r ≡ edge graph.now.edges.items r s }
-    ensures { IfOk result (λ roots. All (IsRoot graph.now.edges.items ranks.now.held.now ranks.now.count) roots.items) }
+    requires held { LeadOutOfHeld graph.now.edges.items ranks.now.held.now }
+    ensures sound { IfOk result (λ roots. All (IsRoot graph.now.edges.items ranks.now.held.now ranks.now.count) roots.items) }
+    ensures components { IfOk result (λ roots. HaveComponents graph.now.edges.items (map has_not_ended ranks.now.states.now) ranks.now.held.now ranks.now.waits.now ranks.now.count roots.items) }
 {
     let labels = hearts(alloc, &graph.edges)?;
     let mut roots = Vec::new(alloc);
@@ -320,23 +338,70 @@ fn roots_of_ranks(alloc: Global, graph: &Graph, ranks: &Ranks<'_>) -> Result<Vec
     Ok(roots)
 }
 
-/// The rounds that are needed, by object and number.
-fn rounds_needed(alloc: Global, all: &[Vec<Need>]) -> Result<Vec<RoundName>, AllocError> {
+/// The rounds that are needed, by object and number, each once.
+fn rounds_needed(alloc: Global, all: &[Vec<Need>]) -> Result<Vec<RoundName>, AllocError>
+    ensures { IfOk result (λ rounds. (round : Name) → Contains (rounds_in (map (λ v. v.items) all.now)) round → Contains rounds.items round) }
+{
     let mut rounds = Vec::new(alloc);
     for needs in all {
         push_rounds(needs, &mut rounds)?;
     }
     rounds.sort_by_key(|round| (round.object, round.k))?;
-    rounds.dedup_by_key(|round| (round.object, round.k));
-    Ok(rounds)
+    each_once(alloc, &rounds)
+}
+
+/// The rounds, without those that follow themselves.
+fn each_once(alloc: Global, rounds: &[RoundName]) -> Result<Vec<RoundName>, AllocError>
+    ensures { IfOk result (λ found. (round : Name) → Contains rounds.now round → Contains found.items round) }
+{
+    let mut found = Vec::new(alloc);
+    for round in rounds {
+        push_other(*round, &mut found)?;
+    }
+    Ok(found)
+}
+
+/// Adds the round, where it isn't the last.
+fn push_other(round: RoundName, found: &mut Vec<RoundName>) -> Result<(), AllocError>
+    ensures kept { OnOk result ((other : Name) → Contains found.old.items other → Contains found.new.items other) }
+    ensures there { OnOk result (Contains found.new.items round) }
+{
+    if is_last(round, found) {
+        return Ok(());
+    }
+    found.push(round)?;
+    Ok(())
+}
+
+/// Whether the last of these is the round.
+fn is_last(round: RoundName, found: &[RoundName]) -> bool
+    ensures { result ≡ true → Contains found.now round }
+{
+    match found.last() {
+        Some(last) => last.object == round.object && last.k == round.k,
+        None => false,
+    }
+}
+
+/// Adds the round that is needed, where it is one.
+fn push_round(need: &Need, rounds: &mut Vec<RoundName>) -> Result<(), AllocError>
+    ensures { OnOk result (rounds.new.items ≡ rounds.old.items ++ filter_map round_of (need.now ∷ [])) }
+{
+    match need {
+        Need::Round(round) => {
+            rounds.push(*round)?;
+            Ok(())
+        }
+        Need::Rank(_) => Ok(()),
+    }
 }
 
 /// Adds the rounds among the needs.
-fn push_rounds(needs: &[Need], rounds: &mut Vec<RoundName>) -> Result<(), AllocError> {
+fn push_rounds(needs: &[Need], rounds: &mut Vec<RoundName>) -> Result<(), AllocError>
+    ensures { OnOk result (rounds.new.items ≡ rounds.old.items ++ filter_map round_of needs.now) }
+{
     for need in needs {
-        if let Need::Round(round) = need {
-            rounds.push(*round)?;
-        }
+        push_round(need, rounds)?;
     }
     Ok(())
 }
@@ -367,7 +432,9 @@ fn push_roots_of_rounds(
     requires count { vec_len graph.now.edges ≡ ranks.now.count + 1 }
     requires small { ranks.now.count < 2 ^ 31 }
     requires same { vec_len graph.now.askers ≡ vec_len graph.now.edges }
-    ensures { OnOk result (KeepRoots roots.old.items roots.new.items) }
+    ensures sound { OnOk result (KeepRoots roots.old.items roots.new.items) }
+    ensures kept { OnOk result ((root : Told) → Contains roots.old.items root → Contains roots.new.items root) }
+    ensures rounds { OnOk result (HaveRounds (map (λ v. v.items) graph.now.needs.items) roots.new.items) }
 {
     let rounds = rounds_needed(alloc, &graph.needs)?;
     for round in &rounds {
@@ -379,7 +446,9 @@ fn push_roots_of_rounds(
 }
 
 /// The place of a kind in the order of kinds.
-fn kind_code(kind: RootKind) -> u8 {
+fn kind_code(kind: RootKind) -> u8
+    ensures { result ≡ kind_number kind }
+{
     match kind {
         RootKind::Mismatch(_) => 0,
         RootKind::Cycle => 1,
@@ -410,7 +479,7 @@ fn merge(own: &mut Vec<u32>, more: &[u32]) -> Result<(), AllocError>
 
 /// Adds a root's own ranks to another root, which holds up the same.
 fn join(into: &mut Root, root: &Root) -> Result<(), AllocError>
-    ensures { OnOk result (JoinsRoots into.old root.now into.new) }
+    ensures { OnOk result (IsJoined into.old root.now into.new) }
 {
     merge(&mut into.ranks, &root.ranks)?;
     merge(&mut into.needed_by, &root.needed_by)?;
@@ -426,14 +495,30 @@ type Places = BTreeMap<(u8, Vec<u32>), usize>;
 fn join_at(roots: &mut Vec<Root>, place: usize, root: &Root) -> Result<(), AllocError>
     requires place { place < vec_len roots.old }
     requires ranks { is_round root.now.kind ≡ false }
-    ensures { OnOk result (AddsRoot roots.old.items root.now roots.new.items) }
+    requires kind { (old : Told) → old ≡ slice_index_or roots.old.items place old → old.kind ≡ root.now.kind }
+    ensures sound { OnOk result (AddsRoot roots.old.items root.now roots.new.items) }
+    ensures kept { OnOk result ((other : Told) → Covers roots.old.items other → Covers roots.new.items other) }
+    ensures there { OnOk result (Covers roots.new.items root.now) }
 {
     join(&mut roots[place], root)
 }
 
+/// Whether the root at a place is of this kind.
+fn is_of_kind(roots: &[Root], place: usize, kind: RootKind) -> bool
+    ensures there { result ≡ true → place < length roots.now }
+    ensures kind { result ≡ true → (root : Told) → root ≡ slice_index_or roots.now place root → kind_number root.kind ≡ kind_number kind }
+{
+    if place >= roots.len() {
+        return false;
+    }
+    kind_code(roots[place].kind) == kind_code(kind)
+}
+
 /// Adds a root, or joins it with one that is there.
 fn add(roots: &mut Vec<Root>, places: &mut Places, root: Root) -> Result<(), AllocError>
-    ensures { OnOk result (AddsRoot roots.old.items root roots.new.items) }
+    ensures sound { OnOk result (AddsRoot roots.old.items root roots.new.items) }
+    ensures kept { OnOk result ((other : Told) → Covers roots.old.items other → Covers roots.new.items other) }
+    ensures there { OnOk result (Covers roots.new.items root) }
 {
     if !is_joined(root.kind) {
         roots.push(root)?;
@@ -441,7 +526,7 @@ fn add(roots: &mut Vec<Root>, places: &mut Places, root: Root) -> Result<(), All
     }
     let key = (kind_code(root.kind), root.holds_up.clone()?);
     let place = places.get(&key).copied().unwrap_or(usize::MAX);
-    if place < roots.len() {
+    if is_of_kind(roots.as_slice(), place, root.kind) {
         return join_at(roots, place, &root);
     }
     places.insert(key, roots.len())?;
@@ -451,7 +536,8 @@ fn add(roots: &mut Vec<Root>, places: &mut Places, root: Root) -> Result<(), All
 
 /// The roots, where those of one kind that hold up the same ranks are one.
 fn joined(alloc: Global, single: Vec<Root>) -> Result<Vec<Root>, AllocError>
-    ensures { IfOk result (λ roots. KeepRoots single.items roots.items) }
+    ensures sound { IfOk result (λ roots. KeepRoots single.items roots.items) }
+    ensures covers { IfOk result (λ roots. (root : Told) → Contains single.items root → Covers roots.items root) }
 {
     let mut roots = Vec::new(alloc);
     let mut places = Places::new(alloc);
@@ -463,7 +549,9 @@ fn joined(alloc: Global, single: Vec<Root>) -> Result<Vec<Root>, AllocError>
 }
 
 /// The object and the number of a root's round.
-fn place_of(kind: RootKind) -> (u32, u64) {
+fn place_of(kind: RootKind) -> (u32, u64)
+    ensures { result ≡ round_place kind }
+{
     match kind {
         RootKind::Mismatch(round) => (round.object, round.k),
         _ => (0, 0),
@@ -471,13 +559,17 @@ fn place_of(kind: RootKind) -> (u32, u64) {
 }
 
 /// How many ranks these are, as far as four bytes hold it.
-fn count_of(own: &[u32], others: &[u32]) -> u32 {
+fn count_of(own: &[u32], others: &[u32]) -> u32
+    ensures { result ≡ min (length own.now + length others.now) (2 ^ 32 - 1) }
+{
     own.len().saturating_add(others.len()).min(0xffff_ffff) as u32
 }
 
 /// By which roots are told: how many ranks they hold up or are, the most first; then their kinds, least ranks and
 /// rounds.
-fn order_of(root: &Root) -> (u32, u8, u32, u32, u64) {
+fn order_of(root: &Root) -> (u32, u8, u32, u32, u64)
+    ensures { result ≡ root_place root.now }
+{
     let least = root.ranks.first().copied().unwrap_or(0);
     let place = place_of(root.kind);
     (
@@ -501,7 +593,11 @@ pub(crate) fn roots_of(
     requires small { ranks.now.count < 2 ^ 31 }
     requires same { vec_len graph.now.askers ≡ vec_len graph.now.edges }
     requires askers { (r s : ℕ) → edge graph.now.askers.items s r ≡ edge graph.now.edges.items r s }
-    ensures { IfOk result (λ roots. All (IsSound graph.now.edges.items ranks.now.held.now ranks.now.count) roots.items) }
+    requires held { LeadOutOfHeld graph.now.edges.items ranks.now.held.now }
+    ensures sound { IfOk result (λ roots. All (IsSound graph.now.edges.items ranks.now.held.now ranks.now.count) roots.items) }
+    ensures components { IfOk result (λ roots. HaveComponents graph.now.edges.items (map has_not_ended ranks.now.states.now) ranks.now.held.now ranks.now.waits.now ranks.now.count roots.items) }
+    ensures rounds { IfOk result (λ roots. HaveRounds (map (λ v. v.items) graph.now.needs.items) roots.items) }
+    ensures order { IfOk result (λ roots. IsSortedByKey root_place root_place_cmp roots.items) }
 {
     let mut single = roots_of_ranks(alloc, graph, ranks)?;
     push_roots_of_rounds(alloc, graph, ranks, mismatched, &mut single)?;

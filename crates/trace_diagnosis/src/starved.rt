@@ -1,247 +1,219 @@
 //! Receives and probes that starve.
 //!
-//! A receive is pending where its rank waits in it, or its request is active. It starves where it is sure, in no pair,
-//! and each message in no pair that fits it may have been taken by an open receive of its rank with a lower call
-//! number.
-//!
-//! The receives of a rank are gone through in the order of their calls, with the open ones that were met. A message
-//! that one of these may have taken stays so for all later receives: so of the messages under one pattern those in
-//! front are passed over once.
+//! What may starve is gone through rank by rank, in the order of the calls, with the open receives that were met. A
+//! message that one of these may have taken stays so for all later receives of the rank: so of the messages under one
+//! pattern those in front are passed over once.
 
-ghost use Rattle.std.specs.Prelude.{◌≡◌};
+ghost use Rattle.std.specs.Prelude.{◌≡◌, ◌++◌, ◌∷◌, ◌≤◌, ◌&&◌, [], IfOk, OnOk, List, filter, length, map, nat_lt};
+ghost use Rattle.std.specs.List.{list_all};
+ghost use Rattle.mpi_model.specs.declared.message.Receive.{Receive as Wanted};
+ghost use Rattle.mpi_model.specs.Trusts.{is_open};
+ghost use Rattle.trace_ops.specs.Ops.{AreOwn, Ops};
+ghost use Rattle.trace_ops.specs.Order.{ArePosted};
+ghost use Rattle.trace_pair.specs.After.{comes_after};
+ghost use Rattle.trace_pair.specs.Ends.{AreLast, may_take};
+ghost use Rattle.trace_wait.specs.Ranks.{ops_of};
+ghost use Rattle.trace_diagnosis.specs.Askers.{asker};
+ghost use Rattle.trace_diagnosis.specs.Listed.{IsFirstFree, IsFront, Lists as Listing, is_starved_by, listed, opened, passed_at};
+ghost use Rattle.trace_diagnosis.specs.Starving.{candidates, is_starved};
 
-use crate::calls::named;
+use crate::candidates::candidates;
 use crate::conditions::Poller;
-use crate::loose::is_unpaired;
-use crate::patterns::{Pattern, pattern_of, patterns_of};
-use mpi_model::{Call, Layout, Message, OpName, ProbeEnvelope, Receive};
+use crate::listed::{Lists, asked_of, listed, lists_of};
+use crate::patterns::{Pattern, pattern_of};
+use mpi_model::{Layout, Message, Receive};
 use std::alloc::{AllocError, Global};
 use std::collections::BTreeMap;
-use trace_ops::{RankOps, is_foreign, probed};
+use trace_ops::RankOps;
 use trace_pair::{Ends, PairsByReceive, Reaches};
 
-/// The messages under one pattern, and how many in front of them open receives may have taken.
+/// How far the receives of a rank have been gone through.
 #[derive(Drop)]
-struct Waiting<'a> {
-    messages: Vec<&'a Message>,
-    passed: usize,
-}
-
-/// The operations for which a rank may wait: its call, and those of its active requests.
-fn pending_of(alloc: Global, rank: u32, own: &RankOps) -> Result<Vec<OpName>, AllocError> {
-    let mut names = Vec::new(alloc);
-    if let Some((call, _)) = own.waiting() {
-        names.push(named(rank, call))?;
-    }
-    for post in own.active() {
-        names.push(post.1)?;
-    }
-    names.sort()?;
-    Ok(names)
-}
-
-/// Whether a receive may starve: it is pending, sure, not completed, and in no pair.
-fn may_starve(
-    pending: &[OpName],
-    pairs: &PairsByReceive<'_>,
-    place: &mut usize,
-    q: &Receive,
-) -> bool {
-    q.trust.is_sure()
-        && q.ended.is_none()
-        && pending.binary_search(&q.name).is_ok()
-        && is_unpaired(pairs, place, q)
-}
-
-/// Adds the receive as which a probe looks for a message, where it isn't of the null process, nor foreign.
-fn push_probe(
-    layout: &Layout,
+struct Front {
     rank: u32,
-    number: u64,
-    call: &Call,
-    found: &mut Vec<Receive>,
-) -> Result<(), AllocError> {
-    let Some(envelope) = probe_of(call) else {
-        return Ok(());
-    };
-    if is_foreign(layout, rank, number, call) {
-        return Ok(());
-    }
-    if let Some(q) = probed(layout, rank, number, envelope) {
-        found.push(q)?;
-    }
-    Ok(())
+    /// How many of its receives.
+    place: usize,
+    /// The ends of the open ones among them.
+    ends: Ends,
+    /// For each pattern, how many of its first messages one of these may have taken.
+    passed: BTreeMap<Pattern, usize>,
 }
 
-/// What a probe looks for that takes nothing by itself.
-fn probe_of(call: &Call) -> Option<ProbeEnvelope> {
-    match call {
-        Call::Probe(envelope) | Call::Iprobe(envelope) | Call::Improbe(envelope) => Some(*envelope),
-        _ => None,
-    }
+/// How many of the first messages of a pattern have been passed.
+fn passed_at(passed: &BTreeMap<Pattern, usize>, pattern: Pattern) -> usize
+    ensures { result ≡ passed_at passed.now pattern }
+{
+    passed.get(&pattern).copied().unwrap_or(0)
 }
 
-/// Adds the receives of a rank that may starve.
-fn push_receives(
-    pending: &[OpName],
-    pairs: &PairsByReceive<'_>,
-    place: &mut usize,
-    receives: &[Receive],
-    found: &mut Vec<Receive>,
-) -> Result<(), AllocError> {
-    for q in receives {
-        if may_starve(pending, pairs, place, q) {
-            found.push(*q)?;
-        }
-    }
-    Ok(())
-}
-
-/// The receives and probes that may starve, by name.
-fn candidates(
-    alloc: Global,
-    layout: &Layout,
-    ops: &[RankOps],
-    ranks: u32,
-    pairs: &PairsByReceive<'_>,
-    pollers: &[Poller<'_>],
-) -> Result<Vec<Receive>, AllocError> {
-    let mut found = Vec::new(alloc);
-    let mut place = 0;
-    for rank in 0..ranks {
-        if let Some(own) = ops.get(rank as usize) {
-            push_of_rank(alloc, layout, rank, own, pairs, &mut place, &mut found)?;
-        }
-        push_polled(layout, pollers, rank, &mut found)?;
-    }
-    Ok(found)
-}
-
-/// Adds those of a rank, but for what it polls for.
-fn push_of_rank(
-    alloc: Global,
-    layout: &Layout,
-    rank: u32,
-    own: &RankOps,
-    pairs: &PairsByReceive<'_>,
-    place: &mut usize,
-    found: &mut Vec<Receive>,
-) -> Result<(), AllocError> {
-    let pending = pending_of(alloc, rank, own)?;
-    push_receives(&pending, pairs, place, own.receives(), found)?;
-    if let Some((number, call)) = own.waiting() {
-        push_probe(layout, rank, number, call, found)?;
-    }
-    Ok(())
-}
-
-/// Adds the probes that a rank polls for.
-fn push_polled(
-    layout: &Layout,
-    pollers: &[Poller<'_>],
-    rank: u32,
-    found: &mut Vec<Receive>,
-) -> Result<(), AllocError> {
-    if let Ok(place) = pollers.binary_search_by_key(&rank, |poller| poller.rank) {
-        for asked in &pollers[place].asked {
-            push_probe(layout, rank, asked.number, asked.call, found)?;
-        }
-    }
-    Ok(())
-}
-
-/// A place for the messages of each pattern that one of the receives names.
-fn places_for<'a>(
-    alloc: Global,
-    receives: &[Receive],
-) -> Result<BTreeMap<Pattern, Waiting<'a>>, AllocError> {
-    let mut places = BTreeMap::new(alloc);
-    for q in receives {
-        let waiting = Waiting {
-            messages: Vec::new(alloc),
-            passed: 0,
-        };
-        places.insert(pattern_of(q), waiting)?;
-    }
-    Ok(places)
-}
-
-/// Puts each message in the places of its patterns, where there are such.
-fn put_messages<'a>(
-    places: &mut BTreeMap<Pattern, Waiting<'a>>,
-    messages: &'a [Message],
-) -> Result<(), AllocError> {
-    if places.is_empty() {
-        return Ok(());
-    }
-    for m in messages {
-        for pattern in &patterns_of(m) {
-            if let Some(waiting) = places.get_mut(pattern) {
-                waiting.messages.push(m)?;
-            }
-        }
-    }
-    Ok(())
-}
-
-/// The first message from a place on that none of the open receives with these ends may have taken.
-fn first_free(messages: &[&Message], from: usize, ends: &Ends, reaches: &Reaches<'_>) -> usize {
-    for at in from..messages.len() {
-        if !ends.may_take(reaches, messages[at]) {
+/// The place from `from` on of the first message that none of the open receives with these ends may have taken.
+fn first_free(messages: &[Message], from: usize, ends: &Ends, reaches: &Reaches<'_>) -> usize
+    ensures { (free : List Wanted) → AreLast free ends.now → IsFirstFree (may_take (comes_after reaches.now) free) messages.now from result }
+{
+    let mut at = from;
+    'on: while at < messages.len() {
+        if !ends.may_take(reaches, &messages[at]) {
             return at;
         }
+        at += 1;
     }
-    messages.len()
+    at
 }
 
-/// Whether each message of the place may have been taken by open receives with these ends.
-fn are_taken(waiting: &mut Waiting<'_>, ends: &Ends, reaches: &Reaches<'_>) -> bool {
-    let first = first_free(&waiting.messages, waiting.passed, ends, reaches);
-    waiting.passed = first;
-    first >= waiting.messages.len()
+/// How many of a rank's receives stand before a call.
+fn count_before(receives: &[Receive], call: u64) -> usize
+    requires { ArePosted receives.now }
+    ensures bound { result ≤ length receives.now }
+    ensures opened { opened receives.now result ≡ filter (λ u. is_open u && nat_lt u.name.call call) receives.now }
+{
+    receives.partition_point(|u| u.name.call < call)
 }
 
-/// Whether the receive starves, beside open receives with these ends.
-fn starves(
-    places: &mut BTreeMap<Pattern, Waiting<'_>>,
-    ends: &Ends,
-    reaches: &Reaches<'_>,
-    q: &Receive,
-) -> bool {
-    match places.get_mut(&pattern_of(q)) {
-        Some(waiting) => are_taken(waiting, ends, reaches),
-        None => true,
+/// Adds the end of a receive, where it is open.
+fn add_open(q: &Receive, ends: &mut Ends) -> Result<(), AllocError>
+    ensures { OnOk result ((before : List Wanted) → AreLast before ends.old → AreLast (before ++ filter is_open (q.now ∷ [])) ends.new) }
+{
+    if !q.is_open() {
+        return Ok(());
     }
+    ends.insert(q)?;
+    Ok(())
 }
 
-/// Adds the ends of the open receives from a place on whose calls are before this one; answers the place behind them.
-fn add_open(
+/// Adds the ends of the open receives from one place to another.
+fn add_all_open(
     receives: &[Receive],
     from: usize,
-    call: u64,
+    to: usize,
     ends: &mut Ends,
-) -> Result<usize, AllocError> {
-    for place in from..receives.len() {
-        let q = &receives[place];
-        if q.name.call >= call {
-            return Ok(place);
-        }
-        if q.is_open() {
-            ends.insert(q)?;
+) -> Result<(), AllocError>
+    requires order { from ≤ to }
+    requires bound { to ≤ length receives.now }
+    requires last { AreLast (opened receives.now from) ends.old }
+    ensures { OnOk result (AreLast (opened receives.now to) ends.new) }
+{
+    for place in from..to {
+        add_open(&receives[place], ends)?;
+    }
+    Ok(())
+}
+
+impl Front {
+    /// Before the receives of a rank.
+    fn before(alloc: Global, rank: u32) -> Front
+        ensures rank { result.rank ≡ rank }
+        ensures place { result.place ≡ 0 }
+        ensures front { (ops : List Ops) (lists : Listing) → IsFront ops lists result }
+    {
+        Front {
+            rank,
+            place: 0,
+            ends: Ends::empty(alloc),
+            passed: BTreeMap::new(alloc),
         }
     }
-    Ok(receives.len().max(from))
+
+    /// Turns to the receives of a rank, unless so many or fewer of them have been gone through.
+    fn turn_to(&mut self, alloc: Global, rank: u32, to: usize)
+        ensures rank { self.new.rank ≡ rank }
+        ensures place { self.new.place ≤ to }
+        ensures front { (ops : List Ops) (lists : Listing) → IsFront ops lists self.old → IsFront ops lists self.new }
+    {
+        if self.rank == rank && self.place <= to {
+            return;
+        }
+        *self = Front::before(alloc, rank);
+    }
+
+    /// Goes on to a place of the rank's receives.
+    fn go_to(&mut self, receives: &[Receive], to: usize) -> Result<(), AllocError>
+        requires order { self.old.place ≤ to }
+        requires bound { to ≤ length receives.now }
+        requires last { AreLast (opened receives.now self.old.place) self.old.ends }
+        ensures rank { OnOk result (self.new.rank ≡ self.old.rank) }
+        ensures place { OnOk result (self.new.place ≡ to) }
+        ensures front { OnOk result ((ops : List Ops) (lists : Listing) → receives.now ≡ (ops_of ops self.old.rank).receives → IsFront ops lists self.old → IsFront ops lists self.new) }
+    {
+        add_all_open(receives, self.place, to, &mut self.ends)?;
+        self.place = to;
+        Ok(())
+    }
+
+    /// Whether all messages of a pattern may have been taken by the open receives that have been gone through.
+    fn are_taken(
+        &mut self,
+        lists: &Lists,
+        reaches: &Reaches<'_>,
+        pattern: Pattern,
+    ) -> Result<bool, AllocError>
+        requires { IsFront reaches.now lists.now self.old }
+        ensures front { OnOk result (IsFront reaches.now lists.now self.new) }
+        ensures taken { IfOk result (λ all. all ≡ list_all (may_take (comes_after reaches.now) (opened (ops_of reaches.now self.old.rank).receives self.old.place)) (listed lists.now pattern)) }
+    {
+        let messages = listed(lists, pattern);
+        let from = passed_at(&self.passed, pattern);
+        let first = first_free(messages, from, &self.ends, reaches);
+        self.passed.insert(pattern, first)?;
+        Ok(first >= messages.len())
+    }
 }
 
 /// The receives of a rank.
-fn receives_at(ops: &[RankOps], rank: u32) -> &[Receive] {
+fn receives_at(ops: &[RankOps], rank: u32) -> &[Receive]
+    ensures { result.now ≡ (ops_of ops.now rank).receives }
+{
     match ops.get(rank as usize) {
         Some(own) => own.receives(),
         None => &[],
     }
 }
 
-/// The receives and probes that starve, by name. `messages` are those in no pair that weren't cancelled.
+/// Whether a receive starves, after those that were asked before it. Where they were of its rank and of no later calls,
+/// the search goes on from there, and else begins anew.
+fn is_starved(
+    alloc: Global,
+    ops: &[RankOps],
+    reaches: &Reaches<'_>,
+    lists: &Lists,
+    front: &mut Front,
+    q: &Receive,
+) -> Result<bool, AllocError>
+    requires own { AreOwn 0 ops.now }
+    requires reaches { reaches.now ≡ ops.now }
+    requires front { IsFront ops.now lists.now front.old }
+    ensures front { OnOk result (IsFront ops.now lists.now front.new) }
+    ensures starved { IfOk result (λ is. is ≡ is_starved_by ops.now lists.now q.now) }
+{
+    let receives = receives_at(ops, q.at);
+    let to = count_before(receives, q.name.call);
+    front.turn_to(alloc, q.at, to);
+    front.go_to(receives, to)?;
+    front.are_taken(lists, reaches, pattern_of(q))
+}
+
+/// Those of the receives that starve, by the messages that are listed.
+fn starved_among(
+    alloc: Global,
+    ops: &[RankOps],
+    reaches: &Reaches<'_>,
+    lists: &Lists,
+    receives: &[Receive],
+) -> Result<Vec<Receive>, AllocError>
+    requires own { AreOwn 0 ops.now }
+    requires reaches { reaches.now ≡ ops.now }
+    ensures { IfOk result (λ found. found.items ≡ filter (is_starved_by ops.now lists.now) receives.now) }
+{
+    let mut front = Front::before(alloc, 0);
+    let mut found = Vec::new(alloc);
+    for q in receives {
+        if is_starved(alloc, ops, reaches, lists, &mut front, q)? {
+            found.push(*q)?;
+        }
+    }
+    Ok(found)
+}
+
+/// The receives and probes that starve, rank by rank. `messages` are those in no pair that weren't cancelled.
 pub(crate) fn starving_of(
     alloc: Global,
     layout: &Layout,
@@ -252,24 +224,14 @@ pub(crate) fn starving_of(
     pollers: &[Poller<'_>],
     messages: &[Message],
 ) -> Result<Vec<Receive>, AllocError>
-    requires { reaches.now ≡ ops.now }
+    requires all { ranks ≡ length ops.now }
+    requires own { AreOwn 0 ops.now }
+    requires reaches { reaches.now ≡ ops.now }
+    ensures { IfOk result (λ found. found.items ≡ filter (is_starved ops.now messages.now) (candidates layout.now ops.now pairs.now (map asker pollers.now))) }
 {
-    let candidates = candidates(alloc, layout, ops, ranks, pairs, pollers)?;
-    let mut places = places_for(alloc, &candidates)?;
-    put_messages(&mut places, messages)?;
-    let mut ends = Ends::empty(alloc);
-    let mut found = Vec::new(alloc);
-    let mut rank = 0;
-    let mut place = 0;
-    for q in &candidates {
-        if q.at != rank {
-            rank = q.at;
-            place = 0;
-        }
-        place = add_open(receives_at(ops, rank), place, q.name.call, &mut ends)?;
-        if starves(&mut places, &ends, reaches, q) {
-            found.push(*q)?;
-        }
-    }
+    let receives = candidates(alloc, layout, ops, ranks, pairs, pollers)?;
+    let asked = asked_of(alloc, &receives)?;
+    let lists = lists_of(alloc, &asked, messages)?;
+    let found = starved_among(alloc, ops, reaches, &lists, &receives)?;
     Ok(found)
 }

@@ -1,9 +1,9 @@
 //! Messages that would fit a starving receive, and that earlier receives of its rank have taken or may have taken.
 
 use crate::calls::call_named;
+use crate::few::MOST_NEAR;
 use crate::inits::Inits;
 use crate::patterns::{Pattern, pattern_of, patterns_of};
-use crate::shelf::MOST_NEAR;
 use mpi_model::{Call, Envelope, Message, OpName, Peer, ProbeEnvelope, Receive};
 use std::alloc::{AllocError, Global};
 use std::collections::BTreeMap;

@@ -1,11 +1,17 @@
 //! Messages that are left over, receives that starve, and the nearest misses of both.
 
-ghost use Rattle.std.specs.Prelude.{◌≡◌, ◌++◌, ◌∷◌, [], if◌then◌else◌, All, Bool, IfOk, List, OnOk, filter, map, true};
+ghost use Rattle.std.specs.Prelude.{◌≡◌, ◌++◌, ◌∷◌, [], if◌then◌else◌, All, Contains, IfOk, List, OnOk, filter, length, map, slice_get};
 ghost use Rattle.std.specs.List.{flat_map};
 ghost use Rattle.trace_ops.specs.Ops.{AreOwn};
-ghost use Rattle.trace_stuck.specs.Graph.{is_up};
-ghost use Rattle.trace_diagnosis.specs.LeftOver.{IsOfWaiting, IsUnmatched, is_told, left_over, unfinished_of};
-ghost use Rattle.trace_diagnosis.specs.Missed.{HasNearMessages, HasNearReceives, IsNearMessage, IsNearReceive};
+ghost use Rattle.mpi_model.specs.declared.message.Message.{Message as Sent};
+ghost use Rattle.diagnosis_value.specs.declared.diagnosis.Why.TheVariants.{Idle as AnIdle};
+ghost use Rattle.trace_diagnosis.specs.Askers.{asker};
+ghost use Rattle.trace_diagnosis.specs.LeftOver.{is_told, left_over, unfinished_of};
+ghost use Rattle.trace_diagnosis.specs.Missed.{AreNearMessages, AreNearReceives, GoesOn, HasNearMessages, HasNearReceives, IsFitMessage, IsMessageOf, IsReceiveOf, nearest_messages, nearest_receives};
+ghost use Rattle.trace_diagnosis.specs.Nearest.{LookAmong, LookForMessages, near_message, near_message_at, near_message_of, near_receive, near_receive_at, near_receive_of};
+ghost use Rattle.trace_diagnosis.specs.Starving.{starving};
+ghost use Rattle.trace_diagnosis.specs.Unmatched.{IsUnmatched, is_of_waiting};
+ghost use Rattle.trace_diagnosis.specs.Ways.{why_of};
 
 use crate::before::Through;
 use crate::conditions::Poller;
@@ -14,7 +20,7 @@ use crate::holding::is_up;
 use crate::idle::Idle;
 use crate::inits::Inits;
 use crate::loose::{left_over_of, loose_messages, undecided_of};
-use crate::near::{NearMessages, NearReceives, is_near};
+use crate::near::{NearMessages, NearReceives, Way, is_near};
 use crate::patterns::{Pattern, pattern_of, patterns_of};
 use crate::shelf::first_three;
 use crate::starved::starving_of;
@@ -93,8 +99,11 @@ struct Found {
 
 /// What starves and what is left over.
 fn found_in(alloc: Global, run: &Run<'_>, reaches: &Reaches<'_>) -> Result<Found, AllocError>
-    requires { reaches.now ≡ run.now.ops.now }
-    ensures { IfOk result (λ f. f.left.items ≡ left_over run.now.ops.now run.now.pairs.now.pairs) }
+    requires all { run.now.ranks ≡ length run.now.ops.now }
+    requires own { AreOwn 0 run.now.ops.now }
+    requires reaches { reaches.now ≡ run.now.ops.now }
+    ensures left_over { IfOk result (λ f. f.left.items ≡ left_over run.now.ops.now run.now.pairs.now.pairs) }
+    ensures starving { IfOk result (λ f. f.starving.items ≡ starving run.now.layout.now run.now.ops.now run.now.pairs.now.pairs (map asker run.now.pollers.now)) }
 {
     let received = run.pairs.by_receive(alloc)?;
     let loose = loose_messages(alloc, run.pairs, run.ops)?;
@@ -138,13 +147,35 @@ fn push_receive(
     q: &Receive,
     near: &mut Vec<NearReceive>,
 ) -> Result<(), AllocError>
-    ensures { OnOk result (All (IsNearReceive m.now) near.old.items → All (IsNearReceive m.now) near.new.items) }
+    ensures { OnOk result (near.new.items ≡ near.old.items ++ near_receive why m.now q.now) }
 {
     if !is_near(why, m, q) {
         return Ok(());
     }
     near.push(NearReceive { why, receive: *q })?;
     Ok(())
+}
+
+/// The receive at a place.
+fn receive_at(receives: &[Receive], place: usize) -> Option<Receive>
+    ensures { result ≡ slice_get receives.now place }
+{
+    receives.get(place).copied()
+}
+
+/// Adds the receive, where there is one and it is a near miss of the message.
+fn push_receive_of(
+    why: Why,
+    m: &Message,
+    q: Option<Receive>,
+    near: &mut Vec<NearReceive>,
+) -> Result<(), AllocError>
+    ensures { OnOk result (near.new.items ≡ near.old.items ++ near_receive_of why m.now q) }
+{
+    match q {
+        Some(q) => push_receive(why, m, &q, near),
+        None => Ok(()),
+    }
 }
 
 /// Adds the receives at these places that are near misses of the message.
@@ -155,28 +186,13 @@ fn push_receives(
     places: &[usize],
     near: &mut Vec<NearReceive>,
 ) -> Result<(), AllocError>
-    ensures { OnOk result (All (IsNearReceive m.now) near.old.items → All (IsNearReceive m.now) near.new.items) }
+    ensures exact { OnOk result (near.new.items ≡ near.old.items ++ flat_map (near_receive_at why m.now receives.now) places.now) }
+    ensures sort { OnOk result (GoesOn (IsReceiveOf why m.now) near.old.items near.new.items) }
 {
     for place in places {
-        push_receive_at(why, m, receives, *place, near)?;
+        push_receive_of(why, m, receive_at(receives, *place), near)?;
     }
     Ok(())
-}
-
-/// Adds the receive at a place, where it is a near miss of the message.
-fn push_receive_at(
-    why: Why,
-    m: &Message,
-    receives: &[Receive],
-    place: usize,
-    near: &mut Vec<NearReceive>,
-) -> Result<(), AllocError>
-    ensures { OnOk result (All (IsNearReceive m.now) near.old.items → All (IsNearReceive m.now) near.new.items) }
-{
-    if place >= receives.len() {
-        return Ok(());
-    }
-    push_receive(why, m, &receives[place], near)
 }
 
 /// Adds the message with what has or may have taken it, where it is a near miss of the receive.
@@ -187,7 +203,7 @@ fn push_message(
     by: Option<OpName>,
     near: &mut Vec<NearMessage>,
 ) -> Result<(), AllocError>
-    ensures { OnOk result (All (IsNearMessage q.now) near.old.items → All (IsNearMessage q.now) near.new.items) }
+    ensures { OnOk result (near.new.items ≡ near.old.items ++ near_message why q.now by m.now) }
 {
     if !is_near(why, m, q) {
         return Ok(());
@@ -200,6 +216,28 @@ fn push_message(
     Ok(())
 }
 
+/// The message at a place.
+fn message_at(messages: &[Message], place: usize) -> Option<Message>
+    ensures { result ≡ slice_get messages.now place }
+{
+    messages.get(place).copied()
+}
+
+/// Adds the message, where there is one and it is a near miss of the receive.
+fn push_message_of(
+    why: Why,
+    q: &Receive,
+    m: Option<Message>,
+    near: &mut Vec<NearMessage>,
+) -> Result<(), AllocError>
+    ensures { OnOk result (near.new.items ≡ near.old.items ++ near_message_of why q.now m) }
+{
+    match m {
+        Some(m) => push_message(why, q, &m, None, near),
+        None => Ok(()),
+    }
+}
+
 /// Adds the messages at these places that are near misses of the receive.
 fn push_messages(
     why: Why,
@@ -208,28 +246,13 @@ fn push_messages(
     places: &[usize],
     near: &mut Vec<NearMessage>,
 ) -> Result<(), AllocError>
-    ensures { OnOk result (All (IsNearMessage q.now) near.old.items → All (IsNearMessage q.now) near.new.items) }
+    ensures exact { OnOk result (near.new.items ≡ near.old.items ++ flat_map (near_message_at why q.now messages.now) places.now) }
+    ensures sort { OnOk result (GoesOn (IsMessageOf why q.now) near.old.items near.new.items) }
 {
     for place in places {
-        push_message_at(why, q, messages, *place, near)?;
+        push_message_of(why, q, message_at(messages, *place), near)?;
     }
     Ok(())
-}
-
-/// Adds the message at a place, where it is a near miss of the receive.
-fn push_message_at(
-    why: Why,
-    q: &Receive,
-    messages: &[Message],
-    place: usize,
-    near: &mut Vec<NearMessage>,
-) -> Result<(), AllocError>
-    ensures { OnOk result (All (IsNearMessage q.now) near.old.items → All (IsNearMessage q.now) near.new.items) }
-{
-    if place >= messages.len() {
-        return Ok(());
-    }
-    push_message(why, q, &messages[place], None, near)
 }
 
 /// Adds messages with what has or may have taken them.
@@ -239,7 +262,7 @@ fn push_taken(
     taken: &[TakenBy],
     near: &mut Vec<NearMessage>,
 ) -> Result<(), AllocError>
-    ensures { OnOk result (All (IsNearMessage q.now) near.old.items → All (IsNearMessage q.now) near.new.items) }
+    ensures { OnOk result (GoesOn (IsMessageOf why q.now) near.old.items near.new.items) }
 {
     for one in taken {
         push_message(why, q, &one.message, Some(one.by), near)?;
@@ -265,32 +288,34 @@ fn patterns_of_messages(alloc: Global, messages: &[Message]) -> Result<Vec<Patte
     Ok(asked)
 }
 
-/// Adds the near misses of the message that differ from it in one thing.
+/// Adds the first three near misses of the message that differ from it in one thing.
 fn push_near_receives(
     alloc: Global,
-    why: Why,
     m: &Message,
-    receives: &[Receive],
-    by_thing: &NearReceives,
+    by_thing: &NearReceives<'_>,
     near: &mut Vec<NearReceive>,
 ) -> Result<(), AllocError>
-    ensures { OnOk result (All (IsNearReceive m.now) near.old.items → All (IsNearReceive m.now) near.new.items) }
+    ensures { OnOk result (near.new.items ≡ near.old.items ++ nearest_receives (why_of by_thing.now.0) m.now by_thing.now.1) }
 {
-    push_receives(why, m, receives, &by_thing.near(alloc, m)?, near)
+    let places = by_thing.near(alloc, m)?;
+    push_receives(by_thing.why(), m, by_thing.receives(), &places, near)?;
+    Ok(())
 }
 
 /// What messages that are left over may miss by little.
 #[derive(Drop)]
-struct AllReceives {
-    tag: NearReceives,
-    comm: NearReceives,
-    source: NearReceives,
-    dest: NearReceives,
+struct AllReceives<'a> {
+    tag: NearReceives<'a>,
+    comm: NearReceives<'a>,
+    source: NearReceives<'a>,
+    dest: NearReceives<'a>,
     idle: Firsts,
 }
 
-impl AllReceives {
-    fn of(alloc: Global, found: &Found, idle: &Idle) -> Result<AllReceives, AllocError> {
+impl<'a> AllReceives<'a> {
+    fn of(alloc: Global, found: &'a Found, idle: &Idle) -> Result<AllReceives<'a>, AllocError>
+        ensures { IfOk result (LookAmong found.now.starving.items) }
+    {
         let asked = if idle.receives.is_empty() {
             Vec::new(alloc)
         } else {
@@ -298,12 +323,12 @@ impl AllReceives {
         };
         let idle = Firsts::of_receives(alloc, &asked, &idle.receives)?;
         drop(asked);
-        let starving = &found.starving;
+        let starving = found.starving.as_slice();
         Ok(AllReceives {
-            tag: NearReceives::of(alloc, Why::Tag, starving)?,
-            comm: NearReceives::of(alloc, Why::Comm, starving)?,
-            source: NearReceives::of(alloc, Why::Source, starving)?,
-            dest: NearReceives::of(alloc, Why::Dest, starving)?,
+            tag: NearReceives::of(alloc, Way::Tag, starving)?,
+            comm: NearReceives::of(alloc, Way::Comm, starving)?,
+            source: NearReceives::of(alloc, Way::Source, starving)?,
+            dest: NearReceives::of(alloc, Way::Dest, starving)?,
             idle,
         })
     }
@@ -325,15 +350,11 @@ impl AllReceives {
         m: &Message,
         near: &mut Vec<NearReceive>,
     ) -> Result<(), AllocError>
-        ensures { OnOk result (All (IsNearReceive m.now) near.old.items → All (IsNearReceive m.now) near.new.items) }
+        ensures { OnOk result (GoesOn (IsReceiveOf AnIdle m.now) near.old.items near.new.items) }
     {
-        push_receives(
-            Why::Idle,
-            m,
-            &idle.receives,
-            &self.idle_for(alloc, m)?,
-            near,
-        )
+        let places = self.idle_for(alloc, m)?;
+        push_receives(Why::Idle, m, &idle.receives, &places, near)?;
+        Ok(())
     }
 
     /// The near misses of a message.
@@ -344,40 +365,61 @@ impl AllReceives {
         idle: &Idle,
         m: &Message,
     ) -> Result<Vec<NearReceive>, AllocError>
-        ensures { IfOk result (λ near. All (IsNearReceive m.now) near.items) }
+        requires { LookAmong found.now.starving.items self.now }
+        ensures { IfOk result (λ near. AreNearReceives found.now.starving.items m.now near.items) }
     {
-        let receives = &found.starving;
         let mut near = Vec::new(alloc);
-        push_near_receives(alloc, Why::Tag, m, receives, &self.tag, &mut near)?;
-        push_near_receives(alloc, Why::Comm, m, receives, &self.comm, &mut near)?;
-        push_near_receives(alloc, Why::Source, m, receives, &self.source, &mut near)?;
-        push_near_receives(alloc, Why::Dest, m, receives, &self.dest, &mut near)?;
+        push_near_receives(alloc, m, &self.tag, &mut near)?;
+        push_near_receives(alloc, m, &self.comm, &mut near)?;
+        push_near_receives(alloc, m, &self.source, &mut near)?;
+        push_near_receives(alloc, m, &self.dest, &mut near)?;
         self.push_idle(alloc, idle, m, &mut near)?;
         Ok(near)
     }
 }
 
-/// Adds the near misses of the receive that differ from it in one thing.
+/// Adds the first three near misses of the receive that differ from it in one thing.
 fn push_near_messages(
     alloc: Global,
-    why: Why,
     q: &Receive,
-    messages: &[Message],
-    by_thing: &NearMessages,
+    by_thing: &NearMessages<'_>,
     near: &mut Vec<NearMessage>,
 ) -> Result<(), AllocError>
-    ensures { OnOk result (All (IsNearMessage q.now) near.old.items → All (IsNearMessage q.now) near.new.items) }
+    requires { Contains by_thing.now.2 q.now }
+    ensures { OnOk result (near.new.items ≡ near.old.items ++ nearest_messages (why_of by_thing.now.0) q.now by_thing.now.1) }
 {
-    push_messages(why, q, messages, &by_thing.near(alloc, q)?, near)
+    let places = by_thing.near(alloc, q)?;
+    push_messages(by_thing.why(), q, by_thing.messages(), &places, near)?;
+    Ok(())
 }
 
-/// What receives that starve may miss by little.
+/// The messages from which receives that starve may differ in one thing.
+#[derive(Drop)]
+struct InOneThing<'a> {
+    tag: NearMessages<'a>,
+    comm: NearMessages<'a>,
+    source: NearMessages<'a>,
+    dest: NearMessages<'a>,
+}
+
+impl<'a> InOneThing<'a> {
+    fn of(alloc: Global, found: &'a Found) -> Result<InOneThing<'a>, AllocError>
+        ensures { IfOk result (LookForMessages found.now.left.items found.now.starving.items) }
+    {
+        let left = found.left.as_slice();
+        let starving = found.starving.as_slice();
+        Ok(InOneThing {
+            tag: NearMessages::of(alloc, Way::Tag, left, starving)?,
+            comm: NearMessages::of(alloc, Way::Comm, left, starving)?,
+            source: NearMessages::of(alloc, Way::Source, left, starving)?,
+            dest: NearMessages::of(alloc, Way::Dest, left, starving)?,
+        })
+    }
+}
+
+/// What else receives that starve may miss by little.
 #[derive(Drop)]
 struct AllMessages<'a> {
-    tag: NearMessages,
-    comm: NearMessages,
-    source: NearMessages,
-    dest: NearMessages,
     taken: Vec<Vec<TakenBy>>,
     loose: Firsts,
     takers: Takers<'a>,
@@ -393,17 +435,12 @@ impl<'a> AllMessages<'a> {
         found: &Found,
         idle: &Idle,
     ) -> Result<AllMessages<'a>, AllocError> {
-        let starving = &found.starving;
+        let starving = found.starving.as_slice();
         let asked = patterns_of_receives(alloc, starving)?;
         let loose = Firsts::of_messages(alloc, &asked, &found.loose)?;
         let idle = Firsts::of_messages(alloc, &asked, &idle.messages)?;
         drop(asked);
-        let left = &found.left;
         Ok(AllMessages {
-            tag: NearMessages::of(alloc, Why::Tag, left, starving)?,
-            comm: NearMessages::of(alloc, Why::Comm, left, starving)?,
-            source: NearMessages::of(alloc, Why::Source, left, starving)?,
-            dest: NearMessages::of(alloc, Why::Dest, left, starving)?,
             taken: taken_of(alloc, run.know, inits, run.ops, run.pairs, starving)?,
             loose,
             takers: Takers::of(alloc, run.ops, reaches)?,
@@ -429,22 +466,29 @@ impl<'a> AllMessages<'a> {
         Ok(postponed)
     }
 
-    /// Adds the messages in no pair that fit a receive.
-    fn push_postponed(
+    /// Adds the messages that fit a receive: taken ones, those in no pair, and those of requests that aren't active.
+    fn push_fit(
         &self,
         alloc: Global,
         found: &Found,
+        idle: &Idle,
+        at: usize,
         q: &Receive,
         near: &mut Vec<NearMessage>,
     ) -> Result<(), AllocError>
-        ensures { OnOk result (All (IsNearMessage q.now) near.old.items → All (IsNearMessage q.now) near.new.items) }
+        ensures { OnOk result (GoesOn (IsFitMessage q.now) near.old.items near.new.items) }
     {
-        push_taken(
-            Why::Postponed,
+        push_taken(Why::Taken, q, taken_at(&self.taken, at), near)?;
+        let postponed = self.postponed_for(alloc, found, q)?;
+        push_taken(Why::Postponed, q, &postponed, near)?;
+        push_messages(
+            Why::Idle,
             q,
-            &self.postponed_for(alloc, found, q)?,
+            &idle.messages,
+            self.idle.at(pattern_of(q)),
             near,
-        )
+        )?;
+        Ok(())
     }
 
     /// The near misses of the receive at a place.
@@ -453,26 +497,20 @@ impl<'a> AllMessages<'a> {
         alloc: Global,
         found: &Found,
         idle: &Idle,
+        tables: &InOneThing<'_>,
         at: usize,
         q: &Receive,
     ) -> Result<Vec<NearMessage>, AllocError>
-        ensures { IfOk result (λ near. All (IsNearMessage q.now) near.items) }
+        requires tables { LookForMessages found.now.left.items found.now.starving.items tables.now }
+        requires among { Contains found.now.starving.items q.now }
+        ensures { IfOk result (λ near. AreNearMessages found.now.left.items q.now near.items) }
     {
-        let messages = &found.left;
         let mut near = Vec::new(alloc);
-        push_near_messages(alloc, Why::Tag, q, messages, &self.tag, &mut near)?;
-        push_near_messages(alloc, Why::Comm, q, messages, &self.comm, &mut near)?;
-        push_near_messages(alloc, Why::Source, q, messages, &self.source, &mut near)?;
-        push_near_messages(alloc, Why::Dest, q, messages, &self.dest, &mut near)?;
-        push_taken(Why::Taken, q, taken_at(&self.taken, at), &mut near)?;
-        self.push_postponed(alloc, found, q, &mut near)?;
-        push_messages(
-            Why::Idle,
-            q,
-            &idle.messages,
-            self.idle.at(pattern_of(q)),
-            &mut near,
-        )?;
+        push_near_messages(alloc, q, &tables.tag, &mut near)?;
+        push_near_messages(alloc, q, &tables.comm, &mut near)?;
+        push_near_messages(alloc, q, &tables.source, &mut near)?;
+        push_near_messages(alloc, q, &tables.dest, &mut near)?;
+        self.push_fit(alloc, found, idle, at, q, &mut near)?;
         Ok(near)
     }
 }
@@ -488,14 +526,15 @@ fn taken_at(taken: &[Vec<TakenBy>], at: usize) -> &[TakenBy] {
 /// What is told of a message that is left over.
 fn left_over_with(
     alloc: Global,
-    receives: &AllReceives,
+    receives: &AllReceives<'_>,
     found: &Found,
     idle: &Idle,
     through: &Through,
     m: &Message,
 ) -> Result<LeftOver, AllocError>
+    requires { LookAmong found.now.starving.items receives.now }
     ensures message { IfOk result (λ l. l.message ≡ m.now) }
-    ensures near { IfOk result HasNearReceives }
+    ensures near { IfOk result (HasNearReceives found.now.starving.items) }
 {
     Ok(LeftOver {
         message: *m,
@@ -508,16 +547,17 @@ fn left_over_with(
 fn push_told(
     alloc: Global,
     run: &Run<'_>,
-    receives: &AllReceives,
+    receives: &AllReceives<'_>,
     found: &Found,
     idle: &Idle,
     through: &Through,
     m: &Message,
     told: &mut Vec<LeftOver>,
 ) -> Result<(), AllocError>
+    requires { LookAmong found.now.starving.items receives.now }
     ensures messages { OnOk result (map (λ l. l.message) told.new.items ≡ map (λ l. l.message) told.old.items
         ++ (if is_told run.now.held.now run.now.waits.now m.now then m.now ∷ [] else [])) }
-    ensures near { OnOk result (All HasNearReceives told.old.items → All HasNearReceives told.new.items) }
+    ensures near { OnOk result (All (HasNearReceives found.now.starving.items) told.old.items → All (HasNearReceives found.now.starving.items) told.new.items) }
 {
     if !run.is_told(m) {
         return Ok(());
@@ -536,7 +576,7 @@ fn told_messages(
     through: &Through,
 ) -> Result<Vec<LeftOver>, AllocError>
     ensures messages { IfOk result (λ told. map (λ l. l.message) told.items ≡ filter (is_told run.now.held.now run.now.waits.now) found.now.left.items) }
-    ensures near { IfOk result (λ told. All HasNearReceives told.items) }
+    ensures near { IfOk result (λ told. All (HasNearReceives found.now.starving.items) told.items) }
 {
     let receives = AllReceives::of(alloc, found, idle)?;
     let mut told = Vec::new(alloc);
@@ -553,9 +593,8 @@ fn push_starving(
     near: Vec<NearMessage>,
     told: &mut Vec<Starving>,
 ) -> Result<(), AllocError>
-    requires { All (IsNearMessage q.now) near.items }
-    ensures waiting { OnOk result ((waits : List Bool) → is_up waits q.now.at ≡ true → All (IsOfWaiting waits) told.old.items → All (IsOfWaiting waits) told.new.items) }
-    ensures near { OnOk result (All HasNearMessages told.old.items → All HasNearMessages told.new.items) }
+    ensures receives { OnOk result (map (λ s. s.receive) told.new.items ≡ map (λ s. s.receive) told.old.items ++ q.now ∷ []) }
+    ensures near { OnOk result ((left : List Sent) → AreNearMessages left q.now near.items → All (HasNearMessages left) told.old.items → All (HasNearMessages left) told.new.items) }
 {
     told.push(Starving {
         receive: *q,
@@ -575,17 +614,19 @@ fn told_receives(
     idle: &Idle,
     through: &Through,
 ) -> Result<Vec<Starving>, AllocError>
-    ensures waiting { IfOk result (λ told. All (IsOfWaiting run.now.waits.now) told.items) }
-    ensures near { IfOk result (λ told. All HasNearMessages told.items) }
+    ensures receives { IfOk result (λ told. map (λ s. s.receive) told.items ≡ filter (is_of_waiting run.now.waits.now) found.now.starving.items) }
+    ensures near { IfOk result (λ told. All (HasNearMessages found.now.left.items) told.items) }
 {
     let messages = AllMessages::of(alloc, run, inits, reaches, found, idle)?;
+    let tables = InOneThing::of(alloc, found)?;
+    let starving = found.starving.as_slice();
     let mut told = Vec::new(alloc);
-    for (at, q) in found.starving.iter().enumerate() {
-        if !is_up(run.waits, q.at) {
-            continue;
+    for at in 0..starving.len() {
+        let q = &starving[at];
+        if is_up(run.waits, q.at) {
+            let near = messages.near(alloc, found, idle, &tables, at, q)?;
+            push_starving(q, through.at(pattern_of(q)), near, &mut told)?;
         }
-        let near = messages.near(alloc, found, idle, at, q)?;
-        push_starving(q, through.at(pattern_of(q)), near, &mut told)?;
     }
     Ok(told)
 }
@@ -596,8 +637,9 @@ pub(crate) fn unmatched_of(
     run: &Run<'_>,
     inits: &Inits,
 ) -> Result<Unmatched, AllocError>
-    requires { AreOwn 0 run.now.ops.now }
-    ensures { IfOk result (IsUnmatched run.now.ops.now run.now.pairs.now.pairs run.now.held.now run.now.waits.now) }
+    requires all { run.now.ranks ≡ length run.now.ops.now }
+    requires own { AreOwn 0 run.now.ops.now }
+    ensures { IfOk result (IsUnmatched run.now.layout.now run.now.ops.now run.now.pairs.now.pairs (map asker run.now.pollers.now) run.now.held.now run.now.waits.now) }
 {
     let table = reaches_of(alloc, run.ops)?;
     let reaches = Reaches::new(run.ops, &table);

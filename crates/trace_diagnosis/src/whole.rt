@@ -14,11 +14,12 @@ ghost use Rattle.trace_diagnosis.specs.Askers.{asked_plain, asker, case_conditio
 ghost use Rattle.trace_diagnosis.specs.Conditions.{asker_told, does_wait, polled_plain, wait_at};
 ghost use Rattle.trace_diagnosis.specs.Graph.{has_not_ended};
 ghost use Rattle.trace_diagnosis.specs.Holding.{is_held as is_held_by};
-ghost use Rattle.trace_diagnosis.specs.LeftOver.{IsUnmatched, has_sure_loose, unfinished_of};
+ghost use Rattle.trace_diagnosis.specs.LeftOver.{has_sure_loose, unfinished_of};
 ghost use Rattle.trace_diagnosis.specs.Roots.{HaveRoots};
 ghost use Rattle.trace_diagnosis.specs.Rounds.{AreTold};
 ghost use Rattle.trace_diagnosis.specs.Standing.{stands_at, stands_told};
 ghost use Rattle.trace_diagnosis.specs.Tails.{polling_at, polling_told};
+ghost use Rattle.trace_diagnosis.specs.Unmatched.{IsUnmatched};
 ghost use Rattle.trace_diagnosis.specs.Waiting.{IsWaiting, held_by, held_in, held_told, told_conditions};
 
 use crate::conditions::{Case, Poller, conditions_of, held_of, pollers_of, waits_of};
@@ -39,7 +40,7 @@ use mpi_model::{Layout, OpName, Sends};
 use std::alloc::{AllocError, Global};
 use trace_know::Knowledge;
 use trace_node::Answer;
-use trace_ops::{RankOps, all_ops, ops_laws};
+use trace_ops::{RankOps, ops_laws};
 use trace_pair::{PairTable, pair_all};
 use trace_stuck::{Condition, stuck};
 use trace_wait::{conditions, entries_of};
@@ -293,7 +294,7 @@ fn matters_of(alloc: Global, case: &Case<'_>, rounds: &Rounds) -> Result<Matters
     requires pairs { case.now.answer.now.pairs ≡ (table_of case.now.ops.now).pairs }
     ensures held { IfOk result (λ m. map held_told m.held.items ≡ held_in (case_conditions case.now) case.now.ranks) }
     ensures roots { IfOk result (λ m. HaveRoots (map has_not_ended case.now.answer.now.states) case.now.ranks (case_conditions case.now) m.roots.items) }
-    ensures unmatched { IfOk result (λ m. IsUnmatched case.now.ops.now case.now.answer.now.pairs (map is_held_by (case_conditions case.now)) (map does_wait (case_conditions case.now)) m.unmatched) }
+    ensures unmatched { IfOk result (λ m. IsUnmatched case.now.layout.now case.now.ops.now case.now.answer.now.pairs (map asker case.now.pollers.now) (map is_held_by (case_conditions case.now)) (map does_wait (case_conditions case.now)) m.unmatched) }
 {
     let pairs = pair_all(alloc, case.ops)?;
     let conditions = conditions_of(alloc, case, &pairs)?;
@@ -353,7 +354,7 @@ fn matters_in(alloc: Global, case: &Case<'_>, rounds: &Rounds) -> Result<Matters
     requires pairs { case.now.answer.now.pairs ≡ (table_of case.now.ops.now).pairs }
     ensures held { IfOk result (λ m. map held_told m.held.items ≡ held_in (case_conditions case.now) case.now.ranks) }
     ensures roots { IfOk result (λ m. HaveRoots (map has_not_ended case.now.answer.now.states) case.now.ranks (case_conditions case.now) m.roots.items) }
-    ensures unmatched { IfOk result (λ m. IsUnmatched case.now.ops.now case.now.answer.now.pairs (map is_held_by (case_conditions case.now)) (map does_wait (case_conditions case.now)) m.unmatched) }
+    ensures unmatched { IfOk result (λ m. IsUnmatched case.now.layout.now case.now.ops.now case.now.answer.now.pairs (map asker case.now.pollers.now) (map is_held_by (case_conditions case.now)) (map does_wait (case_conditions case.now)) m.unmatched) }
 {
     if !has_matters(case) {
         let nothing = no_matters(alloc, case.ops)?;
@@ -381,7 +382,7 @@ fn diagnosis_of(alloc: Global, case: &Case<'_>) -> Result<Diagnosis, AllocError>
     ensures held { IfOk result (λ d. map held_told d.waiting.held.items ≡ held_in (case_conditions case.now) case.now.ranks) }
     ensures roots { IfOk result (λ d. HaveRoots (map has_not_ended case.now.answer.now.states) case.now.ranks (case_conditions case.now) d.waiting.roots.items) }
     ensures rounds { IfOk result (λ d. AreTold case.now.layout.now case.now.ops.now case.now.answer.now.rounds d.rounds) }
-    ensures unmatched { IfOk result (λ d. IsUnmatched case.now.ops.now case.now.answer.now.pairs (map is_held_by (case_conditions case.now)) (map does_wait (case_conditions case.now)) d.unmatched) }
+    ensures unmatched { IfOk result (λ d. IsUnmatched case.now.layout.now case.now.ops.now case.now.answer.now.pairs (map asker case.now.pollers.now) (map is_held_by (case_conditions case.now)) (map does_wait (case_conditions case.now)) d.unmatched) }
 {
     let entries = entries_of(alloc, case.ops)?;
     let standing = standing_of(alloc, case.know, case.ops, &entries, case.cut, case.ranks)?;
@@ -412,29 +413,32 @@ fn diagnosis_of(alloc: Global, case: &Case<'_>) -> Result<Diagnosis, AllocError>
     })
 }
 
-/// What all ranks did.
-fn ops_in(alloc: Global, layout: &Layout, know: &Knowledge) -> Result<Vec<RankOps>, AllocError>
-    ensures few { IfOk result (λ ops. length ops.items < 2 ^ 32) }
-    ensures own { IfOk result (λ ops. AreOwn 0 ops.items) }
-    ensures ops { IfOk result (λ ops. ops.items ≡ all_ops layout.now know.now) }
-    ensures ranks { IfOk result (λ ops. length ops.items ≡ layout.now.ranks) }
+/// Tells what holds of the list of what each rank did. It does nothing: it is for proofs.
+fn ops_known(layout: &Layout, know: &Knowledge, ops: &[RankOps])
+    requires { ops.now ≡ all_ops layout.now know.now }
+    ensures few { length ops.now < 2 ^ 32 }
+    ensures own { AreOwn 0 ops.now }
+    ensures ranks { length ops.now ≡ layout.now.ranks }
 {
+    let _ = know;
+    let _ = ops;
     layout.known();
     ops_laws();
-    let ops = all_ops(alloc, layout, know)?;
-    Ok(ops)
 }
 
-/// What holds up a run: a function of what is known of it. `answer` is the answer to what is known; `cut[r]` says that
-/// the readable prefix of rank r ends where its text was cut off. Fails with `AllocError` when memory is refused.
+/// What holds up a run: a function of what is known of it. `ops` is what each rank did by that, and `answer` the answer to
+/// it; `cut[r]` says that the readable prefix of rank r ends where its text was cut off. Fails with `AllocError` when
+/// memory is refused.
 pub fn diagnose(
     alloc: Global,
     layout: &Layout,
+    ops: &[RankOps],
     answer: &Answer,
     know: &Knowledge,
     cut: &[bool],
 ) -> Result<Diagnosis, AllocError>
-    requires { IsAnswer layout.now know.now answer.now }
+    requires answer { IsAnswer layout.now know.now answer.now }
+    requires did { ops.now ≡ all_ops layout.now know.now }
     ensures ranks { IfOk result (λ d. d.ranks ≡ layout.now.ranks) }
     ensures sends { IfOk result (λ d. d.sends ≡ layout.now.sends) }
     ensures stuck { IfOk result (λ d. d.stuck.items ≡ map (λ s. s.rank) answer.now.stuck) }
@@ -443,14 +447,14 @@ pub fn diagnose(
     ensures rounds { IfOk result (λ d. AreTold layout.now (all_ops layout.now know.now) answer.now.rounds d.rounds) }
     ensures waiting { IfOk result (λ d. IsWaiting (map has_not_ended answer.now.states) layout.now.ranks
         (told_conditions layout.now know.now cut.now answer.now d.waiting.polls.items) d.waiting) }
-    ensures unmatched { IfOk result (λ d. IsUnmatched (all_ops layout.now know.now) answer.now.pairs
+    ensures unmatched { IfOk result (λ d. IsUnmatched layout.now (all_ops layout.now know.now) answer.now.pairs (map asker_told d.waiting.polls.items)
         (map is_held_by (told_conditions layout.now know.now cut.now answer.now d.waiting.polls.items))
         (map does_wait (told_conditions layout.now know.now cut.now answer.now d.waiting.polls.items)) d.unmatched) }
 {
     let ranks = layout.ranks();
-    let ops = ops_in(alloc, layout, know)?;
+    ops_known(layout, know, ops);
     let inits = Inits::of(alloc, know, ranks)?;
-    let pollers = pollers_of(alloc, know, &ops, cut, ranks)?;
+    let pollers = pollers_of(alloc, know, ops, cut, ranks)?;
     let stuck = stuck_ranks(alloc, answer)?;
     let case = Case {
         layout,
@@ -458,7 +462,7 @@ pub fn diagnose(
         know,
         cut,
         ranks,
-        ops: &ops,
+        ops,
         pollers: &pollers,
         inits: &inits,
         stuck: &stuck,

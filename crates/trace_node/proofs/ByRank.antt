@@ -21,9 +21,11 @@ use Rattle.trace_ops.specs.Ops.{Ops, no_ops}
 use Rattle.trace_ops.specs.RankOps.{ops_by, ops_of}
 use Rattle.trace_node.specs.Answer.{call_of, entry_of}
 use Rattle.trace_wait.specs.Ranks.{ops_of as among}
-use Rattle.trace_node.specs.ByRank.{AddsRank, AreTold, AreWalls, IsBelowRank, IsOfRank, IsReading, entered_by}
+use Rattle.trace_node.specs.ByRank.{AreTold, AreWalls, IsBelowRank, IsOfRank, IsReading, IsReadingOf, IsToldOf, TakesReading, entered_by}
+use Rattle.trace_node.specs.declared.answer.parts.RankReading.{RankReading}
 use Rattle.trace_node.specs.declared.answer.parts.Reading.{Reading}
 use Rattle.trace_node.specs.declared.by_rank.RankByRank.{RankByRank}
+use Rattle.trace_node.specs.declared.by_rank.RankTold.{RankTold}
 use Rattle.trace_node.proofs.SortedPlaces.{behind, one_list}
 
 -- the laws of readable prefixes
@@ -217,6 +219,22 @@ walls_alike layout view ops count o = listed_alike (λ r. entered_by view r (ops
 
 -- ---- one rank more
 
+-- one rank more at the end of what is told, by what is known of it
+record AddsRank (rank : ℕ) (know : View) (old new : Reading) : Type 0 where
+  pub prefixes : new.prefixes.items ≡ old.prefixes.items ++ prefix_of know rank ∷ []
+  pub beyond : new.beyond.items ≡ old.beyond.items ++ is_beyond know rank ∷ []
+  pub unread : new.unread.items ≡ old.unread.items ++ is_unread know rank ∷ []
+  pub conflicts : new.conflicts.items ≡ old.conflicts.items ++ conflicts_of know
+
+-- so it is where the reading of the rank stands there
+adds_rank : (rank : ℕ) (know : View) (one : RankReading) (old new : Reading) → IsReadingOf rank know one → TakesReading one old new → AddsRank rank know old new
+adds_rank rank know one old new is takes = record {
+  prefixes = takes.prefixes ∙ ap (λ (n : ℕ). old.prefixes.items ++ n ∷ []) is.prefix;
+  beyond = takes.beyond ∙ ap (λ (b : Bool). old.beyond.items ++ b ∷ []) is.beyond;
+  unread = takes.unread ∙ ap (λ (b : Bool). old.unread.items ++ b ∷ []) is.unread;
+  conflicts = takes.conflicts ∙ ap (λ (l : List (ℕ × ℕ)). old.conflicts.items ++ l) is.conflicts;
+}
+
 module _ (reads : ReadsOn) (one : ReadsOneList) (tests : TestsBeyond) (joins : JoinsCells)
     (lists : (v : View) (rank place : ℕ) → Contains (conflicts_of v) (rank, place) ↔ (cell v rank place ≡ Some Contradiction))
     (rises : (v : View) → IsStrictlySortedBy place_cmp (conflicts_of v)) where
@@ -236,7 +254,7 @@ module _ (reads : ReadsOn) (one : ReadsOneList) (tests : TestsBeyond) (joins : J
         conflicts = adds.conflicts ∙ ap (λ (l : List (ℕ × ℕ)). l ++ conflicts_of know) was.conflicts ∙ sym (conflicts_next joins view know count below of lists rises);
       }
 
-  pub told_next : (layout : Parts) (view know : View) (count wall : ℕ) (own : Ops) (old new : RankByRank) → AreTold layout view count old → IsOfRank know count
+  told_next : (layout : Parts) (view know : View) (count wall : ℕ) (own : Ops) (old new : RankByRank) → AreTold layout view count old → IsOfRank know count
       → AddsRank count know old.reading new.reading → new.ops.items ≡ old.ops.items ++ own ∷ [] → new.walls.items ≡ old.walls.items ++ wall ∷ []
       → own ≡ ops_of layout know count → wall ≡ entered_by know count own → AreTold layout (join view know) (count + 1) new
   told_next layout view know count wall own old new was of adds ops walls did entered =
@@ -252,6 +270,13 @@ module _ (reads : ReadsOn) (one : ReadsOneList) (tests : TestsBeyond) (joins : J
             (λ r lt. sym (entered_alike reads one tests layout both view r (before r lt)))
             (entered ∙ ap (λ (o : Ops). entered_by know count o) did ∙ sym (entered_alike reads one tests layout both know count told));
       }
+
+  -- what was told of the next rank is taken
+  pub taken_next : (layout : Parts) (view know : View) (count : ℕ) (told : RankTold) (old new : RankByRank) → AreTold layout view count old → IsOfRank know count
+      → IsToldOf layout count know told → TakesReading told.reading old.reading new.reading → new.ops.items ≡ old.ops.items ++ told.ops ∷ []
+      → new.walls.items ≡ old.walls.items ++ told.wall ∷ [] → AreTold layout (join view know) (count + 1) new
+  taken_next layout view know count told old new was of is reading ops walls =
+      told_next layout view know count told.wall told.ops old new was of (adds_rank count know told.reading old.reading new.reading is.reading reading) ops walls is.ops is.wall
 
 -- nothing is known of no rank
 pub below_none : IsBelowRank empty 0

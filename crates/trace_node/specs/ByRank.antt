@@ -9,9 +9,12 @@ use Rattle.trace_ops.specs.Ops.{Ops}
 use Rattle.trace_ops.specs.RankOps as ranks
 use Rattle.trace_stuck.specs.Shape.{Wait}
 use Rattle.trace_wait.specs.Ranks.{ops_of}
-use Rattle.trace_node.specs.Answer.{Answered, AreStuck, IsAnswerBy, Stopped, call_of, states_of, wait_at, waits_of, wall_of}
+use Rattle.trace_node.specs.Answer.{Answered, AreStuck, IsAnswer, IsAnswerBy, Stopped, call_of, states_of, wait_at, waits_of, wall_of}
+use Rattle.trace_node.specs.declared.answer.parts.RankReading.{RankReading}
 use Rattle.trace_node.specs.declared.answer.parts.Reading.{Reading}
+use Rattle.trace_node.specs.declared.by_rank.AnswerWithOps.{AnswerWithOps}
 use Rattle.trace_node.specs.declared.by_rank.RankByRank.{RankByRank}
+use Rattle.trace_node.specs.declared.by_rank.RankTold.{RankTold}
 
 -- All that is known is of one rank.
 abbrev pub IsOfRank : View → ℕ → Type 0
@@ -28,12 +31,19 @@ pub record IsReading (count : ℕ) (view : View) (r : Reading) : Type 0 where
   pub unread : r.unread.items ≡ map (is_unread view) (range_with_len 0 count)
   pub conflicts : r.conflicts.items ≡ conflicts_of view
 
--- One rank more at the end of what is told, by what is known of it.
-pub record AddsRank (rank : ℕ) (know : View) (old new : Reading) : Type 0 where
-  pub prefixes : new.prefixes.items ≡ old.prefixes.items ++ prefix_of know rank ∷ []
-  pub beyond : new.beyond.items ≡ old.beyond.items ++ is_beyond know rank ∷ []
-  pub unread : new.unread.items ≡ old.unread.items ++ is_unread know rank ∷ []
-  pub conflicts : new.conflicts.items ≡ old.conflicts.items ++ conflicts_of know
+-- How far one rank can be read, and where all that is known is contradicted, by what is known of it alone.
+pub record IsReadingOf (rank : ℕ) (know : View) (one : RankReading) : Type 0 where
+  pub prefix : one.prefix ≡ prefix_of know rank
+  pub beyond : one.beyond ≡ is_beyond know rank
+  pub unread : one.unread ≡ is_unread know rank
+  pub conflicts : one.conflicts.items ≡ conflicts_of know
+
+-- The reading of one rank more stands at the end of that of the ranks before.
+pub record TakesReading (one : RankReading) (old new : Reading) : Type 0 where
+  pub prefixes : new.prefixes.items ≡ old.prefixes.items ++ one.prefix ∷ []
+  pub beyond : new.beyond.items ≡ old.beyond.items ++ one.beyond ∷ []
+  pub unread : new.unread.items ≡ old.unread.items ++ one.unread ∷ []
+  pub conflicts : new.conflicts.items ≡ old.conflicts.items ++ one.conflicts.items
 
 -- the wall time at which a rank that did this entered the call in which it waits
 abbrev pub entered_by : View → ℕ → Ops → ℕ
@@ -63,10 +73,24 @@ pub record AreTold (layout : Parts) (view : View) (count : ℕ) (t : RankByRank)
   pub ops : t.ops.items ≡ map (ranks.ops_of layout view) (range_with_len 0 count)
   pub walls : t.walls.items ≡ map (λ r. entered_by view r (ranks.ops_of layout view r)) (range_with_len 0 count)
 
+-- What an answer needs of a rank was told, by what is known of it alone.
+pub record IsToldOf (layout : Parts) (rank : ℕ) (know : View) (told : RankTold) : Type 0 where
+  pub reading : IsReadingOf rank know told.reading
+  pub ops : told.ops ≡ ranks.ops_of layout know rank
+  pub wall : told.wall ≡ entered_by know rank told.ops
+
 -- The next rank was told too, by what is known of it alone: then all of them were told by the join.
 abbrev pub TellsNext : Parts → ℕ → View → RankByRank → RankByRank → Type 0
 TellsNext layout rank know old new = (view : View) → AreTold layout view rank old → IsOfRank know rank → AreTold layout (join view know) (rank + 1) new
 
+-- What was told of a rank was taken as that of the next.
+abbrev pub TakesNext : RankTold → RankByRank → RankByRank → Type 0
+TakesNext told old new = (layout : Parts) (rank : ℕ) (know : View) → IsToldOf layout rank know told → TellsNext layout rank know old new
+
 -- The answer of each view of which this was told.
 abbrev pub AnswersWhatIsTold : Parts → Reading → List ℕ → List Ops → Answered → Type 0
 AnswersWhatIsTold layout reading walls ops answer = (view : View) → IsReading layout.ranks view reading → AreWalls view ops walls → IsAnswerBy layout view ops answer
+
+-- This is the answer to a view, and what each rank did by it.
+abbrev pub AnswersWithOps : Parts → View → AnswerWithOps → Type 0
+AnswersWithOps layout view told = IsAnswer layout view told.answer × (told.index ≡ ranks.all_ops layout view)

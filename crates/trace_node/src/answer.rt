@@ -18,7 +18,7 @@ mod parts;
 mod same;
 
 pub(crate) use gather::{answer_of, reading_of, waiting_call, wall_of, walls_of};
-pub(crate) use parts::Reading;
+pub(crate) use parts::{RankReading, Reading};
 
 /// The answer to what is known of the run of a layout: all that the report prints.
 #[derive(Drop)]

@@ -57,7 +57,7 @@ mod strangers;
 mod stuck;
 
 pub use answer::Answer;
-pub use by_rank::RankByRank;
+pub use by_rank::{AnswerWithOps, RankByRank, RankTold};
 pub use fault::{NodeFault, Stale};
 pub use laws::{answers_are_certain, answers_are_one, stuck_go_by_shape};
 pub use node::Node;

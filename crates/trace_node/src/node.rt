@@ -3,7 +3,7 @@
 ghost use Rattle.std.specs.Prelude.{◌≡◌, ◌≢◌, ◌↔◌, ◌<◌, ◌≤◌, true, false, IsTrue, IfOk, IfSome, OnOk, OnErr, IfErr, IsErr, IsErrOf};
 ghost use Rattle.std.specs.FinMap.{empty};
 ghost use Rattle.trace_know.specs.Trace.{facts_of, view_of};
-ghost use Rattle.trace_know.specs.View.{join};
+ghost use Rattle.trace_know.specs.View.{IsBelow, join};
 ghost use Rattle.trace_ops.specs.RankOps.{all_ops};
 ghost use Rattle.trace_node.specs.Answer.{IsAnswer};
 ghost use Rattle.trace_node.specs.Following.{IsFollowing};
@@ -178,6 +178,7 @@ impl<'a> Node<'a> {
         ensures fresh { IsTrue result → self.now.is_stale ≡ false }
         ensures same { IsTrue result → join self.now.know other.now ≡ self.now.know }
         ensures own { IsTrue result → ¬ (HasStranger self.now.layout other.now) }
+        ensures known { self.now.is_stale ≡ false → IsBelow other.now self.now.know → IsTrue result }
     {
         join_laws();
         self.answer.is_some() && self.know.get().contains(other)
@@ -188,6 +189,7 @@ impl<'a> Node<'a> {
     pub fn hold_all(&mut self, other: &Knowledge) -> Result<(), NodeFault>
         ensures ok { OnOk result (self.new ≡ held_with self.old other.now self.new.is_stale) }
         ensures fresh { OnOk result (self.new.is_stale ≡ false → self.old.is_stale ≡ false) }
+        ensures kept { OnOk result (self.old.is_stale ≡ false → IsBelow other.now self.old.know → self.new.is_stale ≡ false) }
         ensures rank { IsErrOf result NodeFault.Rank ↔ HasStranger self.old.layout other.now }
         ensures err { IfErr result (λ fault. (fault ≢ NodeFault.Stale) × (self.new ≡ self.old)) }
     {

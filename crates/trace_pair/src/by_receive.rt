@@ -1,11 +1,12 @@
-//! The pairs in order of the receive, in which the message of a pair is found by the name of its receive.
+//! The pairs in order of the receive, in which the message of a pair is found by the name of its receive, and the receive
+//! by that of its message.
 
-ghost use Rattle.std.specs.Prelude.{◌≡◌, ◌≢◌, ◌<◌, true, false, OnOk, IfOk, IfSome, ℕ, length, slice_index_or};
+ghost use Rattle.std.specs.Prelude.{◌≡◌, ◌≢◌, ◌<◌, true, false, None, OnOk, IfNone, IfOk, IfSome, ℕ, length, slice_get, slice_index_or};
 ghost use Rattle.trace_ops.specs.Order.{Has};
-ghost use Rattle.trace_pair.specs.Searched.{ArePairs, AreByReceive, IsSearchable, receive_at, message_at, IsSeen};
-ghost use Rattle.trace_pair.specs.Table.{given_by};
+ghost use Rattle.trace_pair.specs.Searched.{ArePairs, AreByReceive, IsSearchable, receive_at, message_at, pair_named, IsSeen};
+ghost use Rattle.trace_pair.specs.Table.{given_by, taken_by};
 
-use crate::near::{pair_at, receive_at};
+use crate::near::{pair_at, place_near, receive_at};
 use crate::pair::Pair;
 use crate::rules::is_same_name;
 use mpi_model::OpName;
@@ -33,8 +34,9 @@ impl<'a> Model for PairsByReceive<'a> {
 }
 
 impl<'a> PairsByReceive<'a> {
-    /// The pairs by their receives. It is made faster the more of `near` is in that order.
-    pub(crate) fn of_pairs(
+    /// The pairs by their receives: eight bytes a pair beside them. It is made faster the more of `near`, places of the
+    /// pairs, is in that order. Fails with `AllocError` when memory is refused.
+    pub fn of_pairs(
         alloc: Global,
         pairs: &'a [Pair],
         near: &[u32],
@@ -45,6 +47,28 @@ impl<'a> PairsByReceive<'a> {
         let start = places_of(alloc, near)?;
         let places = places_by_receive(alloc, pairs, start)?;
         Ok(PairsByReceive { pairs, places })
+    }
+
+    /// The pairs, in order of the message.
+    pub fn pairs(&self) -> &'a [Pair]
+        ensures { result.now ≡ self.now }
+    {
+        self.pairs
+    }
+
+    /// The place of the message's pair among the pairs; `None` if no pair has it. It is found by binary search.
+    pub fn place_of(&self, message: OpName) -> Option<usize>
+        ensures some { IfSome result (λ place. slice_get self.now place ≡ pair_named self.now message) }
+        ensures none { IfNone result (None ≡ pair_named self.now message) }
+    {
+        place_near(self.pairs, usize::MAX, &message)
+    }
+
+    /// The receive that takes the message of that name; `None` if no pair has it. It is found by binary search.
+    pub fn receive_of(&self, message: OpName) -> Option<OpName>
+        ensures { result ≡ taken_by self.now message }
+    {
+        receive_of(self.pairs, &message)
     }
 
     /// The message that the receive of that name takes; `None` if no pair has it. It is found by binary search.
@@ -63,6 +87,15 @@ impl<'a> PairsByReceive<'a> {
     {
         given_near(self.pairs, &self.places, place, &receive)
     }
+}
+
+/// The receive that takes the message of that name.
+fn receive_of(pairs: &[Pair], name: &OpName) -> Option<OpName>
+    requires { ArePairs pairs.now }
+    ensures { result ≡ taken_by pairs.now name.now }
+{
+    let place = place_near(pairs, usize::MAX, name)?;
+    receive_at(pairs, place)
 }
 
 /// These numbers as places.

@@ -1,6 +1,6 @@
 //! The ends of receives: at each key the end of the one that ends last, which is all that a message asks of them.
 
-ghost use Rattle.std.specs.Prelude.{◌≡◌, ◌∷◌, true, [], OnOk, List};
+ghost use Rattle.std.specs.Prelude.{◌≡◌, ◌∷◌, true, [], OnErr, OnOk, List};
 ghost use Rattle.mpi_model.specs.declared.message.Receive.{Receive};
 ghost use Rattle.mpi_model.specs.declared.message.Message.{Message};
 ghost use Rattle.mpi_model.specs.Fit.{admits};
@@ -34,14 +34,16 @@ impl Ends {
         }
     }
 
-    /// Adds the end of this receive. On `AllocError`, when memory is refused, its contents are unspecified.
+    /// Adds the end of this receive. On `AllocError`, when memory is refused, they are the ends of the same receives as
+    /// before.
     pub fn insert(&mut self, q: &Receive) -> Result<(), AllocError>
-        ensures { OnOk result ((opened : List Receive) → AreLast opened self.old → AreLast (q.now ∷ opened) self.new) }
+        ensures more { OnOk result ((opened : List Receive) → AreLast opened self.old → AreLast (q.now ∷ opened) self.new) }
+        ensures same { OnErr result ((opened : List Receive) → AreLast opened self.old → AreLast opened self.new) }
     {
         let key = (q.at, q.tag, q.source, q.comm);
         let end = with_end(self.last.get(&key).copied(), q.ended);
-        self.kinds = self.kinds.marked(q.source, q.tag);
         self.last.insert(key, end)?;
+        self.kinds = self.kinds.marked(q.source, q.tag);
         Ok(())
     }
 

@@ -10,7 +10,9 @@ ghost use Rattle.trace_pair.specs.Calls.{AreApart, ArePostedApart};
 ghost use Rattle.trace_pair.specs.Certainty.{AreAllSettled, AreCertain, AreLegalIfSettled, AreTheOnlyLegal, PairsAreCertain, StaysAfter, WasAfter};
 ghost use Rattle.trace_pair.specs.Pairing.{After, AgreeOn, HaveOneMessage, HaveOneReceive, PairsObey, WhatObeysIsPaired, obeys, paired};
 ghost use Rattle.trace_pair.specs.Matching.{IsCoupledBy, IsLeftUnposted, IsLeftUnsent, IsLegal, IsLegalBeside};
+ghost use Rattle.trace_pair.specs.Searched.{ArePairs, AreOfOps, AreFoundByBoth};
 ghost use Rattle.trace_pair.specs.Table.{table_of};
+ghost use Rattle.trace_pair.specs.declared.pair.Pair.{Pair};
 ghost use Rattle.trace_pair.specs.Worked.{Over, AnyTag, Hidden, ToldLater, InOrder, CutBack, Exchanged, Interleaved, Freed, TwoCommunicators, CancelledReceive, ToldCancelled, CancelledMessage, BehindABarrier, NotBehindABarrier, OfAnotherBarrier, BehindTheEnd, NotBehindTheEnd, PartsByTag, PartsInAnyOrder, PartBehindPart, OpenPart, GivenBack};
 
 /// The pairs are the only relation that obeys the five rules. Each message has at most one receive, and each receive at
@@ -58,6 +60,14 @@ pub fn tables_are_certain()
     ensures certain { (held : List Ops) → AreOwn 0 held → AreCertain held (table_of held).pairs }
     ensures legal { (held : List Ops) → AreOwn 0 held → AreLegalIfSettled held (table_of held).pairs }
     ensures only { (held : List Ops) → AreOwn 0 held → AreAllSettled held → AreTheOnlyLegal held (table_of held).pairs }
+{}
+
+/// The pairs of a table are of messages and receives that the ranks made, and stand in order of the message. No message
+/// and no receive is in two, so each pair is found by either of them.
+pub fn pairs_are_found()
+    ensures apart { (held : List Ops) → AreOwn 0 held → ArePairs (table_of held).pairs }
+    ensures made { (held : List Ops) → AreOfOps held (table_of held).pairs }
+    ensures found { (pairs : List Pair) → ArePairs pairs → AreFoundByBoth pairs }
 {}
 
 /// What the rules say of some small runs.

@@ -97,8 +97,8 @@ pub use by_receive::PairsByReceive;
 pub use ends::Ends;
 pub use index::PairIndex;
 pub use laws::{
-    doubtful_may_stand_outside, pairs_are_certain, pairs_are_the_rules, tables_are_certain,
-    what_comes_after_stays, worked_runs,
+    doubtful_may_stand_outside, pairs_are_certain, pairs_are_found, pairs_are_the_rules,
+    tables_are_certain, what_comes_after_stays, worked_runs,
 };
 pub use pair::Pair;
 pub use reach::{RankReach, Reaches, reaches_of};

@@ -12,3 +12,4 @@ pub mod Made
 pub mod Waits
 pub mod InRow
 pub mod Peers
+pub mod Named

@@ -70,7 +70,7 @@ not_both : (a b c d n p : ℕ) → (nat_lt a c || ((a == c) && nat_lt b d)) ≡ 
 not_both a b c d n p h k = grind (arith, nat_tests)
 
 -- what is before a name isn't that name
-apart : (n a b : OpName) → named_before a b ≡ true → is_of n b ≡ true → is_of n a ≡ false
+pub apart : (n a b : OpName) → named_before a b ≡ true → is_of n b ≡ true → is_of n a ≡ false
 apart n a b h k = not_both a.call a.part b.call b.part n.call n.part h k
 
 -- ---- the search

@@ -1,5 +1,5 @@
 -- The parts of which conditions are made: a send, a receive, a probe.
-use Rattle.std.specs.Prelude.{ℕ, Bool, true, false, ◌==◌, ◌&&◌, ◌||◌, Option, Some, None, is_some, List, [], map, unwrap_or, if◌then◌else◌}
+use Rattle.std.specs.Prelude.{◌≡◌, ℕ, Bool, true, false, ◌==◌, ◌&&◌, ◌||◌, Option, Some, None, is_some, List, [], map, unwrap_or, if◌then◌else◌}
 use Rattle.std.specs.List.{list_any, find}
 use Rattle.mpi_model.specs.Layouts.{Parts}
 use Rattle.mpi_model.specs.Communicators.{members_of, peers_of}
@@ -14,9 +14,11 @@ use Rattle.mpi_model.specs.declared.message.Receive.{Receive}
 use Rattle.trace_pair.specs.declared.pair.Pair.{Pair}
 use Rattle.trace_wait.specs.declared.round.Round.{Round}
 use Rattle.trace_ops.specs.Ops.{Ops}
-use Rattle.trace_pair.specs.Table.{taken_by, given_by}
+use Rattle.trace_ops.specs.Order.{Has}
+use Rattle.trace_pair.specs.Table.{given_by, receives_of, sends_of, taken_by}
 use Rattle.mpi_model.specs.Fit.{envelopes_fit, fits}
 use Rattle.trace_wait.specs.Matching.{may_take, unpaired_messages, unpaired_receives}
+use Rattle.trace_wait.specs.Ranks.{ops_of}
 
 -- what the conditions are made from
 pub record Run : Type 0 where
@@ -88,6 +90,14 @@ send_of o name = find (λ m. is_of name m.name) o.sends
 -- the receive of a name of a rank
 abbrev pub receive_of : Ops → OpName → Option Receive
 receive_of o name = find (λ q. is_of name q.name) o.receives
+
+-- Each message that a rank made is the one of its name.
+abbrev pub AreMessagesFound : List Ops → Type 0
+AreMessagesFound ops = (m : Message) → Has (sends_of ops) m → send_of (ops_of ops m.name.rank) m.name ≡ Some m
+
+-- Each receive that a rank posted is the one of its name.
+abbrev pub AreReceivesFound : List Ops → Type 0
+AreReceivesFound ops = (q : Receive) → Has (receives_of ops) q → receive_of (ops_of ops q.name.rank) q.name ≡ Some q
 
 -- the operation of a rank's call, which is no Startall
 abbrev pub named : ℕ → ℕ → OpName

@@ -22,6 +22,7 @@
 //! - [`parts`]: what a send, a receive and a probe wait for; [`collective`]: a collective call;
 //!   [`requests`]: requests
 //! - [`waiting`]: the condition of each rank; [`polls`]: what a rank asks for that polls
+//! - [`laws`]: that each operation is found by its name, as the contract of a call that does nothing
 //!
 //! To change something, open:
 //!
@@ -39,6 +40,7 @@ mod collective;
 mod counts;
 mod entries;
 mod groups;
+mod laws;
 mod mismatch;
 mod overview;
 mod paired;
@@ -53,7 +55,9 @@ mod unpaired;
 mod waiting;
 
 pub use entries::{Entries, entries_of};
+pub use laws::operations_are_found;
 pub use polls::Poll;
+pub use posts::{message_named, receive_named};
 pub use round::{Round, Standing};
 pub use tally::rounds;
 pub use trace_stuck::{Condition, RoundName, Verdict, check_closed, check_release, stuck};

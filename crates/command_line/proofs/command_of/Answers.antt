@@ -4,6 +4,7 @@ use Rattle.clap.specs.declared.error.Error.{Error}
 use Rattle.clap.specs.declared.error.kind.ErrorKind.TheVariants as kinds
 use Rattle.clap.specs.declared.parser.matches.ArgMatches.{ArgMatches}
 use Rattle.command_line.specs.Program.{program, request_in, request_of}
+use Rattle.command_line.specs.Threads.{threads_in}
 use Rattle.command_line.proofs.command_of.Goals as goal
 
 -- the program's command has no argument that clap's meaning leaves out
@@ -43,3 +44,6 @@ returns-in-Ok-None-clause-refused c =
 
 pub returns-in-Ok-Some-clause-taken : goal.returns-in-Ok-Some-clause-taken
 returns-in-Ok-Some-clause-taken c = passed _ c.in-Ok.ensures _ c.in-Ok-try_get_matches_from.ensures.kinds
+
+pub returns-in-Ok-Some-clause-threads : goal.returns-in-Ok-Some-clause-threads
+returns-in-Ok-Some-clause-threads c = c.threads_of-threads.ensures ∙ ap threads_in (meant _ c.in-Ok.ensures _ _ c.in-Ok-try_get_matches_from.ensures.matches)

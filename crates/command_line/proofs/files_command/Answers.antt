@@ -14,9 +14,11 @@ returns c =
     let named_local = c.in_ok-named.ensures.globals ∙ ap₂ (λ a b. a || b) bare_local c.several_argument-files.ensures.local in
     let quiet = c.in_ok-quiet.ensures.shape c.quiet_argument.ensures.local ∙ ap₂ with_rule named c.quiet_argument.ensures.rule in
     let quiet_local = c.in_ok-quiet.ensures.globals ∙ ap₂ (λ a b. a || b) named_local c.quiet_argument.ensures.local in
+    let verbose = c.in_ok-verbose.ensures.shape c.verbose_argument.ensures.local ∙ ap₂ with_rule quiet c.verbose_argument.ensures.rule in
+    let verbose_local = c.in_ok-verbose.ensures.globals ∙ ap₂ (λ a b. a || b) quiet_local c.verbose_argument.ensures.local in
     record {
-      shape = IfOk-weaker c.arg-3.result _ _ (λ r h.
-          h.shape c.verbose_argument.ensures.local ∙ ap₂ with_rule quiet c.verbose_argument.ensures.rule) c.arg-3.ensures;
-      local = IfOk-weaker c.arg-3.result _ _ (λ r h.
-          h.globals ∙ ap₂ (λ a b. a || b) quiet_local c.verbose_argument.ensures.local) c.arg-3.ensures;
+      shape = IfOk-weaker c.arg-4.result _ _ (λ r h.
+          h.shape c.threads_argument.ensures.local ∙ ap₂ with_rule verbose c.threads_argument.ensures.rule) c.arg-4.ensures;
+      local = IfOk-weaker c.arg-4.result _ _ (λ r h.
+          h.globals ∙ ap₂ (λ a b. a || b) verbose_local c.threads_argument.ensures.local) c.arg-4.ensures;
     }

@@ -18,9 +18,11 @@ returns c =
     let force_local = c.in_ok-force.ensures.globals ∙ ap₂ (λ a b. a || b) manifest_local c.force_argument.ensures.local in
     let quiet = c.in_ok-quiet.ensures.shape c.quiet_argument.ensures.local ∙ ap₂ with_rule force c.quiet_argument.ensures.rule in
     let quiet_local = c.in_ok-quiet.ensures.globals ∙ ap₂ (λ a b. a || b) force_local c.quiet_argument.ensures.local in
+    let threads = c.in_ok-threads.ensures.shape c.threads_argument.ensures.local ∙ ap₂ with_rule quiet c.threads_argument.ensures.rule in
+    let threads_local = c.in_ok-threads.ensures.globals ∙ ap₂ (λ a b. a || b) quiet_local c.threads_argument.ensures.local in
     record {
-      shape = IfOk-weaker c.arg-7.result _ _ (λ r h.
-          h.shape c.json_argument.ensures.local ∙ ap₂ with_rule quiet c.json_argument.ensures.rule) c.arg-7.ensures;
-      local = IfOk-weaker c.arg-7.result _ _ (λ r h.
-          h.globals ∙ ap₂ (λ a b. a || b) quiet_local c.json_argument.ensures.local) c.arg-7.ensures;
+      shape = IfOk-weaker c.arg-8.result _ _ (λ r h.
+          h.shape c.json_argument.ensures.local ∙ ap₂ with_rule threads c.json_argument.ensures.rule) c.arg-8.ensures;
+      local = IfOk-weaker c.arg-8.result _ _ (λ r h.
+          h.globals ∙ ap₂ (λ a b. a || b) threads_local c.json_argument.ensures.local) c.arg-8.ensures;
     }

@@ -9,16 +9,18 @@ ghost use Rattle.command_runs.specs.Refusals.{RefusesNamed};
 use crate::pieces::any_order::{answer_in_any_order, can_go_by_rank};
 use crate::pieces::known::known_of;
 use crate::run::Run;
-use run_inputs::{Opener, RunFault, Watcher, announce};
+use run_inputs::{RunFault, SharedOpener, Watcher, announce};
 use std::alloc::Global;
 use trace_know::join_laws;
 use trace_node::{Answer, RankByRank};
 
 /// The answer to all that the pieces tell that a manifest lists.
-pub(crate) fn answer_of<O: Opener, V: Watcher>(
+pub(crate) fn answer_of<O: SharedOpener, V: Watcher + Sync>(
     run: &Run<'_, O>,
     watcher: &mut V,
 ) -> Result<Answer, RunFault>
+where
+    O::R: Send,
     ensures ok { IfOk result (AnswersAll (O.file run.now.files.now) run.now.layout.now run.now.manifest.now) }
     ensures err { IfErr result (RefusesNamed (O.file run.now.files.now) run.now.layout.now.ranks run.now.manifest.now) }
     ensures failed { IfErr result (NamesFailed (Fails O.R.failures)) }
@@ -30,10 +32,12 @@ pub(crate) fn answer_of<O: Opener, V: Watcher>(
 }
 
 /// The answer to what texts tell: of one rank after another, whose events go once what it did is known.
-fn answer_of_texts<O: Opener, V: Watcher>(
+fn answer_of_texts<O: SharedOpener, V: Watcher + Sync>(
     run: &Run<'_, O>,
     watcher: &mut V,
 ) -> Result<Answer, RunFault>
+where
+    O::R: Send,
     requires { run.now.manifest.now.packed ≡ [] }
     ensures ok { IfOk result (AnswersAll (O.file run.now.files.now) run.now.layout.now run.now.manifest.now) }
     ensures err { IfErr result (RefusesNamed (O.file run.now.files.now) run.now.layout.now.ranks run.now.manifest.now) }
@@ -41,14 +45,16 @@ fn answer_of_texts<O: Opener, V: Watcher>(
 {
     join_laws();
     announce(run.manifest.pieces(), run.files, watcher);
-    answer_in_any_order(run, run.manifest.pieces(), watcher)
+    answer_in_any_order(run, run.manifest.pieces(), &*watcher)
 }
 
 /// The answer to what packed files and texts tell, once all of it is known.
-fn answer_of_all<O: Opener, V: Watcher>(
+fn answer_of_all<O: SharedOpener, V: Watcher + Sync>(
     run: &Run<'_, O>,
     watcher: &mut V,
 ) -> Result<Answer, RunFault>
+where
+    O::R: Send,
     ensures ok { IfOk result (AnswersAll (O.file run.now.files.now) run.now.layout.now run.now.manifest.now) }
     ensures err { IfErr result (RefusesNamed (O.file run.now.files.now) run.now.layout.now.ranks run.now.manifest.now) }
     ensures failed { IfErr result (NamesFailed (Fails O.R.failures)) }

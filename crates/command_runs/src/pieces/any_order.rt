@@ -14,10 +14,10 @@ ghost use Rattle.command_runs.specs.Traces.{IsInside, IsKnown};
 
 use crate::pieces::by_rank::{answer_by_rank, are_by_rank};
 use crate::pieces::knowing::with_stranger;
-use crate::pieces::piece::ready_piece_of;
+use crate::pieces::piece::piece_again;
 use crate::run::Run;
 use run_files::Piece;
-use run_inputs::{Opener, RunFault, Unwatched, Watcher};
+use run_inputs::{Opener, RunFault, SharedOpener, Watcher};
 use std::alloc::{AllocError, Global};
 use trace_know::view_laws;
 use trace_node::Answer;
@@ -80,7 +80,7 @@ fn look_for_refused<O: Opener>(
         if blames_file(fault, piece.file()) {
             return Ok(());
         }
-        let whole = ready_piece_of(alloc, piece, files, &mut Unwatched, &mut buffer)?;
+        let whole = piece_again(alloc, piece, files, &mut buffer)?;
         drop(whole);
     }
     Ok(())
@@ -98,7 +98,7 @@ fn look_for_strangers<O: Opener>(run: &Run<'_, O>, pieces: &[Piece]) -> Result<(
         if piece.rank() < run.layout.ranks() {
             continue;
         }
-        let whole = ready_piece_of(run.alloc, piece, run.files, &mut Unwatched, &mut buffer)?;
+        let whole = piece_again(run.alloc, piece, run.files, &mut buffer)?;
         if let Some(path) = with_stranger(run.alloc, None, run.layout, piece, &whole)? {
             return Err(RunFault::Rank { path });
         }
@@ -129,11 +129,13 @@ fn fault_in_order<O: Opener>(run: &Run<'_, O>, pieces: &[Piece], fault: RunFault
 }
 
 /// The answer to what the pieces tell.
-pub(crate) fn answer_in_any_order<O: Opener, V: Watcher>(
+pub(crate) fn answer_in_any_order<O: SharedOpener, V: Watcher + Sync>(
     run: &Run<'_, O>,
     pieces: &[Piece],
-    watcher: &mut V,
+    watcher: &V,
 ) -> Result<Answer, RunFault>
+where
+    O::R: Send,
     ensures ok { IfOk result (λ a. (view : View) × IsKnown (O.file run.now.files.now) pieces.now view × IsAnswer run.now.layout.now view a) }
     ensures inside { IfOk result (λ a. All (IsInside (O.file run.now.files.now) run.now.layout.now.ranks) pieces.now) }
     ensures err { IfErr result (RefusesPieces (O.file run.now.files.now) run.now.layout.now.ranks pieces.now) }

@@ -13,20 +13,53 @@ ghost use Rattle.trace_know.specs.View.{join};
 ghost use Rattle.trace_node.specs.Node.{IsWithin};
 
 use crate::pieces::gatherer::Gatherer;
-use crate::pieces::piece::ready_piece_of;
+use crate::pieces::reads::{PieceJobs, whole_at};
 use crate::run::Run;
+use dumpi_calls::Walked;
 use mpi_model::Layout;
 use run_files::Piece;
-use run_inputs::{Opener, RunFault, Watcher};
+use run_inputs::{Opener, RunFault, SharedOpener, Watcher, tell_walked};
+use side_by_side::{Results, results_of};
 use std::alloc::{AllocError, Global};
 use trace_know::{ReadyPiece, join_laws, view_laws};
 
-/// What the pieces of a run of this layout say together, collected by `gatherer`. All of them are read before a piece
-/// is refused for its rank. The buffer is one for all texts.
-pub(crate) fn know_of<G: Gatherer, O: Opener, V: Watcher>(
+/// What the pieces of a run of this layout say together, collected by `gatherer`. Several threads read them. The watcher is
+/// told how their texts were walked.
+pub(crate) fn know_side_by_side<G: Gatherer, O: SharedOpener, V: Watcher + Sync>(
     run: &Run<'_, O>,
     pieces: &[Piece],
-    watcher: &mut V,
+    watcher: &V,
+    gatherer: G,
+) -> Result<G, RunFault>
+where
+    O::R: Send,
+    requires { G.known gatherer ≡ empty }
+    ensures ok { IfOk result (λ g. IsKnown (O.file run.now.files.now) pieces.now (G.known g)) }
+    ensures inside { IfOk result (λ g. All (IsInside (O.file run.now.files.now) run.now.layout.now.ranks) pieces.now) }
+    ensures within { IfOk result (λ g. IsWithin run.now.layout.now (G.known g)) }
+    ensures layout { IfOk result (λ g. G.layout g ≡ G.layout gatherer) }
+    ensures err { IfErr result (RefusesPieces (O.file run.now.files.now) run.now.layout.now.ranks pieces.now) }
+    ensures failed { IfErr result (NamesFailed (Fails O.R.failures)) }
+{
+    let jobs = PieceJobs {
+        alloc: run.alloc,
+        pieces,
+        files: run.files,
+        watcher,
+    };
+    let mut reads = results_of(run.files.handle(), run.alloc, run.files.threads(), &jobs)?;
+    let mut buffer = Vec::new(run.alloc);
+    let mut walked = Vec::new(run.alloc);
+    let know = know_of(run, pieces, &mut reads, &mut buffer, &mut walked, gatherer);
+    tell_walked(pieces, &walked, watcher);
+    know
+}
+
+/// The same where this thread reads them. The buffer is one for all texts.
+pub(crate) fn know_one_by_one<G: Gatherer, O: Opener, V: Watcher>(
+    run: &Run<'_, O>,
+    pieces: &[Piece],
+    watcher: &V,
     buffer: &mut Vec<u8>,
     gatherer: G,
 ) -> Result<G, RunFault>
@@ -38,12 +71,48 @@ pub(crate) fn know_of<G: Gatherer, O: Opener, V: Watcher>(
     ensures err { IfErr result (RefusesPieces (O.file run.now.files.now) run.now.layout.now.ranks pieces.now) }
     ensures failed { IfErr result (NamesFailed (Fails O.R.failures)) }
 {
+    let jobs = PieceJobs {
+        alloc: run.alloc,
+        pieces,
+        files: run.files,
+        watcher,
+    };
+    let mut reads = Results::one_by_one(run.alloc, &jobs);
+    let mut walked = Vec::new(run.alloc);
+    let know = know_of(run, pieces, &mut reads, buffer, &mut walked, gatherer);
+    tell_walked(pieces, &walked, watcher);
+    know
+}
+
+/// What the pieces of a run of this layout say together, collected by `gatherer`, by what was read of them. All of them
+/// are read before a piece is refused for its rank. The buffer is one for all texts that are read now; how texts were
+/// walked is kept for who watches.
+pub(crate) fn know_of<G: Gatherer, O: Opener, V: Watcher>(
+    run: &Run<'_, O>,
+    pieces: &[Piece],
+    reads: &mut Results<'_, PieceJobs<'_, O, V>>,
+    buffer: &mut Vec<u8>,
+    walked: &mut Vec<Walked>,
+    gatherer: G,
+) -> Result<G, RunFault>
+    requires known { G.known gatherer ≡ empty }
+    requires listed { reads.old.pieces.now ≡ pieces.now }
+    requires files { reads.old.files.now ≡ run.now.files.now }
+    ensures ok { IfOk result (λ g. IsKnown (O.file run.now.files.now) pieces.now (G.known g)) }
+    ensures inside { IfOk result (λ g. All (IsInside (O.file run.now.files.now) run.now.layout.now.ranks) pieces.now) }
+    ensures within { IfOk result (λ g. IsWithin run.now.layout.now (G.known g)) }
+    ensures layout { IfOk result (λ g. G.layout g ≡ G.layout gatherer) }
+    ensures err { IfErr result (RefusesPieces (O.file run.now.files.now) run.now.layout.now.ranks pieces.now) }
+    ensures failed { IfErr result (NamesFailed (Fails O.R.failures)) }
+{
     join_laws();
     view_laws();
     let mut know = gatherer;
     let mut stranger = None;
+    let mut place = 0;
     for piece in pieces {
-        let whole = ready_piece_of(run.alloc, piece, run.files, watcher, buffer)?;
+        let whole = whole_at(reads, place, buffer, walked)?;
+        place += 1;
         stranger = with_stranger(run.alloc, stranger, run.layout, piece, &whole)?;
         know = take_whole(know, whole)?;
     }

@@ -15,21 +15,25 @@ ghost use Rattle.command_runs.specs.Traces.{IsInside, IsKnown};
 
 use crate::pieces::gatherer::Gatherer;
 use crate::pieces::knowing::{take_whole, with_stranger};
+use crate::pieces::noted_reads::{NotedJobs, noted_at};
 use crate::run::Run;
-use dumpi_calls::{walk_with_buffer, whole_texts};
+use dumpi_calls::{Walked, walk_with_buffer, whole_texts};
 use run_files::Piece;
 use run_inputs::{
-    FileName, Opener, RunFault, Watched, Watcher, announce, fault_of_walk, opened, start_at,
+    FileName, Opener, RunFault, SharedOpener, Watched, Watcher, announce, fault_of_walk, opened,
+    start_at,
 };
+use side_by_side::results_of;
 use std::alloc::{AllocError, Global};
 use text_notes::{Noting, Start, TextNote, noted_texts};
 use trace_know::{ReadyPiece, SegmentFault, join_laws, view_laws};
 
-/// A piece that was read.
+/// A piece that was read, with a note of its text, and how the text was walked.
 #[derive(Drop)]
-struct NotedPiece {
-    whole: Option<ReadyPiece>,
-    note: TextNote,
+pub(crate) struct NotedPiece {
+    pub(crate) whole: Option<ReadyPiece>,
+    pub(crate) note: TextNote,
+    pub(crate) walked: Walked,
 }
 
 /// A file's name as a line shows it.
@@ -53,11 +57,11 @@ fn start_where<O: Opener>(calls: u64, path: &str, files: &O) -> Option<Start>
 /// The events of a piece whole, none of a text without calls, and what is noted of its text. The buffer is one for all
 /// pieces.
 #[tactic(auto, using(crate::proofs::Opening::piece_unopened, crate::proofs::Opening::unopened_untold, crate::proofs::Told::walked_places_told, crate::proofs::Told::walk_told, crate::proofs::Notes::notes_told))]
-fn noted_piece<O: Opener, V: Watcher>(
+pub(crate) fn noted_piece<O: Opener, V: Watcher>(
     alloc: Global,
     piece: &Piece,
     files: &O,
-    watcher: &mut V,
+    watcher: &V,
     buffer: &mut Vec<u8>,
 ) -> Result<NotedPiece, RunFault>
     ensures ok { IfOk result (λ read. AreFactsOf (O.file files.now) piece.now (facts_of_piece read.whole)) }
@@ -75,7 +79,7 @@ fn noted_piece<O: Opener, V: Watcher>(
         Ok(walked) => walked,
         Err(fault) => return Err(fault_of_walk(alloc, path, fault)?),
     };
-    watcher.has_read(path, &walked);
+    watcher.has_ended();
     let (collect, unread) = noting.into_parts();
     let whole = match collect.into_piece(piece.rank(), piece.first()) {
         Ok(whole) => whole,
@@ -95,17 +99,23 @@ fn noted_piece<O: Opener, V: Watcher>(
         unread,
         start,
     );
-    Ok(NotedPiece { whole, note })
+    Ok(NotedPiece {
+        whole,
+        note,
+        walked,
+    })
 }
 
 /// What the pieces tell together, as [`know_of`](crate::pieces::knowing::know_of) gathers it, and what is noted of
-/// their texts, in the order of the pieces.
-pub(crate) fn noted_of<G: Gatherer, O: Opener, V: Watcher>(
+/// their texts, in the order of the pieces. Several threads read them.
+pub(crate) fn noted_of<G: Gatherer, O: SharedOpener, V: Watcher + Sync>(
     run: &Run<'_, O>,
     pieces: &[Piece],
     watcher: &mut V,
     gatherer: G,
 ) -> Result<(G, Vec<TextNote>), RunFault>
+where
+    O::R: Send,
     requires { G.known gatherer ≡ empty }
     ensures ok { IfOk result (λ read. IsKnown (O.file run.now.files.now) pieces.now (G.known read.0)) }
     ensures notes { IfOk result (λ read. AreNotesOf (O.file run.now.files.now) pieces.now read.1.items) }
@@ -118,13 +128,22 @@ pub(crate) fn noted_of<G: Gatherer, O: Opener, V: Watcher>(
     join_laws();
     view_laws();
     announce(pieces, run.files, watcher);
+    let jobs = NotedJobs {
+        alloc: run.alloc,
+        pieces,
+        files: run.files,
+        watcher: &*watcher,
+    };
+    let mut reads = results_of(run.files.handle(), run.alloc, run.files.threads(), &jobs)?;
     let mut know = gatherer;
     let mut buffer = Vec::new(run.alloc);
     let mut notes = Vec::new(run.alloc);
     let mut stranger = None;
+    let mut place = 0;
     for piece in pieces {
-        let read = noted_piece(run.alloc, piece, run.files, watcher, &mut buffer)?;
-        let NotedPiece { whole, note } = read;
+        let read = noted_at(&mut reads, place, &mut buffer)?;
+        place += 1;
+        let NotedPiece { whole, note, .. } = read;
         stranger = with_stranger(run.alloc, stranger, run.layout, piece, &whole)?;
         know = take_whole(know, whole)?;
         notes.push(note)?;

@@ -4,12 +4,11 @@ ghost use Rattle.std.specs.Prelude.{◌≡◌, ◌↔◌, IsTrue, IfOk, IsErr};
 ghost use Rattle.trace_node.specs.Answer.{IsAnswer};
 ghost use Rattle.trace_node.specs.Node.{Held};
 
-use trace_know::Knowledge;
 use trace_node::{Answer, Node, Stale};
 
 /// Something that may have an answer. Functions that drop a node after they have written its answer know it by this
 /// trait alone: a function that owns a node is proved over all that the node holds, at each of its ways out.
-pub trait Answerer: Drop {
+pub(crate) trait Answerer: Drop {
     /// What its node holds.
     ghost held: { Self → Held };
 
@@ -17,10 +16,6 @@ pub trait Answerer: Drop {
     fn told(&self) -> Result<&Answer, Stale>
         ensures ok { IfOk result (λ a. IsAnswer (held self.now).layout (held self.now).know a.now) }
         ensures stale { IsErr result ↔ IsTrue (held self.now).is_stale };
-
-    /// All that its node knows.
-    fn knowledge(&self) -> &Knowledge
-        ensures { result.now ≡ (held self.now).know };
 }
 
 impl<'a> Answerer for Node<'a> {
@@ -28,9 +23,5 @@ impl<'a> Answerer for Node<'a> {
 
     fn told(&self) -> Result<&Answer, Stale> {
         self.answer()
-    }
-
-    fn knowledge(&self) -> &Knowledge {
-        self.know()
     }
 }

@@ -9,14 +9,16 @@ ghost use Rattle.command_runs.specs.Tables.{HoldsRanks, IsTableOf, RefusesAgain}
 
 use crate::run::{Outcome, Run};
 use crate::verbs::streaming::{write_full, write_gathered};
-use crate::verbs::survey::{Events, answered, known_in, push_own, read_again, texts_of_rank};
+use crate::verbs::survey::{
+    Events, answered, known_in, push_own, read_again, statuses_of_rank, texts_of_rank,
+};
 use call_table::{
     CSV_HEADER, CallTable, Called, Completions, Partners, RankCalls, ReceivedBytes, RowForm,
     put_row, slot_count,
 };
 use command_line::TableForm;
 use mpi_model::Write;
-use run_inputs::{Opener, RunFault, Watcher};
+use run_inputs::{Opener, RunFault, SharedOpener, Watcher};
 use std::alloc::{AllocError, Global};
 use trace_know::Knowledge;
 use trace_ops::RankOps;
@@ -53,7 +55,7 @@ fn add_rank<O: Opener>(
     push_own(run.alloc, run.layout, know, rank, ops)?;
     let events = know.readable(rank);
     let completions = Completions::of(run.alloc, &events)?;
-    let texts = texts_of_rank(run, rank, call_table::count_of(&events))?;
+    let texts = statuses_of_rank(run, rank, call_table::count_of(&events))?;
     if let Some(own) = ops.as_slice().get(rank as usize) {
         received.add_rank(own, partners, &texts, &completions);
     }
@@ -166,12 +168,14 @@ fn write_ranks<O: Opener, W: Write>(
 
 /// Writes every call with its partner, by rank and number. A piece that was read before and is refused when it is read
 /// again ends the output where it stands.
-pub fn calls<O: Opener, V: Watcher, W: Write>(
+pub fn calls<O: SharedOpener, V: Watcher + Sync, W: Write>(
     form: TableForm,
     run: &Run<'_, O>,
     watcher: &mut V,
     out: &mut W,
 ) -> Result<Outcome, RunFault>
+where
+    O::R: Send,
     ensures ran { RanOn (IsTableOf (O.file run.now.files.now) run.now.layout.now run.now.manifest.now) (RefusesNamed (O.file run.now.files.now) run.now.layout.now.ranks run.now.manifest.now)
         (RefusesAgain (O.file run.now.files.now) run.now.manifest.now.pieces) result W.written W.failures out.old out.new }
     ensures failed { IfErr result (NamesFailed (Fails O.R.failures)) }

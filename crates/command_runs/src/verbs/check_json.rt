@@ -11,7 +11,7 @@ use crate::verbs::check::{checker_of, outcome_of};
 use crate::verbs::writing::write_text;
 use command_line::Verb;
 use mpi_model::Write;
-use run_inputs::{Opener, RunFault, Watcher};
+use run_inputs::{RunFault, SharedOpener, Watcher};
 use std::alloc::{AllocError, Global};
 
 /// What was made of the bytes so far: the JSON, how many numbers it has, and whether the last byte was a digit.
@@ -107,11 +107,13 @@ fn check_json(alloc: Global, lines: &[u8], held: bool) -> Result<Vec<u8>, AllocE
 }
 
 /// Writes a check as one JSON object.
-pub fn check_as_json<O: Opener, V: Watcher, W: Write>(
+pub fn check_as_json<O: SharedOpener, V: Watcher + Sync, W: Write>(
     run: &Run<'_, O>,
     watcher: &mut V,
     out: &mut W,
 ) -> Result<Outcome, RunFault>
+where
+    O::R: Send,
     ensures ran { Ran (O.file run.now.files.now) Verb.CheckJson run.now.layout.now run.now.manifest.now result W.written W.failures out.old out.new }
     ensures failed { IfErr result (NamesFailed (Fails O.R.failures)) }
 {

@@ -12,17 +12,19 @@ use crate::pieces::known::known_of;
 use crate::run::{Outcome, Run};
 use command_line::Verb;
 use mpi_model::Write;
-use run_inputs::{Opener, RunFault, Watcher};
+use run_inputs::{RunFault, SharedOpener, Watcher};
 use std::alloc::Global;
 use trace_know::Knowledge;
 use trace_wire::{WireFault, write_frames};
 
 /// Writes what the pieces tell as frames, which [`read_frames`](trace_wire::read_frames) gives back.
-pub fn pack<O: Opener, V: Watcher, W: Write>(
+pub fn pack<O: SharedOpener, V: Watcher + Sync, W: Write>(
     run: &Run<'_, O>,
     watcher: &mut V,
     out: &mut W,
 ) -> Result<Outcome, RunFault>
+where
+    O::R: Send,
     ensures ran { Ran (O.file run.now.files.now) Verb.Pack run.now.layout.now run.now.manifest.now result W.written W.failures out.old out.new }
     ensures failed { IfErr result (NamesFailed (Fails O.R.failures)) }
 {

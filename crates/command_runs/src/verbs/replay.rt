@@ -16,18 +16,20 @@ use crate::verbs::writing::write_piece;
 use command_line::Verb;
 use itoa::Buffer;
 use mpi_model::{Failed, Layout, Write};
-use run_inputs::{Opener, RunFault, StepCause, Watcher};
+use run_inputs::{RunFault, SharedOpener, StepCause, Watcher};
 use std::alloc::Global;
 use trace_node::Answer;
 use trace_report::write_report;
 use trace_world::{Step, World, WorldFault, states_refuse};
 
 /// Writes, for each node that the schedule leaves, its line and its report.
-pub fn replay<O: Opener, V: Watcher, W: Write>(
+pub fn replay<O: SharedOpener, V: Watcher + Sync, W: Write>(
     run: &Run<'_, O>,
     watcher: &mut V,
     out: &mut W,
 ) -> Result<Outcome, RunFault>
+where
+    O::R: Send,
     ensures ran { Ran (O.file run.now.files.now) Verb.Replay run.now.layout.now run.now.manifest.now result W.written W.failures out.old out.new }
     ensures failed { IfErr result (NamesFailed (Fails O.R.failures)) }
 {
@@ -39,10 +41,12 @@ pub fn replay<O: Opener, V: Watcher, W: Write>(
 }
 
 /// The world of the layout that the manifest's schedule leaves, with the pieces of their files.
-fn world_of<'a, O: Opener, V: Watcher>(
+fn world_of<'a, O: SharedOpener, V: Watcher + Sync>(
     run: &Run<'a, O>,
     watcher: &mut V,
 ) -> Result<World<'a>, RunFault>
+where
+    O::R: Send,
     ensures ok { IfOk result (λ world. AreNodesOf (O.file run.now.files.now) run.now.layout.now run.now.manifest.now world.nodes) }
     ensures fresh { IfOk result (λ world. NoneStale world.nodes) }
     ensures err { IfErr result (RefusesReplay (O.file run.now.files.now) run.now.layout.now run.now.manifest.now) }

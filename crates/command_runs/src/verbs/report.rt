@@ -9,15 +9,17 @@ use crate::pieces::answering::answer_of;
 use crate::run::{Outcome, Run};
 use command_line::Verb;
 use mpi_model::Write;
-use run_inputs::{Opener, RunFault, Watcher};
+use run_inputs::{RunFault, SharedOpener, Watcher};
 use trace_report::{write_json, write_report};
 
 /// Writes the report.
-pub fn report<O: Opener, V: Watcher, W: Write>(
+pub fn report<O: SharedOpener, V: Watcher + Sync, W: Write>(
     run: &Run<'_, O>,
     watcher: &mut V,
     out: &mut W,
 ) -> Result<Outcome, RunFault>
+where
+    O::R: Send,
     ensures ran { Ran (O.file run.now.files.now) Verb.Report run.now.layout.now run.now.manifest.now result W.written W.failures out.old out.new }
     ensures failed { IfErr result (NamesFailed (Fails O.R.failures)) }
 {
@@ -29,11 +31,13 @@ pub fn report<O: Opener, V: Watcher, W: Write>(
 }
 
 /// Writes the same report as one JSON object.
-pub fn report_as_json<O: Opener, V: Watcher, W: Write>(
+pub fn report_as_json<O: SharedOpener, V: Watcher + Sync, W: Write>(
     run: &Run<'_, O>,
     watcher: &mut V,
     out: &mut W,
 ) -> Result<Outcome, RunFault>
+where
+    O::R: Send,
     ensures ran { Ran (O.file run.now.files.now) Verb.ReportJson run.now.layout.now run.now.manifest.now result W.written W.failures out.old out.new }
     ensures failed { IfErr result (NamesFailed (Fails O.R.failures)) }
 {

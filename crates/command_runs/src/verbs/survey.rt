@@ -13,12 +13,12 @@ use crate::pieces::any_order::have_lengths;
 use crate::pieces::gatherer::Gathered;
 use crate::pieces::knowing::take_whole;
 use crate::pieces::known::known_of;
-use crate::pieces::piece::ready_piece_of;
+use crate::pieces::piece::piece_again;
 use crate::run::Run;
 use call_table::RankTexts;
 use mpi_model::Layout;
 use run_files::Piece;
-use run_inputs::{Opener, RunFault, Unwatched, Watcher, reopened};
+use run_inputs::{Opener, RunFault, SharedOpener, Watcher, reopened};
 use std::alloc::{AllocError, Global};
 use trace_know::Knowledge;
 use trace_node::{Answer, RankByRank};
@@ -41,10 +41,12 @@ pub(crate) struct Survey {
 }
 
 /// The answer to all that the pieces tell.
-pub(crate) fn answered<O: Opener, V: Watcher>(
+pub(crate) fn answered<O: SharedOpener, V: Watcher + Sync>(
     run: &Run<'_, O>,
     watcher: &mut V,
 ) -> Result<Survey, RunFault>
+where
+    O::R: Send,
     ensures ok { IfOk result (λ told. AnswersAll (O.file run.now.files.now) run.now.layout.now run.now.manifest.now told.answer) }
     ensures err { IfErr result (RefusesNamed (O.file run.now.files.now) run.now.layout.now.ranks run.now.manifest.now) }
     ensures failed { IfErr result (NamesFailed (Fails O.R.failures)) }
@@ -80,7 +82,7 @@ fn known_of_rank<O: Opener>(
         if piece.rank() != rank {
             continue;
         }
-        let whole = ready_piece_of(run.alloc, piece, run.files, &mut Unwatched, buffer)?;
+        let whole = piece_again(run.alloc, piece, run.files, buffer)?;
         gathered = take_whole(gathered, whole)?;
     }
     let know = gathered.know.into_knowledge()?;
@@ -111,13 +113,13 @@ pub(crate) fn known_in<'a>(events: &'a Events, own: &'a Knowledge) -> &'a Knowle
     }
 }
 
-/// What the texts of a rank say of so many calls: nothing where a text can't be looked at.
-pub(crate) fn texts_of_rank<O: Opener>(
+/// With what the texts of a rank say of its calls: nothing where a text can't be looked at.
+fn with_texts<O: Opener>(
     run: &Run<'_, O>,
     rank: u32,
-    calls: u64,
+    texts: RankTexts,
 ) -> Result<RankTexts, AllocError> {
-    let mut texts = RankTexts::new(run.alloc, calls)?;
+    let mut texts = texts;
     for piece in run.manifest.pieces() {
         if piece.rank() == rank {
             if let Some(reader) = reopened(piece.file(), run.files) {
@@ -126,6 +128,26 @@ pub(crate) fn texts_of_rank<O: Opener>(
         }
     }
     Ok(texts)
+}
+
+/// What the texts of a rank say of so many calls.
+pub(crate) fn texts_of_rank<O: Opener>(
+    run: &Run<'_, O>,
+    rank: u32,
+    calls: u64,
+) -> Result<RankTexts, AllocError> {
+    let texts = RankTexts::new(run.alloc, calls)?;
+    with_texts(run, rank, texts)
+}
+
+/// What the statuses in the texts of a rank tell of so many calls.
+pub(crate) fn statuses_of_rank<O: Opener>(
+    run: &Run<'_, O>,
+    rank: u32,
+    calls: u64,
+) -> Result<RankTexts, AllocError> {
+    let texts = RankTexts::of_statuses(run.alloc, calls)?;
+    with_texts(run, rank, texts)
 }
 
 /// What the next rank did, behind what those before it did.
@@ -143,19 +165,4 @@ pub(crate) fn push_own(
     let own = ops_of(alloc, layout, know, rank)?;
     ops.push(own)?;
     Ok(())
-}
-
-/// What all ranks did, by what is known of them. Fails with `AllocError` when memory is refused.
-pub fn ops_of_all(
-    alloc: Global,
-    layout: &Layout,
-    know: &Knowledge,
-) -> Result<Vec<RankOps>, AllocError>
-    ensures { IfOk result (λ ops. HoldsRanks layout.now.ranks ops.items) }
-{
-    let mut ops = Vec::new(alloc);
-    for rank in 0..layout.ranks() {
-        push_own(alloc, layout, know, rank, &mut ops)?;
-    }
-    Ok(ops)
 }

@@ -15,7 +15,7 @@ use call_table::{
     put_slice, put_stuck, put_timeline_end, put_timeline_head, put_track, span_of, times_of,
 };
 use mpi_model::{OpName, Write};
-use run_inputs::{Opener, RunFault, Watcher};
+use run_inputs::{Opener, RunFault, SharedOpener, Watcher};
 use trace_know::Knowledge;
 use trace_node::Answer;
 use trace_ops::RankOps;
@@ -260,12 +260,14 @@ fn write_events<O: Opener, W: Write>(
 
 /// Writes the calls of all ranks in time, as far as they are shown. A piece that was read before and is refused when it
 /// is read again ends the output where it stands.
-pub fn timeline<O: Opener, V: Watcher, W: Write>(
+pub fn timeline<O: SharedOpener, V: Watcher + Sync, W: Write>(
     cut: command_line::Window,
     run: &Run<'_, O>,
     watcher: &mut V,
     out: &mut W,
 ) -> Result<Outcome, RunFault>
+where
+    O::R: Send,
     ensures ran { RanOn (IsTableOf (O.file run.now.files.now) run.now.layout.now run.now.manifest.now) (RefusesNamed (O.file run.now.files.now) run.now.layout.now.ranks run.now.manifest.now)
         (RefusesAgain (O.file run.now.files.now) run.now.manifest.now.pieces) result W.written W.failures out.old out.new }
     ensures failed { IfErr result (NamesFailed (Fails O.R.failures)) }

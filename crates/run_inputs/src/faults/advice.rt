@@ -3,10 +3,11 @@
 ghost use Rattle.std.specs.Prelude.{◌≡◌, ◌++◌, IfOk, string_bytes};
 ghost use Rattle.std.specs.Fmt.{WritesOnOk};
 ghost use Rattle.run_inputs.specs.Advice.{IsShownIn, advice_text, cause_text, found_text, is_in_words, json_text, must_be_text, reason_text};
-ghost use Rattle.run_inputs.specs.FaultLines.{fault_line_of};
+ghost use Rattle.run_inputs.specs.SaidLines.{line_with};
 
-use crate::faults::fault::{RunFault, fault_line};
+use crate::faults::fault::RunFault;
 use crate::faults::found::{Found, found_of};
+use crate::faults::said_line::line_with;
 use crate::faults::sentences::{
     begun_text, field_text, folder_text, layout_text, line_text, packed_text, plain_text,
     wanted_text,
@@ -17,6 +18,7 @@ use crate::load::reason::Reason;
 use command_line::Verb;
 use dumpi_calls::Parameter;
 use dumpi_text::TextCause;
+use mpi_model::WriteReason;
 use std::alloc::{AllocError, Global};
 use std::fmt;
 use text_notes::Start;
@@ -174,27 +176,34 @@ pub fn is_in_words(verb: Verb) -> bool
 }
 
 /// The line of a fault, and below it what is said by what was found.
-fn advised(alloc: Global, fault: &RunFault, found: &Found) -> Result<String, AllocError>
-    ensures { IfOk result (λ text. string_bytes text ≡ fault_line_of fault.now ++ advice_text fault.now found.now) }
+fn advised(
+    alloc: Global,
+    fault: &RunFault,
+    reason: Option<WriteReason>,
+    found: &Found,
+) -> Result<String, AllocError>
+    ensures { IfOk result (λ text. string_bytes text ≡ line_with fault.now reason ++ advice_text fault.now found.now) }
 {
-    let line = fault_line(alloc, fault)?;
+    let line = line_with(alloc, fault, reason)?;
     let advice = Advice { fault, found };
     format!(in alloc; "{line}{advice}")
 }
 
-/// What is shown of a fault: its line, and where that is to be in words, what was found of the file that it names.
+/// What is shown of a fault: its line, of a refused write with this reason, and where that is to be in words, what was
+/// found of the file that it names.
 pub fn shown_fault<O: Opener>(
     alloc: Global,
     in_words: bool,
     fault: &RunFault,
+    reason: Option<WriteReason>,
     files: &O,
 ) -> Result<String, AllocError>
     ensures { IfOk result (λ text. IsShownIn in_words (O.file files.now) fault.now (string_bytes text)) }
 {
     if in_words {
         let found = found_of(alloc, fault, files);
-        advised(alloc, fault, &found)
+        advised(alloc, fault, reason, &found)
     } else {
-        fault_line(alloc, fault)
+        line_with(alloc, fault, reason)
     }
 }

@@ -2,10 +2,11 @@
 
 ghost use Rattle.std.specs.Prelude.{◌≡◌, ◌++◌, IfOk, string_bytes};
 ghost use Rattle.std.specs.Fmt.{WritesOnOk};
-ghost use Rattle.run_inputs.specs.InitAdvice.{IsInitFound, IsInitShown, init_advice_text, ranks_there_text};
+ghost use Rattle.run_inputs.specs.InitAdvice.{IsInitFound, IsInitShown, beyond_text, init_advice_text, ranks_there_text};
 ghost use Rattle.run_inputs.specs.InitFaults.{init_fault_line_of};
 
 use crate::faults::advice::{Advice, is_in_words};
+use crate::faults::file_name::FileName;
 use crate::faults::found::{Found, NOTHING, found_of, looked_at};
 use crate::faults::init_fault::{InitFault, init_fault_line};
 use crate::faults::sentences::{begun_text, layout_text};
@@ -33,7 +34,8 @@ impl<'a> fmt::Display for InitAdvice<'a> {
     }
 }
 
-/// What is said of a fault of a text, as in other runs, of a text without calls or of a layout; else nothing.
+/// What is said of a fault of a text, as in other runs, of a text without calls, of one whose rank no layout has, or of
+/// a layout; else nothing.
 fn put_advice<W: fmt::Write>(
     f: &mut fmt::Formatter<W>,
     fault: &InitFault,
@@ -47,10 +49,22 @@ fn put_advice<W: fmt::Write>(
             write!(f, "{advice}")
         }
         InitFault::NoCall { .. } => f.write_str(begun_text(found.start)),
+        InitFault::Beyond { path } => put_beyond(f, path),
         InitFault::Made(MadeFault::Layout(fault)) => f.write_str(layout_text(*fault)),
         InitFault::Outside { ranks } => put_ranks_there(f, *ranks),
         _ => Ok(()),
     }
+}
+
+/// Which text is of a rank that no layout has.
+fn put_beyond<W: fmt::Write>(f: &mut fmt::Formatter<W>, path: &str) -> fmt::Result
+    ensures { WritesOnOk W.write_str_gives f.old result (beyond_text path.now) f.new }
+{
+    let name = FileName::new(path);
+    write!(
+        f,
+        "  {name} is of a rank above 1023, by the digits of its name: a layout has at most 1024 ranks\n"
+    )
 }
 
 /// Which ranks there are.

@@ -8,6 +8,7 @@ ghost use Rattle.run_inputs.specs.FileNames.{shown_name};
 use crate::faults::fault::{RunFault, name_of_layout};
 use crate::faults::file_name::FileName;
 use crate::faults::sentences::strange_text;
+use mpi_model::LayoutFault;
 use run_files::{PutFault, Which};
 use std::alloc::{AllocError, AllocFailed, Global};
 use std::fmt;
@@ -33,6 +34,8 @@ pub enum InitFault {
     TooMany,
     /// A text before this one is of the same rank, by the digits at the ends of their names.
     Twice { path: String },
+    /// By the number of its name the text is of a rank that no layout has.
+    Beyond { path: String },
     /// No layout can be made of what the texts tell.
     Made(MadeFault),
     /// A file of this name is there.
@@ -169,6 +172,7 @@ impl fmt::Display for InitFault {
                 "more than 1024 texts, which are more ranks than a layout can have"
             ),
             InitFault::Twice { path } => put_file(f, path, TWICE),
+            InitFault::Beyond { .. } => put_made(f, &MadeFault::Layout(LayoutFault::RankCount)),
             InitFault::Made(fault) => put_made(f, fault),
             InitFault::There { path } => put_file(f, path, THERE),
             InitFault::SpareThere { path } => put_file(f, path, SPARE_THERE),

@@ -4,8 +4,9 @@ ghost use Rattle.std.specs.Prelude.{◌≡◌, IfOk, IfSome, None};
 ghost use Rattle.run_inputs.specs.Files.{IsLength, StandsAtFirst};
 
 use crate::faults::sentences::is_absolute;
-use crate::load::opener::{OpenFault, Opener};
+use crate::load::opener::{OpenFault, Opener, SharedOpener};
 use crate::load::reason::Reason;
+use side_by_side::ThreadCount;
 use std::alloc::{AllocError, Global};
 
 /// The files that a manifest names: a name that no file has from the folder in which mpimatch runs is looked for beside
@@ -100,5 +101,17 @@ impl<'f, 'n, O: Opener> Opener for Beside<'f, 'n, O> {
             Some(Reason::Absent) => self.reason_beside(path),
             reason => reason,
         }
+    }
+}
+
+impl<'f, 'n, O: SharedOpener> SharedOpener for Beside<'f, 'n, O> {
+    type Handle = O::Handle;
+
+    fn handle(&self) -> &O::Handle {
+        self.files.handle()
+    }
+
+    fn threads(&self) -> ThreadCount {
+        self.files.threads()
     }
 }

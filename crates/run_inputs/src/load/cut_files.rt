@@ -5,8 +5,9 @@ ghost use Rattle.std.specs.Str.{bytes_eq};
 ghost use Rattle.run_inputs.specs.Seen.{is_cut, kept_of, limit_in, seen_by};
 
 use crate::load::front::Front;
-use crate::load::opener::{OpenFault, Opener};
+use crate::load::opener::{OpenFault, Opener, SharedOpener};
 use crate::load::reason::Reason;
+use side_by_side::ThreadCount;
 use std::alloc::Global;
 
 /// A text that was cut off.
@@ -118,5 +119,17 @@ impl<'a, O: Opener> Opener for CutFiles<'a, O> {
             Some(cut) => Some(cut.line),
             None => None,
         }
+    }
+}
+
+impl<'a, O: SharedOpener> SharedOpener for CutFiles<'a, O> {
+    type Handle = O::Handle;
+
+    fn handle(&self) -> &O::Handle {
+        self.files.handle()
+    }
+
+    fn threads(&self) -> ThreadCount {
+        self.files.threads()
     }
 }

@@ -5,9 +5,11 @@ ghost use Rattle.run_inputs.specs.Files.{IsLength, StandsAtFirst};
 
 use crate::load::reason::Reason;
 use mpi_model::{Device, Read};
+use side_by_side::ThreadCount;
 use std::alloc::{Alloc, AllocError, AllocFailed, Global};
 use std::fs::Files;
 use std::io;
+use std::thread::{Threads, available_parallelism};
 
 /// Why a file couldn't be opened.
 #[derive(Clone, Copy)]
@@ -62,6 +64,18 @@ pub trait Opener: Drop {
     fn cut_line(&self, _path: &str) -> Option<u64> {
         None
     }
+}
+
+/// An opener from which several threads open files, side by side.
+pub trait SharedOpener: Opener + Sync {
+    /// What starts the threads.
+    type Handle: Threads + Sync;
+
+    /// What starts the threads.
+    fn handle(&self) -> &Self::Handle;
+
+    /// How many threads there are. No output of a run depends on it.
+    fn threads(&self) -> ThreadCount;
 }
 
 /// The files of the system.
@@ -169,6 +183,22 @@ impl<'a, F: Files + Alloc + Clone + Drop> Opener for Disk<'a, F> {
             },
             Ok(_) => None,
             Err(error) => reason_of(error.kind()),
+        }
+    }
+}
+
+impl<'a, F: Files + Alloc + Clone + Drop + Threads + Sync> SharedOpener for Disk<'a, F> {
+    type Handle = F;
+
+    fn handle(&self) -> &F {
+        self.rt
+    }
+
+    /// As many as there are processors for the program.
+    fn threads(&self) -> ThreadCount {
+        match available_parallelism(self.rt) {
+            Ok(count) => ThreadCount::UpTo(count.get()),
+            Err(_) => ThreadCount::UpTo(1),
         }
     }
 }

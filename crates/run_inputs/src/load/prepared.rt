@@ -1,22 +1,24 @@
 //! From the words that name texts to the input of a run, and what is said of it.
 
-ghost use Rattle.std.specs.Prelude.{◌≡◌, ◌<◌, ◌≤◌, IfErr, IfOk, OnOk, length, map, string_bytes};
+ghost use Rattle.std.specs.Prelude.{◌≡◌, ◌<◌, ◌≤◌, IfErr, IfOk, None, OnOk, length, map, string_bytes};
 ghost use Rattle.std.specs.List.{All};
 ghost use Rattle.mpi_model.specs.declared.layout.TheConstants.{MOST_RANKS};
 ghost use Rattle.call_words.specs.Texts.{Adds};
 ghost use Rattle.command_line.specs.Program.{texts_of};
-ghost use Rattle.text_layouts.specs.Seats.{kept};
-ghost use Rattle.run_inputs.specs.Prepared.{AreAt, IsByRank, IsPrepared, IsPreparedBy, RefusesNames, RefusesSaid, RefusesWords, digits_text, form_of, said_text, words_text};
+ghost use Rattle.text_layouts.specs.Seats.{beyond_by, kept, told_size};
+ghost use Rattle.run_inputs.specs.Prepared.{AreAt, IsByRank, IsPrepared, IsPreparedBy, RefusesBeyond, RefusesNames, RefusesSaid, RefusesWords, digits_text, form_of, said_text, words_text};
 
 use crate::faults::init_fault::InitFault;
-use crate::load::opener::Opener;
+use crate::load::opener::SharedOpener;
 use crate::load::texts::{AllCalls, calls_of_all};
 use call_words::Text;
+use comm_makings::RankCalls;
 use mpi_model::{MOST_RANKS, Sends};
 use std::alloc::{AllocError, Global};
+use std::collections::BTreeMap;
 use text_layouts::{
-    Made, Order, found_json, in_order, made_of, missing_of, order_of, put_missing, put_notes,
-    seats_of, texts_of,
+    Made, Maker, Order, found_json, in_order, made_of, makers_of, missing_of, order_of,
+    put_missing, put_notes, seats_of, text_beyond, texts_of,
 };
 
 /// How it is said what was found in texts.
@@ -32,6 +34,8 @@ pub enum Saying<'a> {
 #[derive(Drop)]
 pub struct Prepared {
     pub made: Made,
+    /// The functions that made the objects of its layout, by the objects' ids.
+    pub makers: BTreeMap<u32, Maker>,
     /// The ranks that have no text.
     pub missing: Vec<u32>,
     /// What was found in the texts and what is left out, as it is to be said.
@@ -148,29 +152,47 @@ fn prepared_by(
         Err(fault) => return Err(InitFault::Made(fault)),
     };
     let notes = notes_of(alloc, saying, by_digits, &missing, all.calls, &made)?;
+    let makers = makers_of(alloc, &made.derived.comms, &all.ranks)?;
     Ok(Prepared {
         made,
+        makers,
         missing,
         notes,
         calls: all.calls,
     })
 }
 
+/// Refuses a text of a rank that no layout has, by the number of its name, where what the texts in the order of these
+/// names tell of the size of MPI_COMM_WORLD doesn't say that it is none.
+fn refuse_beyond(alloc: Global, names: &[String], ranks: &[RankCalls]) -> Result<(), InitFault>
+    ensures within { OnOk result (beyond_by (told_size ranks.now) (map string_bytes names.now) ≡ None) }
+    ensures err { IfErr result (RefusesBeyond ranks.now (map string_bytes names.now)) }
+{
+    match text_beyond(alloc, names, ranks)? {
+        Some(path) => Err(InitFault::Beyond { path }),
+        None => Ok(()),
+    }
+}
+
 /// The input of the run of these texts, rank 0 first, or by the digits at the ends of their names where those are 0 to
-/// n - 1. Each text is read once, and once more where some rank has none: then the digits tell the ranks.
-pub(crate) fn prepare<O: Opener>(
+/// n - 1. Each text is read once, and once more where some rank has none: then the digits tell the ranks. Where they
+/// tell one that no layout has, nothing is made.
+pub(crate) fn prepare<O: SharedOpener>(
     alloc: Global,
     saying: Saying<'_>,
     sends: Sends,
     words: &[&str],
     files: &O,
 ) -> Result<Prepared, InitFault>
+where
+    O::R: Send,
     ensures made { IfOk result (λ p. IsPrepared (O.file files.now) (form_of saying.entry) sends (texts_of words.now) p.made p.notes.items) }
     ensures err { IfErr result (RefusesWords (O.file files.now) (texts_of words.now)) }
 {
     let (texts, by_digits) = by_rank(alloc, words)?;
     let ordered = in_order(alloc, &texts)?;
     let all = calls_of_all(alloc, &ordered, files)?;
+    refuse_beyond(alloc, &texts, &all.ranks)?;
     match seats_of(alloc, &texts, &all.ranks)? {
         None => prepared_by(alloc, saying, sends, &ordered, by_digits, &all),
         Some(seats) => {

@@ -9,7 +9,7 @@ use crate::faults::fault::RunFault;
 use crate::faults::init_fault::InitFault;
 use crate::load::cut::cuts_of;
 use crate::load::cut_files::CutFiles;
-use crate::load::opener::Opener;
+use crate::load::opener::{Opener, SharedOpener};
 use crate::load::prepared::{Prepared, Saying, prepare};
 use crate::load::second_look::piped_of;
 use dumpi_text::{LineFault, TextCause};
@@ -78,13 +78,15 @@ fn says_cut(fault: &InitFault) -> bool
 /// What is made of the texts that these words name, and the files as they were read for it. A text that is cut off ends
 /// the first reading, and then each text is looked at for where it was cut off.
 #[tactic(auto, using(crate::proofs::SeenTexts::reads_whole, crate::proofs::SeenTexts::prepared_same, crate::proofs::SeenTexts::refused_whole))]
-pub fn prepared_of<'a, O: Opener>(
+pub fn prepared_of<'a, O: SharedOpener>(
     alloc: Global,
     saying: Saying<'_>,
     sends: Sends,
     words: &[&str],
     files: &'a O,
 ) -> Result<(Prepared, CutFiles<'a, O>), InitFault>
+where
+    O::R: Send,
     ensures files { IfOk result (λ p. p.1.files.now ≡ files.now) }
     ensures seen { IfOk result (λ p. Reads (O.file files.now) (texts_of words.now) (seen_by (map kept_of p.1.cuts.items) (O.file files.now))) }
     ensures made { IfOk result (λ p. IsPrepared (seen_by (map kept_of p.1.cuts.items) (O.file files.now)) (form_of saying.entry) sends (texts_of words.now) p.0.made p.0.notes.items) }
@@ -105,13 +107,15 @@ pub fn prepared_of<'a, O: Opener>(
 
 /// What is made of the texts that these words name, of each as far as it is kept, and the files so.
 #[tactic(auto, using(crate::proofs::SeenTexts::reads_kept, crate::proofs::SeenTexts::prepared_same, crate::proofs::SeenTexts::refused_memory, crate::proofs::SeenTexts::refused_piped, crate::proofs::SeenTexts::refused_look, crate::proofs::SeenTexts::refused_kept))]
-fn prepared_again<'a, O: Opener>(
+fn prepared_again<'a, O: SharedOpener>(
     alloc: Global,
     saying: Saying<'_>,
     sends: Sends,
     words: &[&str],
     files: &'a O,
 ) -> Result<(Prepared, CutFiles<'a, O>), InitFault>
+where
+    O::R: Send,
     ensures files { IfOk result (λ p. p.1.files.now ≡ files.now) }
     ensures seen { IfOk result (λ p. Reads (O.file files.now) (texts_of words.now) (seen_by (map kept_of p.1.cuts.items) (O.file files.now))) }
     ensures made { IfOk result (λ p. IsPrepared (seen_by (map kept_of p.1.cuts.items) (O.file files.now)) (form_of saying.entry) sends (texts_of words.now) p.0.made p.0.notes.items) }

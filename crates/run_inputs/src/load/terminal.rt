@@ -4,6 +4,7 @@ use crate::faults::file_name::FileName;
 use crate::load::watch::Watcher;
 use dumpi_calls::Walked;
 use std::io::Eprint;
+use std::sync::atomic::{AtomicU64, Ordering};
 use std::time::{Clock, Instant};
 
 /// How many seconds a run reads before it shows how far it is, and from then on between two such
@@ -13,17 +14,21 @@ const PATIENCE: u64 = 2;
 /// Shows on standard error how many pieces and bytes were read, if reading takes long; each text that has lines but no
 /// call, as a file in another encoding would; and that a check pairs by the rules. If standard error is no terminal, it
 /// shows nothing. If a line can't be shown, nothing else changes.
+///
+/// Any thread may show how far the run is: of two to which a line is due at once, one shows it.
 #[derive(Drop)]
 pub struct Terminal<'a, R: Eprint + Clock> {
     rt: &'a R,
     is_terminal: bool,
-    /// When the last line was shown, or the run began.
-    shown: Option<Instant>,
+    /// When the reading began.
+    began: Option<Instant>,
+    /// How many seconds later the last line was shown.
+    shown: AtomicU64,
     pieces: usize,
-    pieces_read: usize,
+    pieces_read: AtomicU64,
     /// The bytes of all pieces, where each file tells its length.
     bytes: Option<u64>,
-    bytes_read: u64,
+    bytes_read: AtomicU64,
 }
 
 impl<'a, R: Eprint + Clock> Terminal<'a, R> {
@@ -32,32 +37,40 @@ impl<'a, R: Eprint + Clock> Terminal<'a, R> {
         Terminal {
             rt,
             is_terminal,
-            shown: None,
+            began: None,
+            shown: AtomicU64::new(0),
             pieces: 0,
-            pieces_read: 0,
+            pieces_read: AtomicU64::new(0),
             bytes: None,
-            bytes_read: 0,
+            bytes_read: AtomicU64::new(0),
         }
     }
 
-    /// Whether so much time has gone that a line is due.
+    /// Whether so much time has gone that a line is due, and no other thread shows it.
     fn is_due(&self) -> bool {
-        let Some(shown) = self.shown else {
+        let Some(began) = self.began else {
             return false;
         };
-        match shown.elapsed(self.rt) {
-            Ok(gone) => gone.as_secs() >= PATIENCE,
-            Err(_) => false,
-        }
+        let gone = match began.elapsed(self.rt) {
+            Ok(gone) => gone.as_secs(),
+            Err(_) => return false,
+        };
+        let shown = self.shown.load(Ordering::SeqCst);
+        gone.saturating_sub(shown) >= PATIENCE
+            && self
+                .shown
+                .compare_exchange(shown, gone, Ordering::SeqCst, Ordering::SeqCst)
+                .is_ok()
     }
 
     /// Shows how far the run is, where that is due.
-    fn show(&mut self) {
+    fn show(&self) {
         if !self.is_due() {
             return;
         }
-        let (pieces, pieces_read) = (self.pieces, self.pieces_read);
-        let bytes_read = self.bytes_read;
+        let pieces = self.pieces;
+        let pieces_read = self.pieces_read.load(Ordering::SeqCst);
+        let bytes_read = self.bytes_read.load(Ordering::SeqCst);
         let _ = match self.bytes {
             Some(bytes) => {
                 eprint!(self.rt;
@@ -70,7 +83,6 @@ impl<'a, R: Eprint + Clock> Terminal<'a, R> {
                 )
             }
         };
-        self.shown = Instant::now(self.rt).ok();
     }
 }
 
@@ -85,21 +97,26 @@ impl<'a, R: Eprint + Clock> Watcher for Terminal<'a, R> {
 
     fn begin(&mut self, pieces: usize, bytes: Option<u64>) {
         self.pieces = pieces;
-        self.pieces_read = 0;
+        self.pieces_read.store(0, Ordering::SeqCst);
         self.bytes = bytes;
-        self.bytes_read = 0;
+        self.bytes_read.store(0, Ordering::SeqCst);
+        self.shown.store(0, Ordering::SeqCst);
         if self.is_terminal {
-            self.shown = Instant::now(self.rt).ok();
+            self.began = Instant::now(self.rt).ok();
         }
     }
 
-    fn has_taken(&mut self, bytes: usize) {
-        self.bytes_read = self.bytes_read.saturating_add(bytes as u64);
+    fn has_taken(&self, bytes: usize) {
+        let _ = self.bytes_read.fetch_add(bytes as u64, Ordering::SeqCst);
         self.show();
     }
 
-    fn has_read(&mut self, path: &str, walked: &Walked) {
-        self.pieces_read = self.pieces_read.saturating_add(1);
+    fn has_ended(&self) {
+        let _ = self.pieces_read.fetch_add(1, Ordering::SeqCst);
+        self.show();
+    }
+
+    fn has_read(&self, path: &str, walked: &Walked) {
         if self.is_terminal && walked.calls == 0 && walked.skipped > 0 {
             let lines = walked.skipped;
             let _ = eprint!(self.rt;
@@ -107,7 +124,6 @@ impl<'a, R: Eprint + Clock> Watcher for Terminal<'a, R> {
                 FileName::new(path)
             );
         }
-        self.show();
     }
 
     fn begin_check(&mut self, calls: usize) {

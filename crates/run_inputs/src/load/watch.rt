@@ -4,7 +4,8 @@ use crate::load::opener::Opener;
 use dumpi_calls::Walked;
 use run_files::Piece;
 
-/// Observes how far the reading of a run's pieces has come. No output of a run depends on it.
+/// Observes how far the reading of a run's pieces has come. No output of a run depends on it. Several threads may tell
+/// what they read.
 pub trait Watcher: Drop {
     /// Shows nothing from here on.
     fn hush(&mut self);
@@ -15,11 +16,14 @@ pub trait Watcher: Drop {
     /// From here on this many pieces are read, with this many bytes in all; `None` if a file doesn't have a length.
     fn begin(&mut self, pieces: usize, bytes: Option<u64>);
 
-    /// This many more bytes were read.
-    fn has_taken(&mut self, bytes: usize);
+    /// This many more bytes were read, by any thread.
+    fn has_taken(&self, bytes: usize);
 
-    /// The text of one more piece was read to its end.
-    fn has_read(&mut self, path: &str, walked: &Walked);
+    /// The text of one more piece was read to its end, by any thread.
+    fn has_ended(&self);
+
+    /// How the text of a piece was walked to its end. It is told in the order of the pieces.
+    fn has_read(&self, path: &str, walked: &Walked);
 
     /// From here on this many messages and receives are paired by the rules.
     fn begin_check(&mut self, calls: usize);
@@ -38,9 +42,11 @@ impl Watcher for Unwatched {
 
     fn begin(&mut self, _pieces: usize, _bytes: Option<u64>) {}
 
-    fn has_taken(&mut self, _bytes: usize) {}
+    fn has_taken(&self, _bytes: usize) {}
 
-    fn has_read(&mut self, _path: &str, _walked: &Walked) {}
+    fn has_ended(&self) {}
+
+    fn has_read(&self, _path: &str, _walked: &Walked) {}
 
     fn begin_check(&mut self, _calls: usize) {}
 }
@@ -53,6 +59,13 @@ pub fn announce<O: Opener, V: Watcher>(pieces: &[Piece], files: &O, watcher: &mu
         None
     };
     watcher.begin(pieces.len(), bytes);
+}
+
+/// Tells the watcher how the texts of the first of these pieces were walked.
+pub fn tell_walked<V: Watcher>(pieces: &[Piece], walked: &[Walked], watcher: &V) {
+    for (piece, one) in pieces.iter().zip(walked) {
+        watcher.has_read(piece.file(), one);
+    }
 }
 
 /// How many bytes the files of these pieces have together, where each tells its length.

@@ -12,12 +12,12 @@ use mpi_model::{Failed, Read};
 #[derive(Drop)]
 pub struct Watched<'w, R: Read, V: Watcher> {
     inner: R,
-    watcher: &'w mut V,
+    watcher: &'w V,
 }
 
 impl<'w, R: Read, V: Watcher> Watched<'w, R, V> {
     /// A reader over `inner` that tells the watcher of the bytes from here on.
-    pub fn new(inner: R, watcher: &'w mut V) -> Self
+    pub fn new(inner: R, watcher: &'w V) -> Self
         ensures { result.inner ≡ inner }
     {
         Watched { inner, watcher }

@@ -5,7 +5,7 @@
 
 ghost use Rattle.std.specs.Prelude.{◌≡◌, IfOk, map};
 ghost use Rattle.std.specs.FinMap.{empty};
-ghost use Rattle.trace_node.specs.ByRank.{AddsRank, IsReading};
+ghost use Rattle.trace_node.specs.ByRank.{IsReading, IsReadingOf, TakesReading};
 ghost use Rattle.trace_node.specs.Stopped.{stopped};
 
 use crate::stuck::Stuck;
@@ -15,6 +15,30 @@ use trace_know::{Knowledge, listing_laws};
 use trace_ops::State;
 use trace_pair::Pair;
 use trace_wait::Round;
+
+/// How far one rank can be read, and where it is contradicted.
+#[derive(Debug, Drop)]
+pub(crate) struct RankReading {
+    pub prefix: u64,
+    pub beyond: bool,
+    pub unread: bool,
+    pub conflicts: Vec<(u32, u64)>,
+}
+
+impl RankReading {
+    /// The reading of a rank, by what is known of it alone.
+    pub(crate) fn of(alloc: Global, rank: u32, know: &Knowledge) -> Result<RankReading, AllocError>
+        ensures { IfOk result (IsReadingOf rank know.now) }
+    {
+        let conflicts = know.conflict_places(alloc)?;
+        Ok(RankReading {
+            prefix: know.prefix(rank),
+            beyond: know.beyond(rank),
+            unread: know.is_unread(rank),
+            conflicts,
+        })
+    }
+}
 
 /// How far the ranks can be read, and where they are contradicted.
 #[derive(Drop)]
@@ -39,21 +63,15 @@ impl Reading {
         }
     }
 
-    /// Adds the next rank, by what is known of it.
-    pub(crate) fn with(
-        self,
-        alloc: Global,
-        rank: u32,
-        know: &Knowledge,
-    ) -> Result<Reading, AllocError>
-        ensures { IfOk result (λ r. AddsRank rank know.now self r) }
+    /// Adds the reading of the next rank.
+    pub(crate) fn taking(self, one: RankReading) -> Result<Reading, AllocError>
+        ensures { IfOk result (TakesReading one self) }
     {
         let mut more = self;
-        more.prefixes.push(know.prefix(rank))?;
-        more.beyond.push(know.beyond(rank))?;
-        more.unread.push(know.is_unread(rank))?;
-        let own = know.conflict_places(alloc)?;
-        more.conflicts.extend_from_slice(&own)?;
+        more.prefixes.push(one.prefix)?;
+        more.beyond.push(one.beyond)?;
+        more.unread.push(one.unread)?;
+        more.conflicts.extend_from_slice(&one.conflicts)?;
         Ok(more)
     }
 

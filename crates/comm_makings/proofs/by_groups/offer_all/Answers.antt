@@ -1,31 +1,26 @@
-use Rattle.std.proofs.Common.{◌<◌, ℕ, List, length, get_or, arith}
+use Rattle.std.proofs.Common.{◌∙◌, ◌+◌, ◌<◌, ℕ, List, ap, arith, get_or, length}
 use Rattle.std.proofs.lemmas.Option.{slice_get-get_or}
-use Rattle.comm_makings.proofs.GroupCalls.{offer_more}
+use Rattle.comm_makings.proofs.GroupCalls.{adds_length, own_more}
 use Rattle.comm_makings.proofs.by_groups.offer_all.Goals as goal
-use Rattle.comm_makings.proofs.by_groups.offer_all.Goals.{then-not-is_read+in_ok-push-in-Known, else-not-is_read}
 
 pub returns-then-is_unreadable : goal.returns-then-is_unreadable
-returns-then-is_unreadable c = elim c.if-not-is_read.branch [
-  | then-not-is_read+in_ok-push-in-Known w ↦
-      let list : List ℕ = c.calls_of-at-items.result.now in
-      let below : c.loop-at.at-index < length list = omega arith in
-      let noted = rw c.deref-in-loop-at.ensures.value at (rw c.deref.ensures.value at c.in-Known.ensures) in
-      rw w.offers-is (rw w.in_ok-push-in-Known.ensures.items
-      (offer_more c.args.ranks.now c.args.views.now c.args.run.now.values.items c.args.run.now.comms.items c.args.members.now c.loop-at.offers.items c.args.member c.args.place
-      list c.loop-at.at-index (get_or list c.loop-at.at-index 0) c.in-Known.offer c.loop-at.invariant c.requires.member c.calls_of-at-items.ensures
-      (slice_get-get_or list c.loop-at.at-index 0 below) noted))
-  | else-not-is_read w ↦ rw w.offers-is c.loop-at.invariant
-]
+returns-then-is_unreadable c =
+    let list : List ℕ = c.calls_of-at-items.result.now in
+    let below : c.loop-at.at-index < length list = omega arith in
+    let named = rw c.deref-in-loop-at.ensures.value at (rw c.deref.ensures.value at c.in-Known.ensures) in
+    own_more c.args.ranks.now c.args.views.now c.args.run.now.values.items c.args.run.now.comms.items c.args.member c.args.place list c.loop-at.at-index
+    (get_or list c.loop-at.at-index 0) c.in-Known.named c.loop-at.own.items c.add_call.new.own.items c.loop-at.invariant.are c.loop-at.invariant.many
+    c.calls_of-at-items.ensures (slice_get-get_or list c.loop-at.at-index 0 below) named c.in_ok-add_call-in-Known.ensures
 
 pub loop-at-preserved : goal.loop-at-preserved
-loop-at-preserved c = elim c.if-not-is_read.branch [
-  | then-not-is_read+in_ok-push-in-Known w ↦
-      let list : List ℕ = c.calls_of-at-items.result.now in
-      let below : c.loop-at.at-index < length list = omega arith in
-      let noted = rw c.deref-in-loop-at.ensures.value at (rw c.deref.ensures.value at c.in-Known.ensures) in
-      rw w.offers-is (rw w.in_ok-push-in-Known.ensures.items
-      (offer_more c.args.ranks.now c.args.views.now c.args.run.now.values.items c.args.run.now.comms.items c.args.members.now c.loop-at.offers.items c.args.member c.args.place
-      list c.loop-at.at-index (get_or list c.loop-at.at-index 0) c.in-Known.offer c.loop-at.invariant c.requires.member c.calls_of-at-items.ensures
-      (slice_get-get_or list c.loop-at.at-index 0 below) noted))
-  | else-not-is_read w ↦ rw w.offers-is c.loop-at.invariant
-]
+loop-at-preserved c =
+    let list : List ℕ = c.calls_of-at-items.result.now in
+    let below : c.loop-at.at-index < length list = omega arith in
+    let named = rw c.deref-in-loop-at.ensures.value at (rw c.deref.ensures.value at c.in-Known.ensures) in
+    let longer = adds_length c.loop-at.own.items c.add_call.new.own.items c.in-Known.named c.args.place c.in_ok-add_call-in-Known.ensures in
+    record {
+      many = longer ∙ ap (λ (n : ℕ). n + 1) c.loop-at.invariant.many;
+      are = own_more c.args.ranks.now c.args.views.now c.args.run.now.values.items c.args.run.now.comms.items c.args.member c.args.place list c.loop-at.at-index
+          (get_or list c.loop-at.at-index 0) c.in-Known.named c.loop-at.own.items c.add_call.new.own.items c.loop-at.invariant.are c.loop-at.invariant.many
+          c.calls_of-at-items.ensures (slice_get-get_or list c.loop-at.at-index 0 below) named c.in_ok-add_call-in-Known.ensures;
+    }

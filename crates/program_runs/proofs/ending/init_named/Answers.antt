@@ -12,5 +12,5 @@ returns-in_ok-names-in-Ok g c =
 
 pub returns-in-Err : goal.returns-in-Err
 returns-in-Err g c =
-    if_both c.refused_init.result _ _ _ (λ e status errors. inr (c.in-Err.fault, c.in-Err.ensures.err, refl, refl, status, errors))
-    c.refused_init.ensures.status c.refused_init.ensures.errors
+    if_both c.refused_word.result _ _ _ (λ e status errors. inr (c.in-Err.fault, c.in-Err.ensures.err, refl, refl, status, errors))
+    c.refused_word.ensures.status c.refused_word.ensures.errors

@@ -6,10 +6,6 @@ use Rattle.run_inputs.specs.Inputs.{HasRank}
 use Rattle.program_runs.proofs.Endings.{ran_over}
 use Rattle.program_runs.proofs.ending.over_input.Goals as goal
 
-pub run_with-ran-requires : goal.run_with-ran-requires
-run_with-ran-requires g c =
-    record { rank = subst (λ (l : Parts). HasRank (asked_rank c.args.verb) l) (sym c.new.ensures.layout) c.requires.rank }
-
 pub returns : goal.returns
 returns g c =
     let file = g.O.Opener.file c.args.files.now in

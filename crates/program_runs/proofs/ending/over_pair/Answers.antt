@@ -7,10 +7,6 @@ use Rattle.program_runs.specs.Endings.{EndsKept}
 use Rattle.program_runs.proofs.Endings.{if_both, shown_so}
 use Rattle.program_runs.proofs.ending.over_pair.Goals as goal
 
-pub over_kept-requires : goal.over_kept-requires
-over_kept-requires g c =
-    let has : HasRank (asked_rank c.args.verb) c.in-Ok.input.layout = rw c.asked_rank.ensures at c.in-Ok.ensures.rank in record { rank = has }
-
 pub returns-in-Ok : goal.returns-in-Ok
 returns-in-Ok g c =
     IfOk-weaker c.over_kept.result _ _ (λ e h. inl (

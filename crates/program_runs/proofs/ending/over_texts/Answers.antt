@@ -25,10 +25,6 @@ returns-in-Err-has_rank g c =
     (λ e status shown. inr (file, c.in-Ok.ensures.seen, made, c.in-Ok.ensures.made.0, inr (lacks, refl, status, subst (λ (n : ℕ). IsInitShown (g.O.Opener.file c.args.files.now) c.args.how.0 (NoRank n) (string_bytes e.errors)) ranks shown)))
     c.showing_init-in-Err-has_rank.ensures.status c.showing_init-in-Err-has_rank.ensures.errors
 
-pub over_input-requires : goal.over_input-requires
-over_input-requires g c =
-    let has : HasRank (asked_rank c.args.how.0) c.in-Ok.read.0.made.input.layout = rw c.asked_rank.ensures at c.in_default-has_rank.ensures.ok in record { rank = has }
-
 pub returns : goal.returns
 returns g c =
     let made = c.in-Ok.read.0.made in

@@ -49,7 +49,16 @@ returns-in-Err g c =
     (subst (λ (l : List ℕ). IsPutFault l (string_bytes c.in_ok-layout.manifest) c.in-Err.fault c.put_fault.result) c.in_ok-layout.ensures.layout c.put_fault.ensures) in
     inr (inl (
       of,
-      inr record { why = c.in-Err.fault; told = told; cause = c.in-Err.ensures.cause; left = c.in-Err.ensures.err },
+      inr record {
+        layout = c.in_ok-both.both.layout.items;
+        manifest = c.in_ok-both.both.manifest.items;
+        are = c.in_ok-both.ensures.ok;
+        why = c.in-Err.fault;
+        told = told;
+        cause = c.in-Err.ensures.cause;
+        nothing = c.in-Err.ensures.err;
+        left = c.in-Err.ensures.left;
+      },
       Keeps-refl (g.W.Write.written c.args.out.now),
     ))
 

@@ -4,7 +4,7 @@ use Rattle.json.specs.Tree.{items_tokens, json_tokens}
 use Rattle.mpi_model.specs.Communicators.{Communicator}
 use Rattle.mpi_model.specs.declared.layout.comm.Stretch.{Stretch}
 use Rattle.run_files.specs.Values.{entry_value, items_of, number_of}
-use Rattle.run_files.proofs.Putting.{one, reads, then}
+use Rattle.text_layouts.proofs.Putting.{one, reads, then}
 use Rattle.text_layouts.specs.Found.{name_value, object_word}
 use Rattle.text_layouts.proofs.found.put_comm.Goals as goal
 

@@ -4,7 +4,7 @@ use Rattle.json.specs.Tree.{items_tokens}
 use Rattle.mpi_model.specs.Communicators.{Communicator}
 use Rattle.comm_makings.specs.declared.answer.LeftOut.{LeftOut}
 use Rattle.run_files.specs.Values.{items_of}
-use Rattle.run_files.proofs.Putting.{one, reads, then}
+use Rattle.text_layouts.proofs.Putting.{one, reads, then}
 use Rattle.text_layouts.specs.Found.{comm_value, left_value}
 use Rattle.text_layouts.proofs.found.put_found.Goals as goal
 

@@ -1,6 +1,6 @@
 use Rattle.std.proofs.Common.{◌∷◌, [], ℕ, List, ap, codes}
 use Rattle.json.specs.Token.{key, string}
-use Rattle.run_files.proofs.Putting.{one, reads, then}
+use Rattle.text_layouts.proofs.Putting.{one, reads, then}
 use Rattle.text_layouts.proofs.found.put_left.Goals as goal
 
 pub returns : goal.returns

@@ -1,4 +1,4 @@
-use Rattle.run_files.proofs.Putting.{one, reads, so_far, then, whole_array}
+use Rattle.text_layouts.proofs.Putting.{one, reads, so_far, then, whole_array}
 use Rattle.text_layouts.specs.Found.{left_value}
 use Rattle.text_layouts.proofs.found.put_left_out.Goals as goal
 

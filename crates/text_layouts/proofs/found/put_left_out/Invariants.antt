@@ -1,6 +1,6 @@
 use Rattle.std.proofs.Common.{◌≡◌, ◌++◌, ◌∷◌, take}
 use Rattle.json.specs.Token.{begin_array}
-use Rattle.run_files.proofs.Putting.{tokens_of}
+use Rattle.text_layouts.proofs.Putting.{tokens_of}
 use Rattle.text_layouts.specs.Found.{left_value}
 use Rattle.text_layouts.proofs.found.put_left_out.Given as goal
 

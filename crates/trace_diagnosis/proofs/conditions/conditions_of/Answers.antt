@@ -1,12 +1,10 @@
-use Rattle.std.proofs.Common.{◌≡◌, ◌∙◌, ◌≤◌, ◌++◌, ℕ, List, Option, ap, arith, drop, length, map, subst, sym, take}
-use Rattle.std.specs.Option.{option_map}
+use Rattle.std.proofs.Common.{◌≡◌, ◌∙◌, List, Option, ap, arith, length, map, subst, sym}
 use Rattle.std.proofs.lemmas.List.{length-map, take_at}
 use Rattle.trace_pair.specs.declared.pair.Pair.{Pair}
 use Rattle.trace_stuck.specs.Shape.{Wait, shape}
 use Rattle.trace_stuck.specs.declared.condition.Condition.{Condition}
 use Rattle.trace_wait.specs.Conditions.{conditions_from, conditions_of, run_of}
 use Rattle.trace_wait.specs.Polls.{asked_of}
-use Rattle.trace_wait.specs.declared.polls.Poll.{Poll}
 use Rattle.trace_wait.specs.declared.round.Round.{Round}
 use Rattle.trace_diagnosis.specs.Askers.{AreDropped, asked_plain, asker, shapes}
 use Rattle.trace_diagnosis.specs.Conditions.{asked, asked_at, has_gone_on}

@@ -1,7 +1,7 @@
-use Rattle.std.proofs.Common.{◌∙◌, Bool, List, None, Option, ap, if◌then◌else◌, map, set, sym}
+use Rattle.std.proofs.Common.{◌∙◌, Bool, None, ap, if◌then◌else◌, set, sym}
 use Rattle.std.specs.Option.{option_map}
 use Rattle.std.proofs.lemmas.List.{map-set}
-use Rattle.trace_stuck.specs.Shape.{Wait, shape}
+use Rattle.trace_stuck.specs.Shape.{shape}
 use Rattle.trace_diagnosis.specs.Askers.{shapes}
 use Rattle.trace_diagnosis.proofs.conditions.drop_at.Goals as goal
 

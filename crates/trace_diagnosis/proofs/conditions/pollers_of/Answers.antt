@@ -1,4 +1,4 @@
-use Rattle.std.proofs.Common.{◌∙◌, ◌++◌, [], Bool, List, ℕ, ap, arith, if◌then◌else◌, length, map}
+use Rattle.std.proofs.Common.{◌∙◌, ◌++◌, [], Bool, ap, arith, if◌then◌else◌, length, map}
 use Rattle.trace_know.specs.Prefix.{events_of}
 use Rattle.trace_diagnosis.specs.Askers.{poller_plain}
 use Rattle.trace_diagnosis.specs.Tails.{polling_at, polling_by, polls_from, tail_first}

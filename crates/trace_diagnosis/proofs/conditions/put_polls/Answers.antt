@@ -1,8 +1,6 @@
-use Rattle.std.proofs.Common.{◌≡◌, ◌∙◌, ◌<◌, ◌+◌, ◌-◌, ◌++◌, ℕ, List, ap, arith, drop, length, map, subst, sym, take}
+use Rattle.std.proofs.Common.{◌≡◌, ◌∙◌, ◌<◌, ◌+◌, ◌-◌, ℕ, ap, arith, drop, length, subst, sym, take}
 use Rattle.std.specs.List.{flat_map}
-use Rattle.trace_stuck.specs.Shape.{Wait, shape}
 use Rattle.trace_diagnosis.specs.Askers.{ArePut}
-use Rattle.trace_diagnosis.specs.declared.conditions.Poller.{Poller}
 use Rattle.trace_diagnosis.proofs.Lists.{flat_map_more}
 use Rattle.trace_diagnosis.proofs.Putting.{put_more}
 use Rattle.trace_diagnosis.proofs.conditions.put_polls.Goals as goal

@@ -1,4 +1,4 @@
-use Rattle.std.proofs.Common.{◌≡◌, ◌-◌, ℕ, List, drop, length, map, take}
+use Rattle.std.proofs.Common.{◌≡◌, ◌-◌, List, drop, length, map, take}
 use Rattle.std.specs.List.{flat_map}
 use Rattle.trace_stuck.specs.Shape.{Wait, shape}
 use Rattle.trace_diagnosis.specs.Askers.{ArePut}

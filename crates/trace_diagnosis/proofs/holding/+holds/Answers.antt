@@ -1,7 +1,4 @@
-use Rattle.std.proofs.Common.{◌∙◌, ap}
-use Rattle.trace_stuck.specs.declared.condition.Condition.{Condition}
-use Rattle.trace_stuck.specs.Shape.{shape}
-use Rattle.trace_diagnosis.specs.Holding.{going, holds}
+use Rattle.trace_diagnosis.specs.Holding.{going}
 use Rattle.trace_diagnosis.proofs.Holds.{holds_Yes, holds_Rank, holds_Mismatched, holds_All, holds_One, holds_OneRank, holds_AllRanks}
 use Rattle.trace_diagnosis.proofs.holding.+holds.Goals as goal
 

@@ -1,7 +1,7 @@
 use Rattle.std.proofs.Common.{◌≡◌, ◌++◌, take}
-use Rattle.std.specs.List.{flat_map, list_any}
+use Rattle.std.specs.List.{flat_map}
 use Rattle.trace_stuck.specs.Shape.{shape}
-use Rattle.trace_diagnosis.specs.Holding.{going, holds}
+use Rattle.trace_diagnosis.specs.Holding.{going}
 use Rattle.trace_diagnosis.specs.Parts.{may_need, unmet}
 use Rattle.trace_diagnosis.proofs.holding.+needs.Given as goal
 

@@ -1,6 +1,6 @@
 use Rattle.std.proofs.Common.{◌≡◌, ◌∙◌, ◌<◌, ◌≤◌, ◌+◌, ◌-◌, ℕ, Bool, true, false, ap, arith, sym, if◌then◌else◌}
 use Rattle.trace_diagnosis.specs.Called.{count_of}
-use Rattle.trace_diagnosis.specs.Tails.{first_from, is_poll_part, part_in, polls_from, stands_in, tail_first}
+use Rattle.trace_diagnosis.specs.Tails.{first_from, is_poll_part, part_in, polls_from, stands_in}
 use Rattle.trace_diagnosis.proofs.Tailing.{first_here, first_more, polls_more}
 use Rattle.trace_diagnosis.proofs.polls.tail_of.Goals as goal
 

@@ -1,10 +1,22 @@
-use Rattle.std.proofs.Common.{arith, length}
+use Rattle.std.proofs.Common.{arith}
 use Rattle.std.proofs.lemmas.Result.{on_ok_weaker}
+use Rattle.trace_diagnosis.proofs.Covering.{covers_joined, covers_still}
 use Rattle.trace_diagnosis.proofs.Rooted.{adds_join}
 use Rattle.trace_diagnosis.proofs.roots.join_at.Goals as goal
 
-pub returns : goal.returns
-returns c = on_ok_weaker c.join.result
+pub returns-clause-sound : goal.returns-clause-sound
+returns-clause-sound c = on_ok_weaker c.join.result
     (λ j. adds_join c.args.roots.now.items c.args.place c.index_mut.result.now c.args.root.now c.join.new.into
-    (omega (arith, c.requires.place, c.args.roots.now.ok)) c.index_mut.ensures.value c.requires.ranks j)
+    (omega (arith, c.requires.place, c.args.roots.now.ok)) c.index_mut.ensures.value c.requires.ranks j.sound)
+    c.join.ensures
+
+pub returns-clause-kept : goal.returns-clause-kept
+returns-clause-kept c = on_ok_weaker c.join.result
+    (λ j. covers_still c.args.roots.now.items c.args.place (omega (arith, c.requires.place, c.args.roots.now.ok)) c.index_mut.result.now c.args.root.now c.join.new.into c.index_mut.ensures.value j.kind j.ranks)
+    c.join.ensures
+
+pub returns-clause-there : goal.returns-clause-there
+returns-clause-there c = on_ok_weaker c.join.result
+    (λ j. covers_joined c.args.roots.now.items c.args.place (omega (arith, c.requires.place, c.args.roots.now.ok)) c.index_mut.result.now c.args.root.now c.join.new.into c.index_mut.ensures.value j.kind j.ranks
+    (c.requires.kind c.index_mut.result.now c.index_mut.ensures.value))
     c.join.ensures

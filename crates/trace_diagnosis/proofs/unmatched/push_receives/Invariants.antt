@@ -1,6 +1,7 @@
-use Rattle.std.proofs.Common.{All}
-use Rattle.trace_diagnosis.specs.Missed.{IsNearReceive}
+use Rattle.std.proofs.Common.{◌≡◌, ◌++◌, take}
+use Rattle.std.specs.List.{flat_map}
+use Rattle.trace_diagnosis.specs.Nearest.{near_receive_at}
 use Rattle.trace_diagnosis.proofs.unmatched.push_receives.Given as goal
 
 abbrev pub invariant-loop-place : goal.invariant-loop-place
-invariant-loop-place l = All (IsNearReceive l.m) l.fn.near.items → All (IsNearReceive l.m) l.near.items
+invariant-loop-place l = l.near.items ≡ l.fn.near.items ++ flat_map (near_receive_at l.why l.m l.receives) (take l.place-index l.places)

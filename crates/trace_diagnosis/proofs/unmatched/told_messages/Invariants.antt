@@ -6,5 +6,5 @@ use Rattle.trace_diagnosis.proofs.unmatched.told_messages.Given as goal
 abbrev pub invariant-loop-m : goal.invariant-loop-m
 invariant-loop-m l = record {
   messages : map (λ t. t.message) l.told.items ≡ filter (is_told l.run.held.now l.run.waits.now) (take l.m-index l.m-items);
-  near : All HasNearReceives l.told.items;
+  near : All (HasNearReceives l.found.starving.items) l.told.items;
 }

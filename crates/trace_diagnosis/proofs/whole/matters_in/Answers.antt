@@ -1,6 +1,5 @@
 use Rattle.std.proofs.Common.{◌∙◌, ap, inl, map, sym}
-use Rattle.trace_diagnosis.specs.Askers.{case_conditions}
-use Rattle.trace_diagnosis.specs.Conditions.{does_wait}
+use Rattle.trace_diagnosis.specs.Askers.{asker, case_conditions}
 use Rattle.trace_diagnosis.specs.Holding.{is_held}
 use Rattle.trace_diagnosis.specs.Waiting.{held_told}
 use Rattle.trace_diagnosis.proofs.Nobody.{case_none, none_held, unmatched_none}
@@ -22,5 +21,6 @@ pub returns-then-not-has_matters-clause-unmatched : goal.returns-then-not-has_ma
 returns-then-not-has_matters-clause-unmatched c =
     let case = c.args.case.now in
     let told = c.in_ok-nothing.ensures in
-    unmatched_none case.ops.now case.answer.now.pairs (map is_held (case_conditions case)) (map does_wait (case_conditions case)) c.in_ok-nothing.nothing.unmatched
-    (c.has_matters.ensures.loose c.if-not-has_matters.true) told.left_over told.starving told.unfinished
+    let no = c.if-not-has_matters.true in
+    unmatched_none case.layout.now case.ops.now case.answer.now.pairs (map asker case.pollers.now) (map is_held (case_conditions case)) (case_conditions case) c.in_ok-nothing.nothing.unmatched
+    (c.has_matters.ensures.loose no) (case_none case (c.has_matters.ensures.waits no) (c.has_matters.ensures.polls no)) told.left_over told.starving told.unfinished

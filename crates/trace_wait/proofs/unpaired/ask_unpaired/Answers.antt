@@ -21,4 +21,4 @@ returns c = λ before last.
     let pairs = c.args.pairs.now in
     subst (λ (l : List Receive). AreLast l c.insert.new.self)
     (put_free pairs q before (sym c.is_void.ensures ∙ c.if-is_void.false) (has_none (given_by pairs q.name) (sym c.is_given.ensures ∙ c.if-is_given.false)))
-    (last_behind before q c.insert.new.self (c.in_ok-insert.ensures before last))
+    (last_behind before q c.insert.new.self (c.in_ok-insert.ensures.more before last))

@@ -1,4 +1,7 @@
+use Rattle.std.proofs.Common.{List, subst, sym}
+use Rattle.trace_pair.specs.Searched.{ArePairs}
+use Rattle.trace_pair.specs.declared.pair.Pair.{Pair}
 use Rattle.call_table.proofs.partners.Partners.of_pairs.Goals as goal
 
 pub invariant_of-result : goal.invariant_of-result
-invariant_of-result c = record { pairs_are = c.requires; by_receive = c.in_ok-places.ensures.sorted; all = λ i lt. c.in_ok-places.ensures.all i lt }
+invariant_of-result c = subst (λ (l : List Pair). ArePairs l) (sym c.in_ok-by_receive.ensures) c.requires

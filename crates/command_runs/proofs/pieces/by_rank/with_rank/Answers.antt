@@ -1,20 +1,7 @@
-use Rattle.std.proofs.Common.{◌≡◌, sym, subst}
-use Rattle.trace_know.specs.View.{View}
-use Rattle.trace_node.specs.ByRank.{IsOfRank}
-use Rattle.command_runs.specs.Traces.{IsKnown}
-use Rattle.command_runs.proofs.ByRank.{known_of, own_refused}
-use Rattle.command_runs.proofs.Runs.{handed_on}
 use Rattle.command_runs.proofs.pieces.by_rank.with_rank.Goals as goal
-
-pub returns-in_err-gathered-clause-err : goal.returns-in_err-gathered-clause-err
-returns-in_err-gathered-clause-err g c =
-    handed_on c.from_residual.result _ _ c.from_residual.ensures.1
-    (own_refused (g.O.Opener.file c.args.run.now.files.now) c.args.run.now.layout.now.ranks c.args.rank c.args.pieces.now c.in_err-gathered.field-0.0 c.requires.rank c.requires.own c.in_err-gathered.ensures.err)
 
 pub returns-clause-ok : goal.returns-clause-ok
 returns-clause-ok g c =
-    let file = g.O.Opener.file c.args.run.now.files.now in
-    let know : View = c.in_ok-know.know in
-    let known : IsKnown file c.args.pieces.now know = subst (λ (v : View). IsKnown file c.args.pieces.now v) (sym c.in_ok-know.ensures) c.in_ok-gathered.ensures.ok in
-    let of : IsOfRank know c.args.rank = known_of c.view_laws.ensures.cells (λ r. r ≡ c.args.rank) file c.args.pieces.now know known c.requires.own in
-    (know, known, λ view was. c.in_ok-more.ensures view was of)
+    let one = c.in_ok-one.ensures.ok in
+    let jobs = c.args.ranks.now in
+    (one.0, one.1, λ view was. c.in_ok-more.ensures jobs.run.now.layout.now c.args.rank one.0 one.3 view was one.2)

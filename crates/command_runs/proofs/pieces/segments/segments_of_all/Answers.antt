@@ -1,40 +1,49 @@
-use Rattle.std.proofs.Common.{rules, arith, ◌≡◌, ◌∙◌, ◌+◌, ◌<◌, ◌++◌, ◌∷◌, [], ap, sym, inr, length, take}
+use Rattle.std.proofs.Common.{rules, arith, refl, ◌≡◌, ◌∙◌, ◌+◌, ◌<◌, ◌++◌, ◌∷◌, [], ap, sym, inr, length, take}
 use Rattle.std.proofs.lemmas.List.{take_more}
 use Rattle.run_files.specs.Manifests.{PieceParts}
-use Rattle.command_runs.specs.Pieces.{RefusesPiece, TellsSegments}
+use Rattle.command_runs.specs.Pieces.{AreSegmentsOf, RefusesPiece, TellsSegments}
 use Rattle.command_runs.specs.Schedules.{held_lists}
+use Rattle.command_runs.proofs.ReadAhead.{here, there}
 use Rattle.command_runs.proofs.Segments.{first_refused, segments_later}
 use Rattle.command_runs.proofs.Runs.{handed_on}
 use Rattle.command_runs.proofs.pieces.segments.segments_of_all.Goals as goal
 
-pub loop-piece-init : goal.loop-piece-init
-loop-piece-init g c = record { told = search rules }
+pub loop-place-init : goal.loop-place-init
+loop-place-init g c = record { listed = search rules; files = search rules; told = search rules }
 
-pub loop-piece-preserved : goal.loop-piece-preserved
-loop-piece-preserved g c =
+pub loop-place-preserved : goal.loop-place-preserved
+loop-place-preserved g c =
     let file = g.O.Opener.file c.args.files.now in
-    let below : c.loop-piece.piece-index < length c.args.pieces.now = omega arith in
-    let more : take (c.loop-piece.piece-index + 1) c.args.pieces.now ≡ take c.loop-piece.piece-index c.args.pieces.now ++ c.piece-item.result ∷ [] =
-    take_more c.args.pieces.now c.loop-piece.piece-index c.piece-item.result below
-    ∙ ap (λ (p : PieceParts). take c.loop-piece.piece-index c.args.pieces.now ++ p ∷ []) (sym c.piece-item.is) in
-    let told : TellsSegments (file c.piece-item.result.file) c.piece-item.result.rank c.piece-item.result.first c.in_ok-segments.segments.items =
-    c.in_ok-segments.ensures.segments in
-    let told : TellsSegments (file c.piece-item.result.file) c.piece-item.result.rank c.piece-item.result.first c.in_ok-shared.field-0.items = rw c.in_ok-shared.ensures told in
-    let pushed : c.push.new.self.items ≡ c.loop-piece.lists.items ++ c.in_ok-shared.field-0 ∷ [] = search rules in
+    let pieces = c.args.pieces.now in
+    let place = c.loop-place.place in
+    let i = c.loop-place.invariant in
+    let below : place < length pieces = omega arith in
+    let piece = (there pieces place below).0 in
+    let more : take (place + 1) pieces ≡ take place pieces ++ piece ∷ [] =
+    take_more pieces place piece below ∙ ap (λ (p : PieceParts). take place pieces ++ p ∷ []) (sym (there pieces place below).1) in
+    let told : TellsSegments (file piece.file) piece.rank piece.first c.in_ok-segments.segments.items =
+    here (λ f p. AreSegmentsOf f p c.in_ok-segments.segments.items) _ file _ pieces _ place piece (ap g.O.Opener.file i.files) i.listed refl (there pieces place below).1 c.in_ok-segments.ensures.ok in
+    let told : TellsSegments (file piece.file) piece.rank piece.first c.in_ok-shared.field-0.items = rw c.in_ok-shared.ensures told in
+    let pushed : c.push.new.self.items ≡ c.loop-place.lists.items ++ c.in_ok-shared.field-0 ∷ [] = search rules in
     record {
-      told = segments_later file (take c.loop-piece.piece-index c.args.pieces.now) _ c.piece-item.result c.loop-piece.lists.items _ c.in_ok-shared.field-0
-          more pushed c.loop-piece.invariant.told told;
+      listed = search rules;
+      files = search rules;
+      told = segments_later file (take place pieces) _ piece c.loop-place.lists.items _ c.in_ok-shared.field-0 more pushed i.told told;
     }
 
 pub returns-in_err-segments-clause-err : goal.returns-in_err-segments-clause-err
 returns-in_err-segments-clause-err g c =
     let file = g.O.Opener.file c.args.files.now in
-    let below : c.loop-piece.piece-index < length c.args.pieces.now = omega arith in
-    let more : take (c.loop-piece.piece-index + 1) c.args.pieces.now ≡ take c.loop-piece.piece-index c.args.pieces.now ++ c.piece-item.result ∷ [] =
-    take_more c.args.pieces.now c.loop-piece.piece-index c.piece-item.result below
-    ∙ ap (λ (p : PieceParts). take c.loop-piece.piece-index c.args.pieces.now ++ p ∷ []) (sym c.piece-item.is) in
-    let refuses : RefusesPiece c.piece-item.result.file c.piece-item.result.first (file c.piece-item.result.file) c.in_err-segments.field-0.0 =
-    c.in_err-segments.ensures.err in
-    handed_on c.from_residual.result _ _ c.from_residual.ensures.1
-    (inr (first_refused c.whole_segments.ensures file c.args.pieces.now c.loop-piece.piece-index c.piece-item.result (held_lists c.loop-piece.lists.items) c.in_err-segments.field-0.0
-    more c.loop-piece.invariant.told refuses))
+    let pieces = c.args.pieces.now in
+    let place = c.loop-place.place in
+    let i = c.loop-place.invariant in
+    let below : place < length pieces = omega arith in
+    let piece = (there pieces place below).0 in
+    let more : take (place + 1) pieces ≡ take place pieces ++ piece ∷ [] =
+    take_more pieces place piece below ∙ ap (λ (p : PieceParts). take place pieces ++ p ∷ []) (sym (there pieces place below).1) in
+    let fault = c.in_err-segments.field-0.0 in
+    let refuses : RefusesPiece piece.file piece.first (file piece.file) fault =
+    here (λ f p. RefusesPiece p.file p.first (f p.file) fault) _ file _ pieces _ place piece (ap g.O.Opener.file i.files) i.listed refl (there pieces place below).1 c.in_err-segments.ensures.err in
+    handed_on c.from_residual-in_err-segments.result _ _ c.from_residual-in_err-segments.ensures.1
+    (inr (first_refused c.whole_segments.ensures file pieces place piece (held_lists c.loop-place.lists.items) fault
+    more i.told refuses))

@@ -15,7 +15,7 @@ index_mut-requires c =
 
 pub returns-in_ok-on_unread-in-Some-clause-ok : goal.returns-in_ok-on_unread-in-Some-clause-ok
 returns-in_ok-on_unread-in-Some-clause-ok c =
-    let old : Noted = record { events = c.self.inside.collect; calls = c.self.inside.calls; unread = c.self.inside.unread.items } in
+    let old : Noted = record { events = c.self.inside.collect; calls = c.self.inside.calls; unread = c.self.inside.unread.items; needs = record { local = c.self.inside.local.items; last_size = c.self.inside.last_size; compares = c.self.inside.compares } } in
     let call : Seen = seen (OnUnread c.args.name.now) c.args.call c.args.enter c.args.exit in
     let place : place_of c.args.name.now c.self.inside.unread.items ≡ Some c.in-Some.at = cc in
     noted_at old call c.args.name.now c.in-Some.at c.index_mut.result.now c.add.new.self c.on_unread.new.self _ refl place c.index_mut.ensures.value c.add.ensures
@@ -24,7 +24,7 @@ returns-in_ok-on_unread-in-Some-clause-ok c =
 
 pub returns-in_ok-push-in-None-clause-ok : goal.returns-in_ok-push-in-None-clause-ok
 returns-in_ok-push-in-None-clause-ok c =
-    let old : Noted = record { events = c.self.inside.collect; calls = c.self.inside.calls; unread = c.self.inside.unread.items } in
+    let old : Noted = record { events = c.self.inside.collect; calls = c.self.inside.calls; unread = c.self.inside.unread.items; needs = record { local = c.self.inside.local.items; last_size = c.self.inside.last_size; compares = c.self.inside.compares } } in
     let call : Seen = seen (OnUnread c.args.name.now) c.args.call c.args.enter c.args.exit in
     let place : place_of c.args.name.now c.self.inside.unread.items ≡ None = cc in
     let more : c.push.new.self.items ≡ c.self.inside.unread.items ++ c.in_ok-function-in-None.function ∷ [] =

@@ -3,8 +3,8 @@ use Rattle.std.specs.Prelude.{unwrap_or}
 use Rattle.std.specs.BTreeMap.{get}
 use Rattle.call_arguments.specs.Known.{ToldParts}
 use Rattle.trace_wait.specs.Patterns.{Place, place_cmp}
-use Rattle.trace_wait.proofs.Keys.{place_same}
 use Rattle.trace_arguments.proofs.Added.{absent, there}
+use Rattle.trace_arguments.proofs.Keys.{place_same}
 use Rattle.trace_arguments.proofs.calls.CallsTold.add.Goals as goal
 
 pub returns-then-has : goal.returns-then-has

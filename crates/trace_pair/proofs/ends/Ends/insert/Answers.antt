@@ -7,8 +7,8 @@ use Rattle.trace_pair.specs.KeyOrders.{receive_key_cmp, receive_key_of}
 use Rattle.trace_pair.proofs.Latest.{last_more}
 use Rattle.trace_pair.proofs.ends.Ends.insert.Goals as goal
 
-pub returns : goal.returns
-returns c = λ opened s.
+pub returns-clause-more : goal.returns-clause-more
+returns-clause-more c = λ opened s.
     let q = c.args.q.now in
     let old = c.args.self.now in
     last_more opened old s q _ c.marked-self.ensures

@@ -1,5 +1,0 @@
-use Rattle.comm_makings.specs.ByGroups.{AreOfCalls}
-use Rattle.comm_makings.proofs.by_groups.kth_calls.Given as goal
-
-abbrev pub invariant-loop-offer : goal.invariant-loop-offer
-invariant-loop-offer l = AreOfCalls l.calls l.kth.items
