@@ -16,3 +16,6 @@ pub mod Flagged
 pub mod TurnedRound
 pub mod Components
 pub mod Found
+pub mod Reached
+pub mod Alone
+pub mod Behind

@@ -21,7 +21,3 @@ HasAlike parts condition = (k : ℕ) × (part : Condition) × (slice_get parts k
 -- of each condition, whether it holds where just these ranks can go on
 abbrev pub held : (ℕ → Bool) → List (Option Condition) → List (Option Bool)
 held able conditions = map (option_map (holds able)) conditions
-
--- Each of the first conditions holds where the other at its place does.
-abbrev pub AllHoldAlike : List (Option Condition) → List (Option Condition) → Type 0
-AllHoldAlike first second = (able : ℕ → Bool) → held able first ≡ held able second

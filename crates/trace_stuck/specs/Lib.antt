@@ -12,3 +12,4 @@ pub mod Chains
 pub mod Graph
 pub mod Hearts
 pub mod Search
+pub mod Nodes

@@ -1,16 +1,17 @@
-//! Conditions in which no rank and no list of ranks comes twice among the parts of an all-of or a one-of.
+//! Conditions that wait for nodes in place of lists, and in which no part comes twice in an all-of or a one-of.
 //!
-//! A call may list one request many times, and many requests may wait for one of the same members. The search for stuck
-//! ranks then goes through one list in place of them all. An equal part is looked for where the last part of its kind
-//! was kept: a guess, which is compared before it is believed. So a part costs one comparison, whatever stands before
-//! it.
+//! A call may list one request many times, and many requests may wait for one of the same members. Their parts are then
+//! one node, and stand in the condition once. An equal part is looked for where the last part of its kind was kept: a
+//! guess, which is compared before it is believed. So a part costs one comparison, whatever stands before it.
+//!
+//! A part may name what is no rank, which never goes on. No such number is left, since it would name a node.
 
-ghost use Rattle.std.specs.Prelude.{◌≡◌, ◌++◌, ◌∷◌, [], ℕ, Bool, Some, IsTrue, IfOk, IfSome, OnOk, slice_get};
-ghost use Rattle.std.specs.Option.{option_map};
-ghost use Rattle.trace_stuck.specs.Holds.{holds};
-ghost use Rattle.trace_stuck.specs.Distinct.{AllHoldAlike, HasAlike, HoldAlike, PartsHoldAlike};
+ghost use Rattle.std.specs.Prelude.{◌≡◌, ◌++◌, ◌∷◌, [], Some, IsTrue, IfOk, IfSome, OnOk, slice_get, vec_len};
+ghost use Rattle.trace_stuck.specs.Distinct.{HasAlike, HoldAlike, PartsHoldAlike};
+ghost use Rattle.trace_stuck.specs.Nodes.{GoAs, GoesAs, HoldsAs, HoldsAsAll, HoldsAsOne, HoldsAsRank, PartsHoldAs, PartsHoldAsRanks};
 
 use crate::condition::Condition;
+use crate::nodes::{Nodes, are_below, node_of};
 use std::alloc::{AllocError, Global};
 use std::sync::Arc;
 
@@ -87,7 +88,7 @@ fn are_equal(first: &[u32], second: &[u32]) -> bool
 }
 
 /// Whether both are one rank, or of both kinds the same list of ranks.
-fn is_repeated(first: &Condition, second: &Condition) -> bool
+pub(crate) fn is_repeated(first: &Condition, second: &Condition) -> bool
     ensures { IsTrue result → HoldAlike first.now second.now }
 {
     match (first, second) {
@@ -120,33 +121,87 @@ fn keep(kept: &mut Vec<Condition>, guesses: &mut [usize], part: Condition) -> Re
     Ok(())
 }
 
-/// The condition, without the parts that come twice. Lists of ranks are shared with it.
+/// The rank, where there is such a rank, and otherwise what never holds.
+fn rank_of(alloc: Global, nodes: &Nodes, r: u32) -> Condition
+    ensures { HoldsAsRank nodes.now.count nodes.now.lists.items result r }
+{
+    if (r as usize) < nodes.count {
+        Condition::Rank(r)
+    } else {
+        Condition::One(Vec::new(alloc))
+    }
+}
+
+/// A part for each of these ranks.
+fn ranks_of(alloc: Global, nodes: &Nodes, ranks: &[u32]) -> Result<Vec<Condition>, AllocError>
+    ensures { IfOk result (λ parts. PartsHoldAsRanks nodes.now.count nodes.now.lists.items parts.items ranks.now) }
+{
+    let mut parts = Vec::new(alloc);
+    for r in ranks {
+        parts.push(rank_of(alloc, nodes, *r))?;
+    }
+    Ok(parts)
+}
+
+/// One of these ranks: their list is shared where all of them are there.
+fn one_rank_of(alloc: Global, nodes: &Nodes, ranks: &Arc<Vec<u32>>) -> Result<Condition, AllocError>
+    ensures { IfOk result (λ c. HoldsAsOne nodes.now.count nodes.now.lists.items c ranks.now.value.items) }
+{
+    if are_below(ranks, nodes.count) {
+        let list = Arc::try_clone(ranks)?;
+        Ok(Condition::OneRank(list))
+    } else {
+        let parts = ranks_of(alloc, nodes, ranks)?;
+        Ok(Condition::One(parts))
+    }
+}
+
+/// All of these ranks: their list is shared where all of them are there.
+fn all_ranks_of(
+    alloc: Global,
+    nodes: &Nodes,
+    ranks: &Arc<Vec<u32>>,
+) -> Result<Condition, AllocError>
+    ensures { IfOk result (λ c. HoldsAsAll nodes.now.count nodes.now.lists.items c ranks.now.value.items) }
+{
+    if are_below(ranks, nodes.count) {
+        let each = Arc::try_clone(ranks)?;
+        Ok(Condition::AllRanks(each))
+    } else {
+        let parts = ranks_of(alloc, nodes, ranks)?;
+        Ok(Condition::All(parts))
+    }
+}
+
+/// The condition, with nodes in place of lists and without the parts that come twice. Lists without a node are shared
+/// with it.
 #[cycle(distinct)]
 fn distinct_of(
     alloc: Global,
     guesses: &mut [usize],
+    nodes: &Nodes,
     condition: &Condition,
 ) -> Result<Condition, AllocError>
-    ensures { IfOk result (λ c. HoldAlike c condition.now) }
+    ensures { IfOk result (λ c. HoldsAs nodes.now.count nodes.now.lists.items c condition.now) }
 {
     match condition {
         Condition::Yes => Ok(Condition::Yes),
-        Condition::Rank(r) => Ok(Condition::Rank(*r)),
+        Condition::Rank(r) => Ok(rank_of(alloc, nodes, *r)),
         Condition::All(parts) => {
-            let all = distinct_parts(alloc, guesses, parts)?;
+            let all = distinct_parts(alloc, guesses, nodes, parts)?;
             Ok(Condition::All(all))
         },
         Condition::One(parts) => {
-            let some = distinct_parts(alloc, guesses, parts)?;
+            let some = distinct_parts(alloc, guesses, nodes, parts)?;
             Ok(Condition::One(some))
         },
-        Condition::OneRank(ranks) => {
-            let list = Arc::try_clone(ranks)?;
-            Ok(Condition::OneRank(list))
+        Condition::OneRank(ranks) => match node_of(nodes, condition) {
+            Some(node) => Ok(Condition::Rank(node)),
+            None => one_rank_of(alloc, nodes, ranks),
         },
-        Condition::AllRanks(ranks) => {
-            let each = Arc::try_clone(ranks)?;
-            Ok(Condition::AllRanks(each))
+        Condition::AllRanks(ranks) => match node_of(nodes, condition) {
+            Some(node) => Ok(Condition::Rank(node)),
+            None => all_ranks_of(alloc, nodes, ranks),
         },
         Condition::Mismatched(first) => Ok(Condition::Mismatched(*first)),
     }
@@ -157,46 +212,52 @@ fn distinct_of(
 fn distinct_parts(
     alloc: Global,
     guesses: &mut [usize],
+    nodes: &Nodes,
     parts: &[Condition],
 ) -> Result<Vec<Condition>, AllocError>
-    ensures { IfOk result (λ kept. PartsHoldAlike kept.items parts.now) }
+    ensures { IfOk result (λ kept. PartsHoldAs nodes.now.count nodes.now.lists.items kept.items parts.now) }
 {
     let mut kept = Vec::new(alloc);
     for part in parts {
-        let copy = distinct_of(alloc, guesses, part)?;
+        let copy = distinct_of(alloc, guesses, nodes, part)?;
         keep(&mut kept, guesses, copy)?;
     }
     Ok(kept)
 }
 
-/// The condition of a rank, if it has one, without the parts that come twice.
-fn distinct_option(
+/// The condition of a rank, if it has one, with nodes and without the parts that come twice.
+fn distinct_at(
     alloc: Global,
     guesses: &mut [usize],
-    condition: &Option<Condition>,
+    nodes: &Nodes,
+    conditions: &[Option<Condition>],
+    r: usize,
 ) -> Result<Option<Condition>, AllocError>
-    ensures { IfOk result (λ c. (able : ℕ → Bool) → option_map (holds able) c ≡ option_map (holds able) condition.now) }
+    ensures { IfOk result (λ c. GoesAs nodes.now.count nodes.now.lists.items c conditions.now r) }
 {
-    match condition {
-        Some(told) => {
-            let copy = distinct_of(alloc, guesses, told)?;
+    match conditions.get(r) {
+        Some(Some(told)) => {
+            let copy = distinct_of(alloc, guesses, nodes, told)?;
             Ok(Some(copy))
         },
-        None => Ok(None),
+        _ => Ok(None),
     }
 }
 
-/// The conditions, each without repeated parts: each holds for the same sets of ranks as before.
+/// The conditions of all ranks, with nodes and without repeated parts: among the ranks and nodes, each holds for the
+/// same sets of ranks as before.
 pub(crate) fn distinct_conditions(
     alloc: Global,
+    nodes: &Nodes,
     conditions: &[Option<Condition>],
 ) -> Result<Vec<Option<Condition>>, AllocError>
-    ensures { IfOk result (λ v. AllHoldAlike v.items conditions.now) }
+    ensures len { IfOk result (λ v. vec_len v ≡ nodes.now.count) }
+    ensures go { IfOk result (λ v. GoAs nodes.now.count nodes.now.lists.items nodes.now.count v.items conditions.now) }
 {
     let mut guesses = no_guesses(alloc)?;
     let mut distinct = Vec::new(alloc);
-    for condition in conditions {
-        let copy = distinct_option(alloc, &mut guesses, condition)?;
+    for r in 0..nodes.count {
+        let copy = distinct_at(alloc, &mut guesses, nodes, conditions, r)?;
         distinct.push(copy)?;
     }
     Ok(distinct)

@@ -10,7 +10,7 @@ ghost use Rattle.trace_stuck.specs.Stuck.{IsStuck};
 ghost use Rattle.trace_stuck.specs.Verdicts.{left_below};
 
 use crate::condition::Condition;
-use crate::distinct::distinct_conditions;
+use crate::extended::{keep_ranks, with_nodes};
 use crate::hold::flag_at;
 use crate::release::release_all;
 use crate::state::is_rank_waiting;
@@ -72,7 +72,7 @@ fn ranks_left(alloc: Global, states: &[State], release: &[u32]) -> Result<Vec<u3
     Ok(ranks)
 }
 
-/// The order of release of all ranks that can go on, found by conditions in which no part comes twice.
+/// The order of release of all ranks that can go on, found among ranks and nodes.
 fn release_of(
     alloc: Global,
     states: &[State],
@@ -82,8 +82,9 @@ fn release_of(
     ensures order { IfOk result (λ release. IsReleaseOrder states.now conditions.now release.items) }
     ensures rest { IfOk result (λ release. IsWhole states.now conditions.now release.items) }
 {
-    let distinct = distinct_conditions(alloc, conditions)?;
-    let release = release_all(alloc, states, &distinct)?;
+    let all = with_nodes(alloc, states, conditions)?;
+    let mut release = release_all(alloc, &all.states, &all.conditions)?;
+    keep_ranks(&mut release, states.len());
     Ok(release)
 }
 
