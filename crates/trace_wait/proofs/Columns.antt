@@ -137,7 +137,7 @@ emitted c members col short first (t ∷ ts) h =
     along : (first j : ℕ) → first + suc j ≡ first + 1 + j
     along first j = omega arith
 
-pub rounds_are : (comms : List Communicator) (ops : List Ops) (c : ℕ) → length (group comms c) ≤ 1024 →
+pub rounds_are : (comms : List Communicator) (ops : List Ops) (c : ℕ) → length (group comms c) ≤ 1048576 →
     rounds_from c (length (group comms c)) 0 (tallied ops c (group comms c)) ≡ rounds_on comms ops c
 rounds_are comms ops c few =
     let members = group comms c in

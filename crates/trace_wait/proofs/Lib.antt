@@ -1,4 +1,5 @@
-pub mod Tables
+pub mod Behind
+pub mod Absent
 pub mod Columns
 pub mod Steps
 pub mod Keys

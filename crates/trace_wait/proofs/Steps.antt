@@ -1,19 +1,19 @@
 -- One element more, at the end of a list.
 use Rattle.std.proofs.Common.{◌≡◌, ℕ, ◌+◌, ◌<◌, ◌≤◌, eq-eqb, Bool, true, false, List, [], ◌∷◌, ◌++◌, map, take, get_or, refl, sym, ◌∙◌, ap, arith, length, ℤ, zero, suc}
-use Rattle.std.specs.Prelude.{◌==◌, not, nat_lt, slice_index, if◌then◌else◌, Option}
+use Rattle.std.specs.Prelude.{◌==◌, Option, Some, eqb, slice_get}
+use Rattle.std.specs.List.{IsDistinct}
 use Rattle.std.specs.Option.{option_map}
 use Rattle.std.proofs.lemmas.Bool.Decides.{nat_tests}
 use Rattle.std.proofs.lemmas.List.{take_more}
-use Rattle.std.proofs.lemmas.List.Elements.{filter_map-append, filter-append}
+use Rattle.std.proofs.lemmas.Map.Keys.{apart_from_distinct}
+use Rattle.std.proofs.lemmas.List.Elements.{filter_map-append}
 use Rattle.trace_stuck.specs.declared.condition.Condition.{Condition}
 use Rattle.trace_stuck.specs.Shape.{Wait, shape}
 use Rattle.trace_ops.specs.Ops.{Ops}
 use Rattle.trace_wait.specs.Parts.{Run}
-use Rattle.trace_wait.specs.Collectives.{has_entered, missing, lower}
+use Rattle.trace_wait.specs.Collectives.{lower}
 use Rattle.trace_wait.specs.Requests.{post_part, posted_by, requests, choice, choices}
 use Rattle.trace_wait.specs.Conditions.{condition_of, conditions_from}
-use Rattle.trace_wait.specs.Calls.{calls_of}
-use Rattle.trace_wait.proofs.Tables.{count_at}
 
 pub map_push : {X Y : Type 0} (f : X → Y) (xs : List X) (x : X) → map f (xs ++ x ∷ []) ≡ map f xs ++ f x ∷ []
 map_push f [] x = refl
@@ -42,31 +42,6 @@ conditions_step s ops r o out c lt e h k =
     ∙ ap (λ (w : Option Wait). conditions_from s 0 (take r ops) ++ w ∷ []) (k ∙ ap (condition_of s r) e)
     ∙ sym (conditions_more s 0 ops r r o (omega arith) lt)
 
--- one member more that has entered the round, or has not
-module _ (s : Run) (c k : ℕ) where
-  missing_one : (r : ℕ) (b : Bool) → has_entered s c k r ≡ b → missing s c k (r ∷ []) ≡ (if b then [] else r ∷ [])
-  missing_one r b h = one (has_entered s c k r) b h
-    where
-      one : (a b : Bool) → a ≡ b → (if not a then r ∷ [] else []) ≡ (if b then [] else r ∷ [])
-      one true true h = refl
-      one false false h = refl
-      one true false h = absurd (cc)
-      one false true h = absurd (cc)
-
-  pub missing_more : (members : List ℕ) (i r : ℕ) (b : Bool) → i < length members → r ≡ get_or members i 0 → b ≡ nat_lt k (slice_index (map (calls_of s.ops c) members) i) →
-      missing s c k (take (i + 1) members) ≡ missing s c k (take i members) ++ (if b then [] else r ∷ [])
-  missing_more members i r b lt e h =
-      let n : has_entered s c k (get_or members i 0) ≡ b = ap (nat_lt k) (sym (count_at s.ops c members i 0 lt)) ∙ sym h in
-      ap (missing s c k) (take_more members i 0 lt) ∙ filter-append (λ r. not (has_entered s c k r)) (take i members) (get_or members i 0 ∷ [])
-      ∙ ap (λ (l : List ℕ). missing s c k (take i members) ++ l) (missing_one (get_or members i 0) b n ∙ ap (λ (m : ℕ). if b then [] else m ∷ []) (sym e))
-
--- what is told of a member is told of it among the first of them
-pub front_at : (f : ℕ → ℕ) (xs : List ℕ) (n i : ℕ) → i < n → slice_index (map f xs) i ≡ slice_index (map f (take n xs)) i
-front_at f xs zero i lt = absurd (omega (arith, lt))
-front_at f [] (suc n) i lt = refl
-front_at f (x ∷ xs) (suc n) zero lt = refl
-front_at f (x ∷ xs) (suc n) (suc i) lt = front_at f xs n i (omega (arith, lt))
-
 -- the first members, up to one that is this rank, or all
 pub lower_is : (members : List ℕ) (r i : ℕ) → i ≤ length members → ((k : ℕ) → k < i → get_or members k 0 ≡ r → ⊥) → (i < length members → get_or members i 0 ≡ r) →
     lower members r ≡ take i members
@@ -79,3 +54,21 @@ lower_is (m ∷ members) r (suc i) le none here =
   where
     other : (a b : ℕ) → (a ≡ b → ⊥) → (a == b) ≡ false
     other a b h = grind (arith, nat_tests)
+
+-- what a place holds
+there : (xs : List ℕ) (i x : ℕ) → slice_get xs i ≡ Some x → (i < length xs) × (get_or xs i 0 ≡ x)
+there [] i x h = absurd (cc)
+there (y ∷ xs) zero x h = let e : y ≡ x = cc in (omega arith, e)
+there (y ∷ xs) (suc i) x h = let rest = there xs i x h in (omega (arith, rest.0), rest.1)
+
+-- those before the place of a rank among distinct members
+pub lower_at : (members : List ℕ) (r place : ℕ) → IsDistinct eqb members → slice_get members place ≡ Some r → lower members r ≡ take place members
+lower_at members r place distinct h =
+    let here = there members place r h in
+    lower_is members r place (omega (arith, here.0)) (λ k lt e. twice k lt e here.0 here.1) (λ lt. here.1)
+  where
+    twice : (k : ℕ) → k < place → get_or members k 0 ≡ r → place < length members → get_or members place 0 ≡ r → ⊥
+    twice k lt e inside at =
+        let other = apart_from_distinct eqb members k place 0 distinct lt inside in
+        let same : eqb (get_or members k 0) (get_or members place 0) ≡ true = eq-eqb (get_or members k 0) (get_or members place 0) (e ∙ sym at) in
+        absurd (cc)

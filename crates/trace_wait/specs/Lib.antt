@@ -10,5 +10,6 @@ pub mod Requests
 pub mod Conditions
 pub mod Tallies
 pub mod Calls
+pub mod Absences
 pub mod Groups
 pub mod Polls

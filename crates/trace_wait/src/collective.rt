@@ -1,49 +1,21 @@
 //! The conditions of collective calls, a function for each row of their table.
 
-ghost use Rattle.std.specs.Prelude.{Some, IfSome, take, length, ◌≤◌, option_map, ◌≡◌, ◌++◌, ◌∷◌, [], if◌then◌else◌, slice_get, IfOk, OnOk};
+ghost use Rattle.std.specs.Prelude.{take, length, ◌≡◌, eqb, slice_get, IfOk, IfSome, Some};
+ghost use Rattle.std.specs.List.{IsDistinct};
 ghost use Rattle.trace_ops.specs.Round.{is_barrier_kind};
 ghost use Rattle.trace_wait.specs.Parts.{members, peers_on};
 ghost use Rattle.trace_stuck.specs.Shape.{shape};
 ghost use Rattle.trace_wait.specs.Ranks.{IsOfRank};
-ghost use Rattle.trace_wait.specs.Collectives.{has_entered, missing, absent, absent_of, lower, other_side, scanned, root_first, root_rank, from_root, to_root, by_category, may_be_owed_nothing, peers_first, across, within, by_kind, round_part, collective_of_call};
+ghost use Rattle.trace_wait.specs.Collectives.{has_entered, absent, absent_of, lower, other_side, scanned, root_first, root_rank, from_root, to_root, by_category, may_be_owed_nothing, peers_first, across, within, by_kind, round_part, collective_of_call};
 
-use crate::counts::has_more;
 use crate::entries::entered_at;
+use crate::groups::shared;
 use crate::overview::Overview;
 use mpi_model::{Category, Kind, Sends};
 use std::alloc::{AllocError, Global};
 use std::sync::Arc;
 use trace_ops::{Entered, RankOps};
 use trace_stuck::Condition;
-
-/// Adds the rank, unless it has entered.
-fn push_missing(has_entered: bool, r: u32, ranks: &mut Vec<u32>) -> Result<(), AllocError>
-    ensures { OnOk result (ranks.new.items ≡ ranks.old.items ++ (if has_entered then [] else r ∷ [])) }
-{
-    if !has_entered {
-        ranks.push(r)?;
-    }
-    Ok(())
-}
-
-/// Those of the ranks that have not entered. They are the first members of the group.
-fn missing(
-    alloc: Global,
-    run: &Overview,
-    comm: u32,
-    k: u64,
-    ranks: &[u32],
-) -> Result<Vec<u32>, AllocError>
-    requires { ranks.now ≡ take (length ranks.now) (members run.now comm) }
-    ensures { IfOk result (λ found. found.items ≡ missing run.now comm k ranks.now) }
-{
-    let mut found = Vec::new(alloc);
-    let calls = run.calls_on(comm);
-    for (place, r) in ranks.iter().enumerate() {
-        push_missing(has_more(calls, place, k), *r, &mut found)?;
-    }
-    Ok(found)
-}
 
 /// All of these that have not entered, in a list that copies of the condition share.
 fn absent_of(
@@ -56,28 +28,64 @@ fn absent_of(
     requires { ranks.now ≡ take (length ranks.now) (members run.now comm) }
     ensures { IfOk result (λ c. shape c ≡ absent_of run.now comm k ranks.now) }
 {
-    let found = missing(alloc, run, comm, k, ranks)?;
+    let found = run.missing(alloc, comm, k, ranks)?;
     Ok(Condition::all_ranks(Arc::new(alloc, found)?))
 }
 
-/// All members that have not entered.
+/// All members that have not entered, in the list that conditions share, where one was made.
 fn absent(alloc: Global, run: &Overview, comm: u32, k: u64) -> Result<Condition, AllocError>
     ensures { IfOk result (λ c. shape c ≡ absent run.now comm k) }
 {
-    absent_of(alloc, run, comm, k, run.members(comm))
+    match run.listed_absent(comm, k) {
+        Some(list) => Ok(Condition::all_ranks(Arc::try_clone(list)?)),
+        None => absent_of(alloc, run, comm, k, run.members(comm)),
+    }
+}
+
+/// The place of a rank in a group, where a search by halves finds it. It does so in a group whose ranks rise.
+fn place_of(members: &[u32], r: u32) -> Option<usize>
+    ensures { IfSome result (λ place. slice_get members.now place ≡ Some r) }
+{
+    let place = members.binary_search(&r).ok()?;
+    if members.get(place).copied()? == r {
+        Some(place)
+    } else {
+        None
+    }
 }
 
 /// The members of lower ranks in the group.
 fn lower(members: &[u32], r: u32) -> &[u32]
+    requires { IsDistinct eqb members.now }
     ensures is { result.now ≡ lower members.now r }
     ensures first { result.now ≡ take (length result.now) members.now }
 {
-    for (place, m) in members.iter().enumerate() {
+    if let Some(place) = place_of(members, r) {
+        return &members[..place];
+    }
+    for (at, m) in members.iter().enumerate() {
         if *m == r {
-            return &members[..place];
+            return &members[..at];
         }
     }
     members
+}
+
+/// All members of lower ranks in the group that have not entered.
+fn absent_before(
+    alloc: Global,
+    run: &Overview,
+    r: u32,
+    comm: u32,
+    k: u64,
+) -> Result<Condition, AllocError>
+    ensures { IfOk result (λ c. shape c ≡ absent_of run.now comm k (lower (members run.now comm) r)) }
+{
+    let low = lower(run.members(comm), r);
+    match run.listed_before(comm, k, low.len()) {
+        Some(ranks) => Ok(Condition::all_ranks(shared(alloc, ranks)?)),
+        None => absent_of(alloc, run, comm, k, low),
+    }
 }
 
 /// Under `wait` the absent members; under `buffer` nothing.
@@ -102,25 +110,22 @@ fn scanned(
 {
     match run.layout.sends() {
         Sends::Wait => absent(alloc, run, comm, k),
-        Sends::Buffer => absent_of(alloc, run, comm, k, lower(run.members(comm), r)),
+        Sends::Buffer => absent_before(alloc, run, r, comm, k),
     }
 }
 
-/// Whether the root, which has this place in the group, has entered the round.
-fn has_root_entered(run: &Overview, comm: u32, k: u64, place: u32, root: u32) -> bool
-    requires { slice_get (members run.now comm) place ≡ Some root }
-    ensures { result ≡ has_entered run.now comm k root }
+/// Whether the rank has entered the round, by its own calls.
+fn has_entered(run: &Overview, comm: u32, k: u64, r: u32) -> bool
+    ensures { result ≡ has_entered run.now comm k r }
 {
-    let _root = root;
-    has_more(run.calls_on(comm), place as usize, k)
+    k < run.calls_of(comm, r) as u64
 }
 
 /// The root, where it has not entered.
-fn root_first(run: &Overview, comm: u32, k: u64, place: u32, root: u32) -> Condition
-    requires { slice_get (members run.now comm) place ≡ Some root }
+fn root_first(run: &Overview, comm: u32, k: u64, root: u32) -> Condition
     ensures { shape result ≡ root_first run.now comm k root }
 {
-    if has_root_entered(run, comm, k, place, root) {
+    if has_entered(run, comm, k, root) {
         Condition::yes()
     } else {
         Condition::rank(root)
@@ -134,13 +139,11 @@ fn member_at(members: &[u32], place: u32) -> Option<u32>
     members.get(place as usize).copied()
 }
 
-/// The root's place in the group, and the root as a trace rank.
-fn root_rank(run: &Overview, entered: &Entered) -> Option<(u32, u32)>
-    ensures place { IfSome result (λ root. slice_get (members run.now entered.now.comm) root.0 ≡ Some root.1) }
-    ensures rank { option_map (λ root. root.1) result ≡ root_rank run.now entered.now }
+/// The root of the round, as a trace rank.
+fn root_rank(run: &Overview, entered: &Entered) -> Option<u32>
+    ensures { result ≡ root_rank run.now entered.now }
 {
-    let place = entered.root?;
-    Some((place, member_at(run.members(entered.comm), place)?))
+    member_at(run.members(entered.comm), entered.root?)
 }
 
 /// What a member waits for where data goes from the root: the root, and the others.
@@ -155,10 +158,10 @@ fn from_root(
 {
     match root_rank(run, entered) {
         None => Ok(Condition::yes()),
-        Some((place, root)) => if root == r {
+        Some(root) => if root == r {
             other_side(alloc, run, entered.comm, k)
         } else {
-            Ok(root_first(run, entered.comm, k, place, root))
+            Ok(root_first(run, entered.comm, k, root))
         },
     }
 }
@@ -175,7 +178,7 @@ fn to_root(
 {
     match root_rank(run, entered) {
         None => Ok(Condition::yes()),
-        Some((_, root)) => if root == r {
+        Some(root) => if root == r {
             absent(alloc, run, entered.comm, k)
         } else {
             other_side(alloc, run, entered.comm, k)
@@ -211,32 +214,6 @@ fn may_be_owed_nothing(sends: Sends, kind: Kind) -> bool
     }
 }
 
-/// Whether the rank has entered the round, by its own calls.
-fn has_entered(run: &Overview, comm: u32, k: u64, r: u32) -> bool
-    ensures { result ≡ has_entered run.now comm k r }
-{
-    k < run.calls_of(comm, r) as u64
-}
-
-/// Those of the ranks that have not entered, by the calls of each.
-fn missing_among(
-    alloc: Global,
-    run: &Overview,
-    comm: u32,
-    k: u64,
-    ranks: &[u32],
-) -> Result<Vec<u32>, AllocError>
-    ensures { IfOk result (λ found. found.items ≡ missing run.now comm k ranks.now) }
-{
-    let mut found = Vec::new(alloc);
-    for rank in ranks {
-        if !has_entered(run, comm, k, *rank) {
-            found.push(*rank)?;
-        }
-    }
-    Ok(found)
-}
-
 /// All peers of the rank that have not entered.
 fn absent_peers(
     alloc: Global,
@@ -247,7 +224,7 @@ fn absent_peers(
 ) -> Result<Condition, AllocError>
     ensures { IfOk result (λ c. shape c ≡ absent_of run.now comm k (peers_on run.now comm r)) }
 {
-    let found = missing_among(alloc, run, comm, k, run.peers(comm, r))?;
+    let found = run.missing_among(alloc, comm, k, run.peers(comm, r))?;
     Ok(Condition::all_ranks(Arc::new(alloc, found)?))
 }
 

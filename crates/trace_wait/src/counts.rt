@@ -1,8 +1,8 @@
 //! How many calls on each communicator each of its members has entered, counted once.
 
-ghost use Rattle.std.specs.Prelude.{◌≡◌, ◌<◌, map, nat_lt, slice_index, IfOk};
+ghost use Rattle.std.specs.Prelude.{◌≡◌, ◌<◌, ◌++◌, ◌∷◌, [], if◌then◌else◌, map, take, length, nat_lt, slice_index, IfOk, IfSome, OnOk};
 ghost use Rattle.trace_wait.specs.Rounds.{group};
-ghost use Rattle.trace_wait.specs.Calls.{calls_of, counts, table, row_of};
+ghost use Rattle.trace_wait.specs.Calls.{AreCounts, behind, calls_of, counts};
 
 use crate::entries::Entries;
 use crate::tally::members_of;
@@ -26,13 +26,13 @@ impl Model for CommCalls {
 }
 
 impl CommCalls {
-    fn comm(&self) -> u32
+    pub fn comm(&self) -> u32
         ensures { result ≡ self.now.comm }
     {
         self.comm
     }
 
-    fn calls(&self) -> &[u64]
+    pub fn calls(&self) -> &[u64]
         ensures { result.now ≡ self.now.calls }
     {
         &self.calls
@@ -75,13 +75,14 @@ fn row(
     Ok(CommCalls { comm, calls })
 }
 
-/// How many collective calls each member of each communicator has entered.
+/// How many collective calls each member of each communicator has entered, in rising order of the communicators'
+/// numbers.
 pub(crate) fn all_calls(
     alloc: Global,
     layout: &Layout,
     entries: &Entries,
 ) -> Result<Vec<CommCalls>, AllocError>
-    ensures { IfOk result (λ v. v.items ≡ table layout.now.comms entries.now layout.now.comms) }
+    ensures { IfOk result (λ v. AreCounts layout.now.comms entries.now v.items) }
 {
     layout.known();
     let mut rows = Vec::new(alloc);
@@ -93,16 +94,25 @@ pub(crate) fn all_calls(
     Ok(rows)
 }
 
-/// The calls on a communicator, by member.
-pub(crate) fn row_of(rows: &[CommCalls], comm: u32) -> &[u64]
-    ensures { result.now ≡ row_of rows.now comm }
+/// The calls on a communicator, by member, found by binary search.
+pub(crate) fn row_of<'a>(
+    layout: &Layout,
+    entries: &Entries,
+    rows: &'a [CommCalls],
+    comm: u32,
+) -> Option<&'a [u64]>
+    requires { AreCounts layout.now.comms entries.now rows.now }
+    ensures { IfSome result (λ calls. calls.now ≡ counts layout.now.comms entries.now comm) }
 {
-    for t in rows {
-        if t.comm() == comm {
-            return t.calls();
-        }
+    let _layout = layout;
+    let _entries = entries;
+    let at = rows.binary_search_by_key(&comm, |t| t.comm()).ok()?;
+    let found = rows.get(at)?;
+    if found.comm() == comm {
+        Some(found.calls())
+    } else {
+        None
     }
-    &[]
 }
 
 /// Whether the member at this place has entered more than k.
@@ -110,4 +120,51 @@ pub(crate) fn has_more(calls: &[u64], place: usize, k: u64) -> bool
     ensures { result ≡ nat_lt k (slice_index calls.now place) }
 {
     k < calls.get(place).copied().unwrap_or(0)
+}
+
+/// Adds the rank, unless it has entered.
+fn push_behind(has_entered: bool, r: u32, ranks: &mut Vec<u32>) -> Result<(), AllocError>
+    ensures { OnOk result (ranks.new.items ≡ ranks.old.items ++ (if has_entered then [] else r ∷ [])) }
+{
+    if !has_entered {
+        ranks.push(r)?;
+    }
+    Ok(())
+}
+
+/// Those of the ranks that have entered at most k. How many each has entered stands first among the calls.
+pub(crate) fn behind_by(
+    alloc: Global,
+    entries: &Entries,
+    comm: u32,
+    calls: &[u64],
+    k: u64,
+    ranks: &[u32],
+) -> Result<Vec<u32>, AllocError>
+    requires { take (length ranks.now) calls.now ≡ map (calls_of entries.now comm) ranks.now }
+    ensures { IfOk result (λ found. found.items ≡ behind entries.now comm k ranks.now) }
+{
+    let _entries = entries;
+    let mut found = Vec::new(alloc);
+    for (place, r) in ranks.iter().enumerate() {
+        push_behind(has_more(calls, place, k), *r, &mut found)?;
+    }
+    Ok(found)
+}
+
+/// Those of the ranks that have entered at most k, by the calls of each.
+pub(crate) fn behind_among(
+    alloc: Global,
+    entries: &Entries,
+    comm: u32,
+    k: u64,
+    ranks: &[u32],
+) -> Result<Vec<u32>, AllocError>
+    ensures { IfOk result (λ found. found.items ≡ behind entries.now comm k ranks.now) }
+{
+    let mut found = Vec::new(alloc);
+    for r in ranks {
+        push_behind(k < calls_on(entries, *r, comm) as u64, *r, &mut found)?;
+    }
+    Ok(found)
 }

@@ -9,14 +9,16 @@
 //! in the table of pairs by binary search, and keep only what those in no pair name, and when the receives end; a part
 //! of a condition costs some look-ups more, and that of a send the question whether its message comes after a receive.
 //! A request that a call lists twice is looked at once. That of a nonblocking collective call, and the number of its
-//! round, are found by binary search, and its list of members is shared.
+//! round, are found by binary search, and its list of members is shared. The list of those absent from a round is made
+//! once for all ranks that wait in it.
 //!
 //! - [`entries`]: collective calls by communicator, found by binary search; [`counts`]: how many each member has
 //!   entered
 //! - [`round`]: how a round stands; [`tally`]: the rounds of all communicators
 //! - [`sets`], [`paired`], [`unpaired`], [`mismatch`]: what is looked up for the conditions; [`overview`]: all of it
 //!   together
-//! - [`groups`]: the members of each communicator, in one list that all conditions share
+//! - [`groups`]: the members of each communicator, in one list that all conditions share; [`absences`]: those that have
+//!   not entered a round, in lists that are shared as well
 //! - [`posts`]: the message and the receive of a name; [`active`]: which operation a request stands for, and
 //!   which numbers are idle
 //! - [`parts`]: what a send, a receive and a probe wait for; [`collective`]: a collective call;
@@ -35,6 +37,7 @@
 //! Its tests are the runs of `tests/rows/runs.txt`.
 #![tactic(auto)]
 
+mod absences;
 mod active;
 mod collective;
 mod counts;

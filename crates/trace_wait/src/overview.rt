@@ -1,19 +1,20 @@
 //! What the conditions are made from.
 
-ghost use Rattle.std.specs.Prelude.{◌≡◌, true, false, IfOk, is_some};
-ghost use Rattle.std.specs.List.{list_any};
+ghost use Rattle.std.specs.Prelude.{◌≡◌, true, false, eqb, IfOk, IfSome, is_some, length, take};
+ghost use Rattle.std.specs.List.{IsDistinct, list_any};
 ghost use Rattle.mpi_model.specs.Fit.{envelopes_fit, fits};
 ghost use Rattle.trace_pair.specs.Table.{taken_by, given_by};
 ghost use Rattle.trace_ops.specs.Order.{AreEntered};
 ghost use Rattle.trace_wait.specs.Matching.{may_take, unpaired_messages, unpaired_receives};
 ghost use Rattle.trace_wait.specs.Parts.{members, peers_on};
 ghost use Rattle.trace_wait.specs.Patterns.{offers, pattern_of};
-ghost use Rattle.trace_wait.specs.Calls.{calls_of, counts};
-ghost use Rattle.trace_wait.specs.Collectives.{is_mismatched, mismatched_part, round_number};
+ghost use Rattle.trace_wait.specs.Calls.{calls_of};
+ghost use Rattle.trace_wait.specs.Collectives.{is_mismatched, mismatched_part, missing, round_number};
 ghost use Rattle.trace_stuck.specs.Shape.{shape};
 ghost use Rattle.trace_wait.specs.Ranks.{ops_of};
 
-use crate::counts::{CommCalls, calls_on, row_of};
+use crate::absences::{Absence, listed_absent, listed_before};
+use crate::counts::{CommCalls, behind_among, behind_by, calls_on, row_of};
 use crate::entries::Entries;
 use crate::groups::{Group, shared, shared_members};
 use crate::mismatch::Mismatches;
@@ -31,7 +32,7 @@ use trace_stuck::{Condition, RoundName};
 /// The whole run, and what was gathered of it to be looked up: its pairs by their receives, which messages are in no
 /// pair, which of them were cancelled, when the receives end that are in no pair, which messages come after which
 /// receives, which rounds are mismatched, how many calls each member has entered and which, and the members of each
-/// communicator in a list to be shared.
+/// communicator, and those absent from its last rounds, in lists to be shared.
 #[derive(Drop)]
 pub(crate) struct Overview<'a> {
     pub layout: &'a Layout,
@@ -46,6 +47,7 @@ pub(crate) struct Overview<'a> {
     pub mismatched: &'a Mismatches<'a>,
     pub calls: &'a [CommCalls],
     pub groups: &'a [Group],
+    pub absences: &'a [Absence],
     pub entries: &'a Entries<'a>,
 }
 
@@ -57,8 +59,9 @@ impl<'a> Model for Overview<'a> {
     ghost use Rattle.trace_pair.specs.Ends.{AreLast};
     ghost use Rattle.trace_wait.specs.Matching.{free_receives, unpaired_messages};
     ghost use Rattle.trace_wait.specs.Patterns.{Pattern as Named, pattern_cmp, offers};
-    ghost use Rattle.trace_wait.specs.Calls.{table};
+    ghost use Rattle.trace_wait.specs.Calls.{AreCounts};
     ghost use Rattle.trace_wait.specs.Groups.{AreGroups};
+    ghost use Rattle.trace_wait.specs.Absences.{AreAbsences};
 
     ghost Value = { Run };
 
@@ -68,18 +71,20 @@ impl<'a> Model for Overview<'a> {
         ((p : Named) → contains pattern_cmp s.offered.now p ≡ list_any (λ m. offers false m p) (unpaired_messages s.ops.now s.pairs.now.pairs))
         × (AreLast (free_receives s.ops.now s.pairs.now.pairs) s.asked.now)
         × (s.mismatched.now ≡ s.rounds.now)
-        × (s.calls.now ≡ table s.layout.now.comms s.ops.now s.layout.now.comms)
+        × (AreCounts s.layout.now.comms s.ops.now s.calls.now)
         × (AreGroups s.layout.now.comms s.groups.now)
         × ((p : Named) → contains pattern_cmp s.withdrawn.now p ≡ list_any (λ m. offers true m p) (unpaired_messages s.ops.now s.pairs.now.pairs))
         × (s.reaches.now ≡ s.ops.now)
         × (s.entries.now ≡ s.ops.now)
-        × (s.received.now ≡ s.pairs.now.pairs) };
+        × (s.received.now ≡ s.pairs.now.pairs)
+        × (AreAbsences s.layout.now.comms s.ops.now s.absences.now) };
 }
 
 impl<'a> Overview<'a> {
     /// The members of a communicator, as trace ranks in group order.
     pub fn members(&self, comm: u32) -> &[u32]
-        ensures { result.now ≡ members self.now comm }
+        ensures value { result.now ≡ members self.now comm }
+        ensures distinct { IsDistinct eqb result.now }
     {
         match self.layout.members(comm) {
             Some(ranks) => ranks,
@@ -123,11 +128,52 @@ impl<'a> Overview<'a> {
         }
     }
 
-    /// How many calls on the communicator each of its members has entered.
-    pub fn calls_on(&self, comm: u32) -> &[u64]
-        ensures { result.now ≡ counts self.now.layout.comms self.now.ops comm }
+    /// The members that have not entered round k of the communicator, in a list that all conditions share, where one
+    /// was made.
+    pub fn listed_absent(&self, comm: u32, k: u64) -> Option<&'a Arc<Vec<u32>>>
+        ensures { IfSome result (λ list. list.now.value.items ≡ missing self.now comm k (members self.now comm)) }
     {
-        row_of(self.calls, comm)
+        listed_absent(self.layout, self.entries, self.absences, comm, k)
+    }
+
+    /// Those of the first members of the group that have not entered round k of the communicator, where they were
+    /// listed.
+    pub fn listed_before(&self, comm: u32, k: u64, place: usize) -> Option<&'a [u32]>
+        ensures { IfSome result (λ ranks. ranks.now ≡ missing self.now comm k (take place (members self.now comm))) }
+    {
+        listed_before(self.layout, self.entries, self.absences, comm, k, place)
+    }
+
+    /// Those of the ranks that have not entered round k of the communicator. They are the first members of its group.
+    /// Fails with `AllocError` when memory is refused.
+    pub fn missing(
+        &self,
+        alloc: Global,
+        comm: u32,
+        k: u64,
+        ranks: &[u32],
+    ) -> Result<Vec<u32>, AllocError>
+        requires { ranks.now ≡ take (length ranks.now) (members self.now comm) }
+        ensures { IfOk result (λ found. found.items ≡ missing self.now comm k ranks.now) }
+    {
+        match row_of(self.layout, self.entries, self.calls, comm) {
+            Some(calls) => behind_by(alloc, self.entries, comm, calls, k, ranks),
+            None => self.missing_among(alloc, comm, k, ranks),
+        }
+    }
+
+    /// Those of the ranks that have not entered round k of the communicator, by the calls of each. Fails with
+    /// `AllocError` when memory is refused.
+    pub fn missing_among(
+        &self,
+        alloc: Global,
+        comm: u32,
+        k: u64,
+        ranks: &[u32],
+    ) -> Result<Vec<u32>, AllocError>
+        ensures { IfOk result (λ found. found.items ≡ missing self.now comm k ranks.now) }
+    {
+        behind_among(alloc, self.entries, comm, k, ranks)
     }
 
     /// How many calls on the communicator the rank has entered.

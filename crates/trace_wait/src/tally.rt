@@ -139,7 +139,7 @@ fn push_rounds(
 /// The members of a communicator, in group order; an empty list if the layout doesn't have it.
 pub(crate) fn members_of<'a>(layout: &'a Layout, comm: u32) -> &'a [u32]
     ensures value { result.now ≡ group layout.now.comms comm }
-    ensures few { length result.now ≤ 1024 }
+    ensures few { length result.now ≤ 1048576 }
 {
     layout.known();
     match layout.members(comm) {

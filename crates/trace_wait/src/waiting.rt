@@ -10,6 +10,7 @@ ghost use Rattle.trace_wait.specs.Parts.{Run};
 ghost use Rattle.trace_wait.specs.Polls.{asked_of};
 ghost use Rattle.trace_wait.specs.Ranks.{IsOfRank};
 
+use crate::absences::absences_of;
 use crate::collective::collective_of_call;
 use crate::counts::all_calls;
 use crate::entries::entries_of;
@@ -164,6 +165,7 @@ fn conditions_gathered(
     let entries = entries_of(alloc, ops)?;
     let calls = all_calls(alloc, layout, &entries)?;
     let groups = groups_of(alloc, layout)?;
+    let absences = absences_of(alloc, layout, &entries, &calls)?;
     let run = Overview {
         layout,
         ops,
@@ -177,6 +179,7 @@ fn conditions_gathered(
         mismatched: &mismatched,
         calls: &calls,
         groups: &groups,
+        absences: &absences,
         entries: &entries,
     };
     let of_polls = asked_of_all(alloc, &run, ops, polls)?;

@@ -9,7 +9,7 @@ pub returns : goal.returns
 returns c =
     let m = c.members_of-members.ensures in
     let g = group c.args.layout.now.comms c.args.comm in
-    let few = subst (λ (l : List ℕ). length l ≤ 1024) m.value m.few in
+    let few = subst (λ (l : List ℕ). length l ≤ 1048576) m.value m.few in
     let e : rounds_from c.args.comm (length c.members_of-members.result.now) 0 c.deref.result.now ≡ rounds_on c.args.layout.now.comms c.args.entries.now c.args.comm =
     ap (rounds_from c.args.comm (length c.members_of-members.result.now) 0) (c.deref.ensures.value ∙ c.in_ok-tallies.ensures)
     ∙ ap (λ (l : List ℕ). rounds_from c.args.comm (length l) 0 (tallied c.args.entries.now c.args.comm l)) m.value
