@@ -10,7 +10,7 @@ use Rattle.std.proofs.lemmas.List.Elements.{Contains-push, filter_map-append}
 use Rattle.std.proofs.lemmas.List.Sorted.{Contains-permutation}
 use Rattle.std.proofs.Math.ListN.{get_or-append}
 use Rattle.std.proofs.Math.Seq.{get_or-append_seam}
-use Rattle.trace_stuck.specs.Chains.{IsChain, Leads}
+use Rattle.trace_stuck.specs.Chains.{IsChain}
 use Rattle.trace_stuck.specs.Graph.{edge, is_up, label_at}
 use Rattle.trace_stuck.specs.Hearts.{AreHearts, IsHeartOf, IsInHeart, Reaches}
 use Rattle.trace_stuck.specs.Named.{at_rank}
@@ -22,7 +22,7 @@ use Rattle.diagnosis_value.specs.declared.diagnosis.RootKind.{RootKind}
 use Rattle.diagnosis_value.specs.declared.diagnosis.RootKind.TheVariants.{Mismatch, Cycle, Ended, Silent, Open}
 use Rattle.trace_diagnosis.specs.Graph.{LeadOutOfHeld}
 use Rattle.trace_diagnosis.specs.Roots.{Covers, HaveComponent, HaveComponents, HaveRank, HaveRounds, IsInGraph, is_labelled, is_round, kind_at, kind_number, members}
-use Rattle.trace_diagnosis.proofs.Leading.{leads_next}
+use Rattle.trace_diagnosis.proofs.Leading.{leads_all}
 
 -- ---- elements by their places
 
@@ -88,6 +88,10 @@ covers_self roots root h = (root, h, refl, λ r g. g)
 
 pub covers_more : (old new : List Root) → ((root : Root) → Contains old root → Contains new root) → (root : Root) → Covers old root → Covers new root
 covers_more old new sub root w = (w.0, sub w.0 w.1, w.2, w.3)
+
+-- a root that is covered has its ranks somewhere
+pub covered_component : (roots : List Root) (root : Root) (kind : RootKind) (own : List ℕ) → root.kind ≡ kind → root.ranks.items ≡ own → Covers roots root → HaveComponent kind own roots
+covered_component roots root kind own is same w = (w.0, w.1, w.2 ∙ is, λ r h. w.3 r (subst (λ (l : List ℕ). Contains l r) (sym same) h))
 
 -- a root that was joined with the one at a place
 module _ (roots : List Root) (place : ℕ) (lt : place < length roots) (old root new : Root) (at : old ≡ get_or roots place old) (kind : new.kind ≡ old.kind) (same : IsPermutation (old.ranks.items ++ root.ranks.items) new.ranks.items) where
@@ -161,10 +165,6 @@ not_in_graph edges askers held r turn n none (inr w) = never (nat_lt w.0 (length
     never false e = absurd (cc (e))
 
 module _ (step : ℕ → ℕ → Bool) where
-  leads_all : (through : List ℕ) (r s t : ℕ) → Leads step r s → IsChain step s through t → Leads step r t
-  leads_all [] r s t p e = subst (λ (x : ℕ). Leads step r x) e p
-  leads_all (u ∷ through) r s t p c = leads_all through r u t (leads_next step r s u p c.0) c.1
-
   -- a chain is none, or has a last step
   chain_last : (through : List ℕ) (r s : ℕ) → IsChain step r through s → (r ≡ s) ⊎ ((t : ℕ) × (step t s ≡ true))
   chain_last [] r s e = inl e
@@ -244,7 +244,7 @@ module _ (edges : List (Vec ℕ Global)) (labels : List (Option ℕ)) (hearts : 
       ⊎_elim {C = IsInGraph edges held l} (λ (e : r ≡ l). subst (λ (x : ℕ). IsInGraph edges held x) e in_graph) (λ (t : (x : ℕ) × (edge edges x l ≡ true)). inr t) (chain_last (edge edges) w.2.0 r l w.2.1) in
       let root = there l (omega (arith, le, lt)) (labelled edges labels hearts r h l (least_own edges labels hearts r h)) has in
       let own = contains_filter (is_labelled labels l) (range_with_len 0 ranks) r (contains_range ranks 0 r (omega arith) (omega (arith, lt))) (labelled edges labels hearts r h r w.1) in
-      (root.0, root.1, root.2 ∙ same_kinds, subst (λ (x : List ℕ). Contains x r) (sym root.3) own)
+      (root.0, root.1, root.2 ∙ same_kinds, root.3 r own)
 
 -- one need more
 pub needs_more : {X Y : Type 0} (f : X → Option Y) (xs : List X) (i : ℕ) (x : X) (front old new : List Y) → i < length xs → x ≡ get_or xs i x → old ≡ front ++ filter_map f (take i xs) → new ≡ old ++ filter_map f (x ∷ [])
@@ -276,12 +276,15 @@ once_more rounds old new i round lt is kept there inv k d up within = ⊎_elim {
     (sides k i)
 
 -- one rank more whose component is a root
-pub components_more : (edges : List (Vec ℕ Global)) (labels : List (Option ℕ)) (able held waits : List Bool) (ranks n : ℕ) (old new : List Root) → ((root : Root) → Contains old root → Contains new root)
+pub components_more : (edges : List (Vec ℕ Global)) (labels : List (Option ℕ)) (able held waits : List Bool) (ranks n : ℕ) (old new : List Root) → ((root : Root) → Covers old root → Covers new root)
     → (is_labelled labels n n ≡ true → IsInGraph edges held n → HaveComponent (kind_at able held waits n) (members labels ranks n) new)
     → ((k : ℕ) → k < n → is_labelled labels k k ≡ true → IsInGraph edges held k → HaveComponent (kind_at able held waits k) (members labels ranks k) old)
     → (k : ℕ) → k < n + 1 → is_labelled labels k k ≡ true → IsInGraph edges held k → HaveComponent (kind_at able held waits k) (members labels ranks k) new
 components_more edges labels able held waits ranks n old new kept more inv k up label has = ⊎_elim {C = HaveComponent (kind_at able held waits k) (members labels ranks k) new}
-    (λ (l : k < n). let w = inv k l label has in (w.0, kept w.0 w.1, w.2, w.3))
+    (λ (l : k < n).
+    let w = inv k l label has in
+    let v = kept w.0 (covers_self old w.0 w.1) in
+    (v.0, v.1, v.2 ∙ w.2, λ r h. v.3 r (w.3 r h)))
     (λ (l : n ≤ k).
     let at : n ≡ k = omega (arith, l, up) in
     subst (λ (x : ℕ). is_labelled labels x x ≡ true → IsInGraph edges held x → HaveComponent (kind_at able held waits x) (members labels ranks x) new) at more label has)

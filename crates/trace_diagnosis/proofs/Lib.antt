@@ -3,6 +3,8 @@ mod Holds
 mod Needing
 mod Ranges
 mod Leading
+mod Reaching
+mod Members
 mod Rooted
 mod Halved
 mod Lists

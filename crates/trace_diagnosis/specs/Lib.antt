@@ -2,6 +2,7 @@ pub mod Holding
 pub mod Needs
 pub mod Parts
 pub mod Graph
+pub mod Reached
 pub mod Roots
 pub mod LeftOver
 pub mod Standing

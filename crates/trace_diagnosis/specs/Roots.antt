@@ -31,15 +31,12 @@ is_labelled labels least node = is_label least (label_at labels node)
 abbrev pub members : List (Option ℕ) → ℕ → ℕ → List ℕ
 members labels ranks least = filter (is_labelled labels least) (range_with_len 0 ranks)
 
--- A node leads to one with this label.
-abbrev pub LeadFrom : List (Vec ℕ Global) → List (Option ℕ) → ℕ → ℕ → Type 0
-LeadFrom edges labels least r = (s : ℕ) × (is_labelled labels least s ≡ true) × Reaches edges r s
-
--- A root of ranks: each of them is in a heart, so that what they reach reaches them and nothing leads out; and each
--- rank that it holds up is held, and reaches one in a heart of it.
+-- A root of ranks: each of them is in a heart, so that what they reach reaches them and nothing leads out; each rank
+-- that it holds up is held, and reaches one in a heart of it; and those of a cycle reach one another.
 pub record IsRoot (edges : List (Vec ℕ Global)) (held : List Bool) (ranks : ℕ) (root : Root) : Type 0 where
   pub own : All (IsInHeart edges) root.ranks.items
   pub holds_up : All (λ r. (is_up held r ≡ true) × ((s : ℕ) × IsInHeart edges s × Reaches edges r s)) root.holds_up.items
+  pub one : root.kind ≡ Cycle → (r s : ℕ) → Contains root.ranks.items r → Contains root.ranks.items s → Reaches edges r s
 
 -- the root is a round
 abbrev pub is_round : RootKind → Bool
@@ -48,6 +45,14 @@ is_round Cycle = false
 is_round Ended = false
 is_round Silent = false
 is_round Open = false
+
+-- ranks of this kind need nothing themselves
+abbrev pub needs_nothing : RootKind → Bool
+needs_nothing (Mismatch round) = false
+needs_nothing Cycle = false
+needs_nothing Ended = true
+needs_nothing Silent = true
+needs_nothing Open = true
 
 -- a root that is no round is one of ranks
 abbrev pub IsSound : List (Vec ℕ Global) → List Bool → ℕ → Root → Type 0
@@ -86,9 +91,9 @@ IsInGraph edges held r = (is_up held r ≡ true) ⊎ ((s : ℕ) × (edge edges s
 abbrev pub HaveRank : List Root → RootKind → ℕ → Type 0
 HaveRank roots kind r = (root : Root) × Contains roots root × (root.kind ≡ kind) × Contains root.ranks.items r
 
--- one of the roots is of this kind, and just these ranks are its own
+-- one of the roots is of this kind, and these ranks are among its own
 abbrev pub HaveComponent : RootKind → List ℕ → List Root → Type 0
-HaveComponent kind own roots = (root : Root) × Contains roots root × (root.kind ≡ kind) × (root.ranks.items ≡ own)
+HaveComponent kind own roots = (root : Root) × Contains roots root × (root.kind ≡ kind) × ((r : ℕ) → Contains own r → Contains root.ranks.items r)
 
 -- Each rank of the graph's components that nothing leads out of is in a root, of the kind that the rank tells.
 abbrev pub HaveComponents : List (Vec ℕ Global) → (able held waits : List Bool) → ℕ → List Root → Type 0

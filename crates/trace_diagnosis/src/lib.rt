@@ -9,7 +9,9 @@
 //!   them
 //! - [`polls`]: which ranks poll, and for what; [`conditions`]: what each rank waits or polls for
 //! - [`holding`]: whether conditions hold, and what those need that don't; [`graph`]: who needs whom; [`roots`]: what
-//!   holds up ranks and is held up by nobody else
+//!   holds up ranks and is held up by nobody else, by the [`components`] of the graph and who can [`reach`] them, with
+//!   [`round_roots`]; [`joined_roots`]: which of them are one; [`strong`]: which ranks reach one another, so that most
+//!   of these are found before any search
 //! - [`rounds`]: mismatched rounds and open ones
 //! - [`loose`]: messages and receives in no pair; [`patterns`]: how receives name messages; [`candidates`]: receives
 //!   that may starve; [`listed`]: messages by such names, found by [`sets`] of them; [`starved`]: receives that starve;
@@ -41,6 +43,7 @@
 mod before;
 mod calls;
 mod candidates;
+mod components;
 mod conditions;
 mod doubts;
 mod few;
@@ -50,18 +53,22 @@ mod holding;
 mod idle;
 mod inits;
 mod joined;
+mod joined_roots;
 mod listed;
 mod loose;
 mod near;
 mod operations;
 mod patterns;
 mod polls;
+mod reach;
 mod roots;
+mod round_roots;
 mod rounds;
 mod sets;
 mod shelf;
 mod standing;
 mod starved;
+mod strong;
 mod taken;
 mod times;
 mod unmatched;

@@ -1,7 +1,7 @@
-use Rattle.std.proofs.Common.{◌≡◌, true, All}
-use Rattle.std.specs.Prelude.{is_some}
-use Rattle.trace_stuck.specs.Graph.{is_up, label_at}
+use Rattle.std.proofs.Common.{◌≡◌, true, ℕ}
+use Rattle.std.specs.List.{Contains}
+use Rattle.trace_stuck.specs.Graph.{is_up}
 use Rattle.trace_diagnosis.proofs.roots.held_outside.Given as goal
 
 abbrev pub invariant-loop-rank : goal.invariant-loop-rank
-invariant-loop-rank l = All (λ r. (is_up l.ranks.held.now r ≡ true) × (is_some (label_at l.labels r) ≡ true)) l.found.items
+invariant-loop-rank l = (r : ℕ) → Contains l.outside.items r → (is_up l.ranks.held.now r ≡ true) × Contains l.found r

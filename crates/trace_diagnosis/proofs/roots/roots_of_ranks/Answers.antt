@@ -14,7 +14,7 @@ loop-rank-preserved c =
     let new = c.push_root.new.roots.items in
     record {
       sound = c.in_ok-push_root.ensures.sound c.loop-rank.invariant.sound;
-      components = components_more edges c.in_ok-labels.labels.items able ranks.held.now ranks.waits.now ranks.count n c.loop-rank.roots.items new c.in_ok-push_root.ensures.kept
+      components = components_more edges c.in_ok-hearts.hearts.items able ranks.held.now ranks.waits.now ranks.count n c.loop-rank.roots.items new c.in_ok-push_root.ensures.kept
           (subst (λ (ls : List (Option ℕ)). is_labelled ls n n ≡ true → IsInGraph edges ranks.held.now n → HaveComponent (kind_at able ranks.held.now ranks.waits.now n) (members ls ranks.count n) new)
           c.deref-in-loop-rank.ensures.value c.in_ok-push_root.ensures.more) c.loop-rank.invariant.components;
     }
@@ -22,7 +22,7 @@ loop-rank-preserved c =
 pub returns-clause-components : goal.returns-clause-components
 returns-clause-components c =
     let ranks = c.args.ranks.now in
-    let labels = c.in_ok-labels.labels.items in
-    all_components c.args.graph.now.edges.items labels (subst (λ (es : List (Vec ℕ Global)). AreHearts es labels) c.deref.ensures.value c.in_ok-labels.ensures.hearts)
+    let labels = c.in_ok-hearts.hearts.items in
+    all_components c.args.graph.now.edges.items labels (subst (λ (es : List (Vec ℕ Global)). AreHearts es labels) c.deref.ensures.value c.in_ok-hearts.ensures.hearts)
     (map has_not_ended ranks.states.now) ranks.held.now ranks.waits.now c.requires.held ranks.count c.loop-rank.roots.items
     (λ k lt. c.loop-rank.invariant.components k (omega (arith, lt, c.loop-rank-test.false)))

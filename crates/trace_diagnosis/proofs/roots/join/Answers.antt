@@ -1,9 +1,0 @@
-use Rattle.std.proofs.Common.{◌++◌, List, ℕ, refl, subst}
-use Rattle.std.specs.List.Sorted.{IsPermutation}
-use Rattle.trace_diagnosis.proofs.Rooted.{joins}
-use Rattle.trace_diagnosis.proofs.roots.join.Goals as goal
-
-pub returns : goal.returns
-returns c =
-    let same = subst (λ (l : List ℕ). IsPermutation (c.args.into.now.ranks.items ++ l) c.merge.new.own.items) c.deref.ensures.value c.in_ok-merge.ensures in
-    record { sound = joins c.args.into.now c.args.root.now _ same refl refl; kind = refl; ranks = same }
