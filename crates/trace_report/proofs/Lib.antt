@@ -4,5 +4,6 @@ pub mod Pages
 pub mod Finished
 pub mod Shapes
 pub mod Each
-pub mod Conditions
+pub mod Runs
+pub mod Texts
 pub mod Arrays

@@ -3,7 +3,7 @@ use Rattle.std.proofs.Common.{◌≡◌, ◌+◌, ◌-◌, ◌^◌, ℕ, min, tr
 use Rattle.std.proofs.KnownBytes.{Appends-trans, Appends-nil, Keeps-refl, Keeps-trans}
 use Rattle.mpi_model.specs.Failures.{one_more}
 use Rattle.mpi_model.specs.Side.{LeavesSide, Side}
-use Rattle.trace_report.specs.Page.{Page, Prints, capped}
+use Rattle.trace_report.specs.Page.{Page, Prints, PrintsUpTo, capped}
 
 pub left_alone : (a : Side) → LeavesSide a a
 left_alone a = record { bytes = Keeps-refl a.bytes; failures = refl }
@@ -96,3 +96,16 @@ then {s} {t} {u} {xs} {ys} p q = elim t.failed as (λ b. t.failed ≡ b → Prin
 -- what was printed reads so
 pub reads : {s t : Page} {xs ys : List ℕ} → Prints s t xs → xs ≡ ys → Prints s t ys
 reads {s} {t} p e = subst (λ (l : List ℕ). Prints s t l) e p
+
+-- ---- a text that is printed front by front
+
+pub begun : (s : Page) (text : List ℕ) → PrintsUpTo s s text text
+begun s text = ([], nothing s, refl)
+
+-- a front more
+pub further : {s t u : Page} {text rest left : List ℕ} → PrintsUpTo s t text rest → PrintsUpTo t u rest left → PrintsUpTo s u text left
+further {left = left} p q = (p.0 ++ q.0, then p.1 q.1, append_assoc p.0 q.0 left ∙ ap (λ (l : List ℕ). p.0 ++ l) q.2 ∙ p.2)
+
+-- where nothing is left, the text was printed
+pub whole : {s t : Page} {text rest : List ℕ} → PrintsUpTo s t text rest → rest ≡ [] → Prints s t text
+whole p e = reads p.1 (sym (append-nil p.0) ∙ ap (λ (l : List ℕ). p.0 ++ l) (sym e) ∙ p.2)

@@ -11,6 +11,8 @@ use Rattle.trace_wait.specs.declared.round.Standing.{Standing}
 use Rattle.trace_wait.specs.declared.round.Standing.TheVariants.{Mismatched, Complete, Partial}
 use Rattle.trace_node.specs.Answer.{Answered, Stopped}
 use Rattle.call_words.specs.Seconds.{seconds_text}
+use Rattle.trace_report.specs.declared.version.Version.{Version}
+use Rattle.trace_report.specs.Version.{version_of, version_text}
 use Rattle.trace_report.specs.Waits.{wait_text, of_json}
 use Rattle.trace_report.specs.Words.{function_word, part_text, sends_word, state_word}
 
@@ -86,13 +88,13 @@ abbrev pub round_object : Round → List ℕ
 round_object r = codes "{\"comm\":" ++ decimal r.comm ++ codes ",\"k\":" ++ decimal r.k ++ codes ",\"standing\":\"" ++ standing_fields r.standing ++ codes "}"
 
 -- a stuck rank: `{"rank":R,"call":C,"since":"SECONDS","waits":CONDITION}`
-abbrev pub stuck_object : Stopped → List ℕ
-stuck_object s = codes "{\"rank\":" ++ decimal s.rank ++ codes ",\"call\":" ++ decimal s.call ++ codes ",\"since\":\"" ++ seconds_text s.wall
-    ++ codes "\",\"waits\":" ++ wait_text of_json s.waits ++ codes "}"
+abbrev pub stuck_object : Version → Stopped → List ℕ
+stuck_object version s = codes "{\"rank\":" ++ decimal s.rank ++ codes ",\"call\":" ++ decimal s.call ++ codes ",\"since\":\"" ++ seconds_text s.wall
+    ++ codes "\",\"waits\":" ++ wait_text of_json version s.waits ++ codes "}"
 
--- the ranks and how sends complete
-abbrev pub head_fields : Answered → List ℕ
-head_fields a = codes "{\"report\":1,\"ranks\":" ++ decimal a.ranks ++ codes ",\"sends\":\"" ++ sends_word a.sends ++ codes "\",\"rank\":["
+-- the version, the ranks and how sends complete
+abbrev pub head_fields : Version → Answered → List ℕ
+head_fields version a = codes "{\"report\":" ++ version_text version ++ codes ",\"ranks\":" ++ decimal a.ranks ++ codes ",\"sends\":\"" ++ sends_word a.sends ++ codes "\",\"rank\":["
 
 -- how many calls are foreign, and the end of the line
 abbrev pub last_fields : Answered → List ℕ
@@ -101,7 +103,7 @@ last_fields a = codes "],\"foreign\":" ++ decimal a.foreign ++ codes "}\n"
 -- the report as JSON
 abbrev pub json_text : Answered → List ℕ
 json_text a =
-    head_fields a
+    head_fields (version_of a.ranks) a
     ++ rank_objects a a.ranks
     ++ codes "],\"conflict\":["
     ++ joined conflict_object a.conflicts
@@ -112,5 +114,5 @@ json_text a =
     ++ codes "],\"round\":["
     ++ joined round_object a.rounds
     ++ codes "],\"stuck\":["
-    ++ joined stuck_object a.stuck
+    ++ joined (stuck_object (version_of a.ranks)) a.stuck
     ++ last_fields a

@@ -1,4 +1,7 @@
 pub mod Words
+pub mod Version
+pub mod Stretches
+pub mod Rises
 pub mod Waits
 pub mod Report
 pub mod Json

@@ -55,3 +55,7 @@ closing device count failed = record { lent = 0; device = device; pending = []; 
 abbrev pub PrintsAlone : {X : Type 0} → (X → Option (List ℕ)) → (X → ℕ) → (X → Side) → X → X → ℕ → Bool → List ℕ → Type 0
 PrintsAlone bytes failures other old new count failed text =
     Prints (opening (outlet (bytes old) (failures old) (other old))) (closing (outlet (bytes new) (failures new) (other new)) count failed) text
+
+-- A front of the text was printed, and the rest is left.
+abbrev pub PrintsUpTo : Page → Page → List ℕ → List ℕ → Type 0
+PrintsUpTo old new text rest = (front : List ℕ) × Prints old new front × (front ++ rest ≡ text)

@@ -11,12 +11,14 @@ use Rattle.trace_wait.specs.declared.round.Standing.{Standing}
 use Rattle.trace_wait.specs.declared.round.Standing.TheVariants.{Mismatched, Complete, Partial}
 use Rattle.trace_node.specs.Answer.{Answered, Stopped}
 use Rattle.call_words.specs.Seconds.{seconds_text}
+use Rattle.trace_report.specs.declared.version.Version.{Version}
+use Rattle.trace_report.specs.Version.{version_of, version_text}
 use Rattle.trace_report.specs.Waits.{wait_text, of_lines}
 use Rattle.trace_report.specs.Words.{function_word, part_text, sends_word, state_word, where_so}
 
--- `mpimatch report 1`, and `ranks N sends wait`
-abbrev pub head_lines : Answered → List ℕ
-head_lines a = codes "mpimatch report 1\nranks " ++ decimal a.ranks ++ codes " sends " ++ sends_word a.sends ++ codes "\n"
+-- `mpimatch report VERSION`, and `ranks N sends wait`
+abbrev pub head_lines : Version → Answered → List ℕ
+head_lines version a = codes "mpimatch report " ++ version_text version ++ codes "\nranks " ++ decimal a.ranks ++ codes " sends " ++ sends_word a.sends ++ codes "\n"
 
 -- Ranks
 
@@ -86,14 +88,14 @@ round_line r = codes "round " ++ decimal r.comm ++ codes ":" ++ decimal r.k ++ c
 -- Stuck ranks
 
 -- `stuck R call CALL since SECONDS waits CONDITION`
-abbrev pub stuck_line : Stopped → List ℕ
-stuck_line s = codes "stuck " ++ decimal s.rank ++ codes " call " ++ decimal s.call ++ codes " since " ++ seconds_text s.wall
-    ++ codes " waits " ++ wait_text of_lines s.waits ++ codes "\n"
+abbrev pub stuck_line : Version → Stopped → List ℕ
+stuck_line version s = codes "stuck " ++ decimal s.rank ++ codes " call " ++ decimal s.call ++ codes " since " ++ seconds_text s.wall
+    ++ codes " waits " ++ wait_text of_lines version s.waits ++ codes "\n"
 
 -- a line for each stuck rank, or `stuck none`
-abbrev pub stuck_lines : List Stopped → List ℕ
-stuck_lines [] = codes "stuck none\n"
-stuck_lines (s ∷ more) = flat_map stuck_line (s ∷ more)
+abbrev pub stuck_lines : Version → List Stopped → List ℕ
+stuck_lines version [] = codes "stuck none\n"
+stuck_lines version (s ∷ more) = flat_map (stuck_line version) (s ∷ more)
 
 -- `foreign N`, the calls that count as local for their communicator or their peer, and `end`
 abbrev pub last_lines : Answered → List ℕ
@@ -102,11 +104,11 @@ last_lines a = codes "foreign " ++ decimal a.foreign ++ codes "\nend\n"
 -- the report, line by line
 abbrev pub report_text : Answered → List ℕ
 report_text a =
-    head_lines a
+    head_lines (version_of a.ranks) a
     ++ rank_lines a a.ranks
     ++ flat_map conflict_line a.conflicts
     ++ flat_map pair_line a.pairs
     ++ flat_map postponed_line a.postponed
     ++ flat_map round_line a.rounds
-    ++ stuck_lines a.stuck
+    ++ stuck_lines (version_of a.ranks) a.stuck
     ++ last_lines a

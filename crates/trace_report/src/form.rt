@@ -62,4 +62,34 @@ impl Form {
             Form::Json => b"]}",
         }
     }
+
+    /// What stands before the first rank of a stretch.
+    pub(crate) fn from(self) -> &'static [u8]
+        ensures { result.now ≡ (words_of self).from }
+    {
+        match self {
+            Form::Lines => b"",
+            Form::Json => b"{\"from\":",
+        }
+    }
+
+    /// What stands between the first and the last rank of a stretch.
+    pub(crate) fn to(self) -> &'static [u8]
+        ensures { result.now ≡ (words_of self).to }
+    {
+        match self {
+            Form::Lines => b"-",
+            Form::Json => b",\"to\":",
+        }
+    }
+
+    /// What stands behind the last rank of a stretch.
+    pub(crate) fn end(self) -> &'static [u8]
+        ensures { result.now ≡ (words_of self).end }
+    {
+        match self {
+            Form::Lines => b"",
+            Form::Json => b"}",
+        }
+    }
 }

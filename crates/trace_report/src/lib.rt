@@ -11,7 +11,8 @@
 //! - [`ranks`]: the head and the ranks; [`matching`]: contradictions, pairs, postponed messages;
 //!   [`rounds`]: rounds of collective calls; [`stuck`]: stuck ranks and the end
 //! - [`json`]: the same as JSON; [`form`]: the words in which the two differ
-//! - [`waits`]: what a stuck rank waits for; [`seconds`]: times; [`words`]: words and numbers
+//! - [`waits`]: what a stuck rank waits for; [`parts`]: runs of ranks in that; [`version`]: which reports write
+//!   stretches; [`seconds`]: times; [`words`]: words and numbers
 //! - [`line`]: a line that is put whole
 //! - [`sink`]: where lines go; [`paged`]: page by page; [`direct`]: to the device; [`fault`]: why a report is not whole
 //!
@@ -39,6 +40,7 @@ mod json;
 mod line;
 mod matching;
 mod paged;
+mod parts;
 mod ranks;
 mod report;
 mod rounds;
@@ -46,6 +48,7 @@ mod seconds;
 mod sink;
 mod stuck;
 mod text;
+mod version;
 mod waits;
 mod words;
 

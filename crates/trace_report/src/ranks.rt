@@ -6,15 +6,18 @@ ghost use Rattle.trace_report.specs.Page.{Prints};
 ghost use Rattle.trace_report.specs.Report.{head_lines, rank_line, rank_lines, rank_text};
 
 use crate::sink::Sink;
+use crate::version::Version;
 use crate::words::{put_number, put_where, sends_word, state_word};
 use trace_node::Answer;
 use trace_ops::State;
 
-/// `mpimatch report 1`, and `ranks N sends wait`.
-pub(crate) fn put_head<S: Sink>(out: &mut S, answer: &Answer)
-    ensures { Prints (S.page out.old) (S.page out.new) (head_lines answer.now) }
+/// `mpimatch report VERSION`, and `ranks N sends wait`.
+pub(crate) fn put_head<S: Sink>(out: &mut S, version: Version, answer: &Answer)
+    ensures { Prints (S.page out.old) (S.page out.new) (head_lines version answer.now) }
 {
-    out.put(b"mpimatch report 1\nranks ");
+    out.put(b"mpimatch report ");
+    out.put(version.text());
+    out.put(b"\nranks ");
     put_number(out, answer.ranks() as u64);
     out.put(b" sends ");
     out.put(sends_word(answer.sends()));

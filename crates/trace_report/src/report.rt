@@ -20,6 +20,7 @@ use crate::ranks::{put_head, put_ranks};
 use crate::rounds::put_rounds;
 use crate::sink::Sink;
 use crate::stuck::{put_all_stuck, put_last};
+use crate::version::Version;
 use arrayvec::ArrayVec;
 use mpi_model::Write;
 use trace_node::Answer;
@@ -100,12 +101,13 @@ fn put_form<S: Sink>(out: &mut S, form: Form, answer: &Answer)
 fn put_report<S: Sink>(out: &mut S, answer: &Answer)
     ensures { Prints (S.page out.old) (S.page out.new) (report_text answer.now) }
 {
-    put_head(out, answer);
+    let version = Version::of(answer.ranks());
+    put_head(out, version, answer);
     put_ranks(out, answer);
     put_conflicts(out, answer.conflicts());
     put_pairs(out, answer.pairs());
     put_all_postponed(out, answer.postponed());
     put_rounds(out, answer.rounds());
-    put_all_stuck(out, answer.stuck());
+    put_all_stuck(out, version, answer.stuck());
     put_last(out, answer);
 }

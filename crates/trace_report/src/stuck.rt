@@ -9,33 +9,34 @@ ghost use Rattle.trace_node.specs.Stopped.{stopped};
 use crate::form::Form;
 use crate::seconds::put_seconds;
 use crate::sink::Sink;
+use crate::version::Version;
 use crate::waits::put_wait;
 use crate::words::put_number;
 use trace_node::{Answer, Stuck};
 
 /// A line for each stuck rank, or `stuck none`.
-pub(crate) fn put_all_stuck<S: Sink>(out: &mut S, ranks: &[Stuck])
-    ensures { Prints (S.page out.old) (S.page out.new) (stuck_lines (map stopped ranks.now)) }
+pub(crate) fn put_all_stuck<S: Sink>(out: &mut S, version: Version, ranks: &[Stuck])
+    ensures { Prints (S.page out.old) (S.page out.new) (stuck_lines version (map stopped ranks.now)) }
 {
     if ranks.is_empty() {
         out.put(b"stuck none\n");
     } else {
-        put_each_stuck(out, ranks);
+        put_each_stuck(out, version, ranks);
     }
 }
 
 /// The line of each stuck rank.
-fn put_each_stuck<S: Sink>(out: &mut S, ranks: &[Stuck])
-    ensures { Prints (S.page out.old) (S.page out.new) (flat_map stuck_line (map stopped ranks.now)) }
+fn put_each_stuck<S: Sink>(out: &mut S, version: Version, ranks: &[Stuck])
+    ensures { Prints (S.page out.old) (S.page out.new) (flat_map (stuck_line version) (map stopped ranks.now)) }
 {
     for stuck in ranks {
-        put_stuck(out, stuck);
+        put_stuck(out, version, stuck);
     }
 }
 
 /// `stuck R call CALL since SECONDS waits CONDITION`.
-fn put_stuck<S: Sink>(out: &mut S, stuck: &Stuck)
-    ensures { Prints (S.page out.old) (S.page out.new) (stuck_line (stopped stuck.now)) }
+fn put_stuck<S: Sink>(out: &mut S, version: Version, stuck: &Stuck)
+    ensures { Prints (S.page out.old) (S.page out.new) (stuck_line version (stopped stuck.now)) }
 {
     out.put(b"stuck ");
     put_number(out, stuck.rank as u64);
@@ -44,7 +45,7 @@ fn put_stuck<S: Sink>(out: &mut S, stuck: &Stuck)
     out.put(b" since ");
     put_seconds(out, stuck.wall);
     out.put(b" waits ");
-    put_wait(out, Form::Lines, &stuck.waits);
+    put_wait(out, Form::Lines, version, &stuck.waits);
     out.put(b"\n");
 }
 

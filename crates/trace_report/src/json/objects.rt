@@ -1,17 +1,13 @@
-//! The objects of contradictions, pairs, postponed messages, rounds and stuck ranks.
+//! The objects of contradictions, pairs, postponed messages and rounds.
 
 ghost use Rattle.trace_report.specs.Json.{called_fields, complete_fields, open_fields, root_value, standing_fields};
 ghost use Rattle.trace_report.specs.Page.{Prints};
 
-use crate::form::Form;
 use crate::json::array::Value;
 use crate::json::ranks::bool_text;
-use crate::seconds::put_seconds;
 use crate::sink::Sink;
-use crate::waits::put_wait;
 use crate::words::{put_function, put_number, put_part};
 use mpi_model::{CollectiveFunction, OpName};
-use trace_node::Stuck;
 use trace_pair::Pair;
 use trace_wait::{Round, Standing};
 
@@ -72,25 +68,6 @@ impl Value for Round {
         put_number(out, self.k);
         out.put(b",\"standing\":\"");
         put_standing(out, self.standing);
-        out.put(b"}");
-    }
-}
-
-impl Value for Stuck {
-    ghost use Rattle.trace_node.specs.Stopped.{stopped};
-    ghost use Rattle.trace_report.specs.Json.{stuck_object};
-
-    ghost value = { λ s. stuck_object (stopped s) };
-
-    fn put<S: Sink>(&self, out: &mut S) {
-        out.put(b"{\"rank\":");
-        put_number(out, self.rank as u64);
-        out.put(b",\"call\":");
-        put_number(out, self.call);
-        out.put(b",\"since\":\"");
-        put_seconds(out, self.wall);
-        out.put(b"\",\"waits\":");
-        put_wait(out, Form::Json, &self.waits);
         out.put(b"}");
     }
 }
