@@ -17,18 +17,18 @@ use Rattle.mpi_model.specs.Names.{has_clash, has_clash_of}
 use Rattle.mpi_model.proofs.Communicators.{all_groups, and_true, communicator_world, distinct, or_false, whole_world}
 
 -- the numbers of ranks and of communicators are allowed
-pub within : (ranks world : ℕ) (gs : List Communicator) → 0 < ranks → ranks ≤ 1024 → length gs ≤ 65536 → fault_of ranks world gs ≡ comm_fault ranks world gs
+pub within : (ranks world : ℕ) (gs : List Communicator) → 0 < ranks → ranks ≤ 1048576 → length gs ≤ 16777216 → fault_of ranks world gs ≡ comm_fault ranks world gs
 within ranks world gs some few short =
     let a : (ranks == 0) ≡ false = grind (arith, common_steps) in
-    let b : nat_lt 1024 ranks ≡ false = grind (arith, common_steps) in
-    let d : nat_lt 65536 (length gs) ≡ false = grind (arith, common_steps) in
+    let b : nat_lt 1048576 ranks ≡ false = grind (arith, common_steps) in
+    let d : nat_lt 16777216 (length gs) ≡ false = grind (arith, common_steps) in
     rw (a, b, d) refl
 
-pub too_many : (ranks world : ℕ) (gs : List Communicator) → 0 < ranks → ranks ≤ 1024 → 65536 < length gs → fault_of ranks world gs ≡ Some CommCount
+pub too_many : (ranks world : ℕ) (gs : List Communicator) → 0 < ranks → ranks ≤ 1048576 → 16777216 < length gs → fault_of ranks world gs ≡ Some CommCount
 too_many ranks world gs some few long =
     let a : (ranks == 0) ≡ false = grind (arith, common_steps) in
-    let b : nat_lt 1024 ranks ≡ false = grind (arith, common_steps) in
-    let d : nat_lt 65536 (length gs) ≡ true = grind (arith, common_steps) in
+    let b : nat_lt 1048576 ranks ≡ false = grind (arith, common_steps) in
+    let d : nat_lt 16777216 (length gs) ≡ true = grind (arith, common_steps) in
     rw (a, b, d) refl
 
 record Passes (ranks world : ℕ) (gs : List Communicator) : Type 0 where
@@ -88,7 +88,7 @@ rising given sorted o single =
     IsStrictlyIncreasing-from_distinct (ids sorted) (never_falls sorted o.rising)
     (IsDistinct-IsPermutation eqb flips (ids given) (ids sorted) (IsPermutation-map (λ (g : Communicator). g.comm) given sorted o.same) (distinct (ids given) single))
 
-pub layout_known : (ranks world : ℕ) (sends : Sends) (given sorted : List Communicator) → 0 < ranks → ranks ≤ 1024 → length given ≤ 65536
+pub layout_known : (ranks world : ℕ) (sends : Sends) (given sorted : List Communicator) → 0 < ranks → ranks ≤ 1048576 → length given ≤ 16777216
     → comm_fault ranks world given ≡ None → InOrder given sorted → IsLayout (record { ranks = ranks; world = world; sends = sends; comms = sorted })
 layout_known ranks world sends given sorted some few short n o =
     let p = passes ranks world given n in

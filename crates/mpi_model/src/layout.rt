@@ -29,10 +29,10 @@ mod numbering;
 mod rules;
 
 /// The most ranks of a layout.
-pub const MOST_RANKS: u32 = 1024;
+pub const MOST_RANKS: u32 = 1_048_576;
 
 /// The most communicators, windows and files of a layout.
-pub const MOST_COMMS: usize = 65_536;
+pub const MOST_COMMS: usize = 16_777_216;
 
 /// How sends of standard mode complete. MPI allows both, and a program can't know which it gets (MPI 4.0, 3.4).
 #[derive(Clone, Copy, PartialEq, Eq)]

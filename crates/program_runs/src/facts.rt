@@ -35,7 +35,7 @@ pub(crate) struct Facts {
 fn wanted_in(alloc: Global, named: &[(u32, u64)], note: &TextNote) -> Result<Vec<u64>, AllocError> {
     let mut wanted = Vec::new(alloc);
     let begin = named.partition_point(|call| *call < (note.rank(), note.first()));
-    for (rank, call) in named.iter().skip(begin) {
+    for (rank, call) in &named[begin..] {
         let number = call.saturating_sub(note.first());
         if *rank != note.rank() || number >= note.calls() {
             break;

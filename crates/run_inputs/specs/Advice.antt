@@ -28,7 +28,7 @@ reason_text name (Some reasons.Absent) = said (codes "no file has this name") ++
 reason_text name (Some reasons.Denied) = said (codes "it may not be read: look at the rights of the file and of the folders above it")
 reason_text name (Some reasons.Folder) = said (codes "it is a folder")
 reason_text name (Some (reasons.Long length)) =
-    codes "  it has " ++ decimal length ++ codes " bytes, and a layout or a manifest has at most 16777216\n"
+    codes "  it has " ++ decimal length ++ codes " bytes, and a layout or a manifest has at most 268435456\n"
 
 -- where a file is no JSON
 abbrev pub json_text : ℕ → ℕ → Option Start → List ℕ

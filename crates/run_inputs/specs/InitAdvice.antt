@@ -17,7 +17,7 @@ ranks_there_text ranks = if ranks - 1 == 0 then said (codes "there is rank 0 alo
 
 -- which text is of a rank that no layout has
 abbrev pub beyond_text : List ℕ → List ℕ
-beyond_text name = codes "  " ++ shown_name name ++ codes " is of a rank above 1023, by the digits of its name: a layout has at most 1024 ranks\n"
+beyond_text name = codes "  " ++ shown_name name ++ codes " is of a rank above 1048575, by the digits of its name: a layout has at most 1048576 ranks\n"
 
 -- the words: of a text that is refused those of its fault, of one without a call what it begins as, of one whose rank no
 -- layout has its name, of a layout that breaks a rule the rule, and of a rank that is not there which there are

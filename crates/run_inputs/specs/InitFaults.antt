@@ -31,8 +31,8 @@ made_fault_text mades.Memory = codes "Memory"
 made_fault_text (mades.Size rank size) = size_text rank size (codes " of MPI_COMM_WORLD, and there is not one text for each")
 made_fault_text (mades.World first second) = ranks_text first second (codes " have two numbers for MPI_COMM_WORLD: their texts are not of one run")
 made_fault_text (mades.Layout fault) = layout_fault_name fault ++ codes " in the layout of the texts"
-made_fault_text mades.LayoutFile = codes "the layout has more than 16777216 bytes"
-made_fault_text mades.ManifestFile = codes "the manifest has more than 16777216 bytes"
+made_fault_text mades.LayoutFile = codes "the layout has more than 268435456 bytes"
+made_fault_text mades.ManifestFile = codes "the manifest has more than 268435456 bytes"
 
 -- why nothing is made, in words
 abbrev pub init_fault_text : InitFault → List ℕ
@@ -42,7 +42,7 @@ init_fault_text (NoCall path) = shown_name (string_bytes path) ++ codes " has li
 init_fault_text (Piped path) = shown_name (string_bytes path) ++ codes " is a pipe or a device, and each text is read twice: keep it in a file"
 init_fault_text (Strange path start) = shown_name (string_bytes path) ++ strange_text start
 init_fault_text (NoTexts path) = shown_name (string_bytes path) ++ codes " is a folder without a file whose name ends in .txt"
-init_fault_text TooMany = codes "more than 1024 texts, which are more ranks than a layout can have"
+init_fault_text TooMany = codes "more than 1048576 texts, which are more ranks than a layout can have"
 init_fault_text (Twice path) = shown_name (string_bytes path) ++ codes " is of the rank of a text before it, by the digits of its name"
 init_fault_text (Beyond path) = made_fault_text (mades.Layout RankCount)
 init_fault_text (Made fault) = made_fault_text fault

@@ -60,7 +60,7 @@ strange_text _ = codes " is no trace text"
 
 -- the field that can't be read
 abbrev pub field_text : Field → List ℕ
-field_text fields.Ranks = said (codes "`ranks` must be a number from 1 to 1024")
+field_text fields.Ranks = said (codes "`ranks` must be a number from 1 to 1048576")
 field_text fields.World = said (codes "`world` must be the `id` of a communicator, a number from 0 to 4294967295")
 field_text fields.Sends = said (codes "`sends` must be \"wait\", or \"buffer\" where sends are buffered")
 field_text fields.Comms = said (codes "`comms` must be a list of communicators, each as {\"id\":2,\"members\":[0,1]}, with a list `numbers` or without")
@@ -71,8 +71,8 @@ field_text fields.Schedule = said (codes "`schedule` must be a list of steps, ea
 
 -- the rule of layouts that is broken
 abbrev pub layout_text : LayoutFault → List ℕ
-layout_text layouts.RankCount = said (codes "`ranks` is a number from 1 to 1024")
-layout_text layouts.CommCount = said (codes "there are more than 65536 communicators")
+layout_text layouts.RankCount = said (codes "`ranks` is a number from 1 to 1048576")
+layout_text layouts.CommCount = said (codes "there are more than 16777216 communicators")
 layout_text layouts.DoubleComm = said (codes "two communicators have the same `id`")
 layout_text layouts.EmptyComm = said (codes "a communicator has no member")
 layout_text layouts.MemberRange = said (codes "a member of a communicator is no rank of the run: ranks go from 0 to `ranks` - 1")

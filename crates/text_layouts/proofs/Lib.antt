@@ -1,4 +1,5 @@
 pub mod Adding
+pub mod Firsts
 pub mod Fitting
 pub mod Lines
 pub mod Orders

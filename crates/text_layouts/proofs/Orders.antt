@@ -1,9 +1,10 @@
 -- Which text is of which rank, from what is found in the numbers.
-use Rattle.std.proofs.Common.{◌≡◌, ◌≢◌, ◌∙◌, ◌<◌, ◌≤◌, ◌+◌, ◌-◌, ◌⊎◌, ℕ, zero, suc, Bool, true, false, List, [], ◌∷◌, ◌++◌, Option, Some, None, cond, drop, drop-cons, get_or, length, length-append, ap, sym, subst, refl, inl, inr, arith}
+use Rattle.std.proofs.Common.{◌≡◌, ◌≢◌, ◌∙◌, ◌<◌, ◌≤◌, ◌+◌, ◌-◌, ◌⊎◌, ℕ, zero, suc, Bool, true, false, List, [], ◌∷◌, ◌++◌, Option, Some, None, cond, get_or, length, length-append, ap, sym, subst, refl, inl, inr, arith}
 use Rattle.std.specs.List.{slice_get}
 use Rattle.std.proofs.lemmas.Bool.{cases_eq, eq-eqb, eqb-true, false≢true}
-use Rattle.text_layouts.specs.Names.{AllApart, AreNumbered, IsByDigits, IsOrder, LacksRank, again_at, again_for, are_numbered, first_from, is_number, or_later, twice_from}
+use Rattle.text_layouts.specs.Names.{AllApart, AreNumbered, IsByDigits, IsOrder, LacksRank, again_for, are_numbered, first_from, first_places, is_number, or_later, twice_from}
 use Rattle.text_layouts.specs.declared.order.Order.TheVariants as orders
+use Rattle.text_layouts.proofs.Firsts.{one_for_each, place_of}
 use Rattle.text_layouts.proofs.Places.{pushed, stayed}
 
 -- ---- a number in the list
@@ -82,9 +83,6 @@ later_found place (Some at) later both e = inl (at, refl, cc)
 none_later : (place : ℕ) (again : Option ℕ) (later : Option (ℕ × ℕ)) → or_later place again later ≡ None → (again ≡ None) × (later ≡ None)
 none_later place None later e = (refl, e)
 none_later place (Some at) later e = absurd (cc)
-
-drop_next : {X : Type 0} (xs : List X) (i : ℕ) (d : X) → i < length xs → drop i xs ≡ get_or xs i d ∷ drop (i + 1) xs
-drop_next {X} xs i d below = drop-cons xs i d below ∙ ap (λ (n : ℕ). get_or xs i d ∷ drop n xs) (let one : suc i ≡ i + 1 = omega arith in one)
 
 -- the first number doesn't stand among the others
 alone : (place : ℕ) (number : Option ℕ) (numbers : List (Option ℕ)) (n : ℕ) → again_for place number numbers ≡ None → number ≡ Some n → (k : ℕ) → slice_get numbers k ≢ Some (Some n)
@@ -171,14 +169,6 @@ twice_missed place (number ∷ numbers) e (suc i) zero n below h g = absurd (ome
 twice_missed place (number ∷ numbers) e (suc i) (suc j) n below h g =
     twice_missed (place + 1) numbers (none_later place (again_for place number numbers) (twice_from (place + 1) numbers) e).1 i j n (omega arith) h g
 
-next_twice : (place : ℕ) (numbers : List (Option ℕ)) (number : Option ℕ) (others : List (Option ℕ)) → numbers ≡ number ∷ others → again_at place numbers ≡ None → twice_from place numbers ≡ twice_from (place + 1) others
-next_twice place numbers number others is none =
-    ap (twice_from place) is ∙ ap (λ (o : Option ℕ). or_later place o (twice_from (place + 1) others)) (sym (ap (again_at place) is) ∙ none)
-
--- the number at a place doesn't stand again
-pub one_alone : (numbers : List (Option ℕ)) (first : ℕ) → first < length numbers → again_at first (drop first numbers) ≡ None → twice_from (first + 1) (drop (first + 1) numbers) ≡ twice_from first (drop first numbers)
-one_alone numbers first below none = sym (next_twice first (drop first numbers) (get_or numbers first None) (drop (first + 1) numbers) (drop_next numbers first None below) none)
-
 -- ---- the order
 
 -- the text of each rank so far
@@ -186,8 +176,8 @@ pub record IsFront (numbers : List (Option ℕ)) (order : List ℕ) (ranks : ℕ
   pub whole : length order ≡ ranks
   pub each : (rank : ℕ) → rank < ranks → (place : ℕ) × (slice_get order rank ≡ Some place) × (slice_get numbers place ≡ Some (Some rank))
 
-pub one_rank_more : (numbers : List (Option ℕ)) (order next : List ℕ) (rank place : ℕ) → IsFront numbers order rank → first_from rank 0 numbers ≡ Some place → next ≡ order ++ place ∷ [] → IsFront numbers next (rank + 1)
-one_rank_more numbers order next rank place front found is = record {
+rank_more : (numbers : List (Option ℕ)) (order next : List ℕ) (rank place : ℕ) → IsFront numbers order rank → first_from rank 0 numbers ≡ Some place → next ≡ order ++ place ∷ [] → IsFront numbers next (rank + 1)
+rank_more numbers order next rank place front found is = record {
   whole = (let len = length-append order (place ∷ []) in let all : length next ≡ length (order ++ place ∷ []) = ap (λ (l : List ℕ). length l) is in let before = front.whole in omega (arith, len, all));
   each = λ k below. elim (cases_eq k rank) [
     | inl same ↦ (
@@ -204,11 +194,21 @@ one_rank_more numbers order next rank place front found is = record {
 pub no_rank_yet : (numbers : List (Option ℕ)) → IsFront numbers [] 0
 no_rank_yet numbers = record { whole = refl; each = λ k below. absurd (omega arith) }
 
-pub all_ranks : (numbers : List (Option ℕ)) (order : List ℕ) → IsFront numbers order (length numbers) → IsByDigits numbers order
-all_ranks numbers order front = record { whole = front.whole; each = front.each }
+pub one_rank_more : (numbers places : List (Option ℕ)) (order next : List ℕ) (rank place : ℕ) → places ≡ first_places numbers (length numbers) → rank < length places
+    → get_or places rank None ≡ Some place → IsFront numbers order rank → next ≡ order ++ place ∷ [] → IsFront numbers next (rank + 1)
+one_rank_more numbers places order next rank place all below at front is = rank_more numbers order next rank place front (sym (place_of numbers places (length numbers) rank all below) ∙ at) is
 
-pub lacks_rank : (numbers : List (Option ℕ)) (rank : ℕ) → rank < length numbers → first_from rank 0 numbers ≡ None → LacksRank numbers
-lacks_rank numbers rank below e = record { rank = rank; below = below; none = first_missed rank 0 numbers e }
+pub all_ranks : (numbers places : List (Option ℕ)) (order : List ℕ) (rank : ℕ) → places ≡ first_places numbers (length numbers) → length places ≤ rank → rank ≤ length places
+    → IsFront numbers order rank → IsByDigits numbers order
+all_ranks numbers places order rank all end most front =
+    let each = one_for_each numbers places (length numbers) all in
+    let same : rank ≡ length numbers = omega (arith, each, end, most) in
+    record { whole = front.whole ∙ same; each = λ k below. front.each k (omega (arith, same, below)) }
+
+pub lacks_rank : (numbers places : List (Option ℕ)) (rank : ℕ) → places ≡ first_places numbers (length numbers) → rank < length places → get_or places rank None ≡ None → LacksRank numbers
+lacks_rank numbers places rank all below none =
+    let each = one_for_each numbers places (length numbers) all in
+    record { rank = rank; below = omega (arith, each, below); none = first_missed rank 0 numbers (sym (place_of numbers places (length numbers) rank all below) ∙ none) }
 
 pub lacks_unnumbered : (numbers given : List (Option ℕ)) → numbers ≡ given → LacksRank numbers → are_numbered numbers ≡ false → IsOrder given orders.Words
 lacks_unnumbered numbers given is lacks e = subst (λ (ns : List (Option ℕ)). IsOrder ns orders.Words) is (lacks, λ all. absurd (unnumbered numbers e all))

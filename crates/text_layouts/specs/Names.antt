@@ -1,5 +1,8 @@
 -- Which text is of which rank, by the names of their files.
-use Rattle.std.specs.Prelude.{◌≡◌, ◌≢◌, ◌<◌, ℕ, ◌+◌, ◌*◌, ◌-◌, ◌^◌, ◌==◌, ◌&&◌, Bool, true, false, List, [], ◌∷◌, Option, Some, None, fold, is_some, length, map, min, nat_le, slice_get, if◌then◌else◌}
+use Rattle.std.specs.Prelude.{◌≡◌, ◌≢◌, ◌<◌, ℕ, ◌+◌, ◌*◌, ◌-◌, ◌^◌, ◌==◌, ◌&&◌, Bool, true, false, List, [], ◌∷◌, Option, Some, None, fold, is_some, length, map, min, nat_le, slice_get, slice_index_or, if◌then◌else◌}
+use Rattle.std.specs.BTreeMap.{BTreeMap, get}
+use Rattle.std.specs.List.{range_with_len}
+use Rattle.std.specs.Ordering.{nat_cmp}
 use Rattle.text_layouts.specs.declared.order.Ends.{Ends}
 use Rattle.text_layouts.specs.declared.order.Order.{Order}
 use Rattle.text_layouts.specs.declared.order.Order.TheVariants as orders
@@ -58,6 +61,18 @@ abbrev pub first_from : ℕ → ℕ → List (Option ℕ) → Option ℕ
 first_from number place [] = None
 first_from number place (named ∷ names) = if is_number number named then Some place else first_from number (place + 1) names
 
+-- the first place of each number below this one
+abbrev pub first_places : List (Option ℕ) → ℕ → List (Option ℕ)
+first_places numbers count = map (λ number. first_from number 0 numbers) (range_with_len 0 count)
+
+-- The place is noted for this number, if one is noted for each as great. Those of other numbers stay.
+abbrev pub NotesPlace : Option ℕ → ℕ → (old new : List (Option ℕ)) → Type 0
+NotesPlace number place old new = (n : ℕ) → n < length old → slice_index_or new n None ≡ (if is_number n number then Some place else slice_index_or old n None)
+
+-- The place is noted for this number. Those of other numbers stay.
+abbrev pub NotesLater : Option ℕ → ℕ → (old new : BTreeMap ℕ ℕ) → Type 0
+NotesLater number place old new = (n : ℕ) → get nat_cmp new n ≡ (if is_number n number then Some place else get nat_cmp old n)
+
 -- each name has a number
 abbrev pub are_numbered : List (Option ℕ) → Bool
 are_numbered [] = true
@@ -67,11 +82,6 @@ are_numbered (number ∷ numbers) = is_some number && are_numbered numbers
 abbrev pub again_for : ℕ → Option ℕ → List (Option ℕ) → Option ℕ
 again_for place None numbers = None
 again_for place (Some number) numbers = first_from number (place + 1) numbers
-
--- where the first number stands again
-abbrev pub again_at : ℕ → List (Option ℕ) → Option ℕ
-again_at place [] = None
-again_at place (number ∷ numbers) = again_for place number numbers
 
 -- the first name whose number stands once more, with the place where it does
 abbrev pub or_later : ℕ → Option ℕ → Option (ℕ × ℕ) → Option (ℕ × ℕ)

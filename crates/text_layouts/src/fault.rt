@@ -22,10 +22,10 @@ pub enum MadeFault {
     #[error("{0}")]
     Layout(LayoutFault),
     /// The layout's file would have more than [`LONGEST_FILE`](run_files::LONGEST_FILE) bytes.
-    #[error("the layout has more than 16777216 bytes")]
+    #[error("the layout has more than 268435456 bytes")]
     LayoutFile,
     /// The manifest's file would have more than that.
-    #[error("the manifest has more than 16777216 bytes")]
+    #[error("the manifest has more than 268435456 bytes")]
     ManifestFile,
 }
 

@@ -1,10 +1,13 @@
 //! Which text is of which rank, by the names of their files.
 
-ghost use Rattle.std.specs.Prelude.{◌≡◌, ◌<◌, ◌≤◌, IfNone, IfOk, IfSome, drop, length, map, string_bytes};
+ghost use Rattle.std.specs.Prelude.{◌≡◌, ◌≤◌, IfNone, IfOk, IfSome, OnOk, length, map, option_and_then, string_bytes};
+ghost use Rattle.std.specs.BTreeMap.{get};
+ghost use Rattle.std.specs.Ordering.{nat_cmp};
 ghost use Rattle.mpi_model.specs.declared.layout.TheConstants.{MOST_RANKS};
-ghost use Rattle.text_layouts.specs.Names.{IsByDigits, IsOrder, LacksRank, again_at, are_numbered, byte_after, digit_after, first_from, is_number, number_of, numbers_of, twice_from};
+ghost use Rattle.text_layouts.specs.Names.{IsByDigits, IsOrder, LacksRank, NotesLater, NotesPlace, are_numbered, byte_after, digit_after, first_from, first_places, is_number, number_of, numbers_of, twice_from};
 
 use std::alloc::{AllocError, Global};
+use std::collections::BTreeMap;
 
 /// Which text is of which rank.
 #[derive(Drop)]
@@ -105,11 +108,11 @@ fn is_number(number: u64, named: Option<u64>) -> bool
     }
 }
 
-/// The first place from this one on at which the number stands.
-pub(crate) fn first_from(numbers: &[Option<u64>], number: u64, from: usize) -> Option<usize>
-    ensures { result ≡ first_from number from (drop from numbers.now) }
+/// The first place at which the number stands.
+pub(crate) fn first_place(numbers: &[Option<u64>], number: u64) -> Option<usize>
+    ensures { result ≡ first_from number 0 numbers.now }
 {
-    for place in from..numbers.len() {
+    for place in 0..numbers.len() {
         if is_number(number, numbers[place]) {
             return Some(place);
         }
@@ -117,15 +120,45 @@ pub(crate) fn first_from(numbers: &[Option<u64>], number: u64, from: usize) -> O
     None
 }
 
+/// Notes the place of a number, where one is noted for each number as great.
+fn note_place(places: &mut [Option<usize>], number: Option<u64>, place: usize)
+    ensures { NotesPlace number place places.old places.new }
+{
+    if let Some(number) = number {
+        if number < places.len() as u64 {
+            places[number as usize] = Some(place);
+        }
+    }
+}
+
+/// The first place of each number below this one. The places are gone through from the last to the first, so that the
+/// first one of a number is noted last.
+pub(crate) fn first_places(
+    alloc: Global,
+    numbers: &[Option<u64>],
+    count: usize,
+) -> Result<Vec<Option<usize>>, AllocError>
+    ensures { IfOk result (λ places. places.items ≡ first_places numbers.now count) }
+{
+    let mut places = vec![in alloc; None; count]?;
+    let mut place = numbers.len();
+    while place > 0 {
+        place -= 1;
+        note_place(&mut places, numbers[place], place);
+    }
+    Ok(places)
+}
+
 /// The place of each rank's text.
-#[tactic(auto, using(crate::proofs::Orders::one_rank_more, crate::proofs::Orders::no_rank_yet, crate::proofs::Orders::all_ranks, crate::proofs::Orders::lacks_rank))]
+#[tactic(auto, using(crate::proofs::Orders::one_rank_more, crate::proofs::Orders::no_rank_yet, crate::proofs::Orders::lacks_rank))]
 fn by_digits(alloc: Global, numbers: &[Option<u64>]) -> Result<Option<Vec<usize>>, AllocError>
     ensures some { IfOk result (λ order. IfSome order (λ o. IsByDigits numbers.now o.items)) }
     ensures none { IfOk result (λ order. IfNone order (LacksRank numbers.now)) }
 {
-    let mut order = Vec::with_capacity(alloc, numbers.len())?;
-    for rank in 0..numbers.len() {
-        match first_from(numbers, rank as u64, 0) {
+    let places = first_places(alloc, numbers, numbers.len())?;
+    let mut order = Vec::with_capacity(alloc, places.len())?;
+    for place in &places {
+        match *place {
             Some(place) => order.push(place)?,
             None => return Ok(None),
         }
@@ -145,28 +178,36 @@ pub(crate) fn are_numbered(numbers: &[Option<u64>]) -> bool
     true
 }
 
-/// Where the number of this place stands again.
-fn again_at(numbers: &[Option<u64>], place: usize) -> Option<usize>
-    requires { place < length numbers.now }
-    ensures { result ≡ again_at place (drop place numbers.now) }
+/// Notes the place of a number. Returns the one that was noted for it before.
+fn note_later(
+    later: &mut BTreeMap<u64, usize>,
+    number: Option<u64>,
+    place: usize,
+) -> Result<Option<usize>, AllocError>
+    ensures again { IfOk result (λ again. again ≡ option_and_then (get nat_cmp later.old) number) }
+    ensures noted { OnOk result (NotesLater number place later.old later.new) }
 {
-    match numbers[place] {
-        Some(number) => first_from(numbers, number, place + 1),
-        None => None,
+    match number {
+        Some(number) => Ok(later.insert(number, place)?),
+        None => Ok(None),
     }
 }
 
-/// The first two places at which one number stands.
-#[tactic(auto, using(crate::proofs::Orders::one_alone))]
-fn twice_in(numbers: &[Option<u64>]) -> Option<(usize, usize)>
-    ensures { result ≡ twice_from 0 numbers.now }
+/// The first two places at which one number stands. The places are gone through from the last to the first, with the
+/// next place of each number noted.
+fn twice_in(alloc: Global, numbers: &[Option<u64>]) -> Result<Option<(usize, usize)>, AllocError>
+    ensures { IfOk result (λ both. both ≡ twice_from 0 numbers.now) }
 {
-    for first in 0..numbers.len() {
-        if let Some(second) = again_at(numbers, first) {
-            return Some((first, second));
+    let mut later = BTreeMap::new(alloc);
+    let mut both = None;
+    let mut first = numbers.len();
+    while first > 0 {
+        first -= 1;
+        if let Some(second) = note_later(&mut later, numbers[first], first)? {
+            both = Some((first, second));
         }
     }
-    None
+    Ok(both)
 }
 
 /// Which text is of which rank, by the names of its files, no more than a layout can have ranks. A number above 2^64 -
@@ -183,7 +224,7 @@ pub fn order_of(alloc: Global, names: &[String]) -> Result<Order, AllocError>
     if !are_numbered(&numbers) {
         return Ok(Order::Words);
     }
-    match twice_in(&numbers) {
+    match twice_in(alloc, &numbers)? {
         Some(both) => Ok(Order::Twice {
             first: both.0,
             second: both.1,

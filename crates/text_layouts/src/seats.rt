@@ -4,7 +4,7 @@ ghost use Rattle.std.specs.Prelude.{◌≡◌, ◌++◌, ◌<◌, ◌≤◌, ◌
 ghost use Rattle.mpi_model.specs.declared.layout.TheConstants.{MOST_RANKS};
 ghost use Rattle.text_layouts.specs.Seats.{IsSpread, are_below, beyond_by, beyond_of, count_of, first_beyond, greater, in_order, is_below, kept, missing_from, one_missing, one_text, spread_by, spread_of, texts_from, texts_upto, told_size, unless_each, with_number};
 
-use crate::order::{are_numbered, first_from, numbers_of};
+use crate::order::{are_numbered, first_place, first_places, numbers_of};
 use comm_makings::RankCalls;
 use mpi_model::MOST_RANKS;
 use run_files::Piece;
@@ -102,7 +102,7 @@ fn spread_of(size: Option<u32>, numbers: &[Option<u64>]) -> Option<u64>
             }
         }
         None => {
-            if first_from(numbers, 0, 0).is_some() && are_below(MOST_RANKS as u64, numbers) {
+            if first_place(numbers, 0).is_some() && are_below(MOST_RANKS as u64, numbers) {
                 unless_each(numbers.len(), count_of(numbers))
             } else {
                 None
@@ -131,7 +131,7 @@ fn beyond_of(size: Option<u32>, numbers: &[Option<u64>]) -> Option<usize>
     match size {
         Some(_) => None,
         None => {
-            if first_from(numbers, 0, 0).is_some() && are_numbered(numbers) {
+            if first_place(numbers, 0).is_some() && are_numbered(numbers) {
                 first_beyond(MOST_RANKS as u64, numbers)
             } else {
                 None
@@ -167,7 +167,7 @@ fn named(alloc: Global, names: &[String], place: usize) -> Result<Option<String>
 }
 
 /// The text of each of so many ranks: the one whose name has the number of the rank.
-#[tactic(auto, using(crate::proofs::Seating::one_rank_more))]
+#[tactic(auto, using(crate::proofs::Seating::one_rank_more, crate::proofs::Firsts::place_of, crate::proofs::Firsts::one_for_each))]
 fn texts_upto(
     alloc: Global,
     numbers: &[Option<u64>],
@@ -177,10 +177,10 @@ fn texts_upto(
     ensures texts { IfOk result (λ seats. kept seats.items ≡ texts_upto numbers.now (map string_bytes names.now) count) }
     ensures count { IfOk result (λ seats. length seats.items ≡ count) }
 {
-    let mut seats = Vec::new(alloc);
-    for rank in 0..count {
-        let place = first_from(numbers, rank, 0);
-        seats.push(name_at(alloc, names, place)?)?;
+    let places = first_places(alloc, numbers, count as usize)?;
+    let mut seats = Vec::with_capacity(alloc, places.len())?;
+    for place in &places {
+        seats.push(name_at(alloc, names, *place)?)?;
     }
     Ok(seats)
 }
@@ -197,7 +197,7 @@ pub fn in_order(alloc: Global, names: &[String]) -> Result<Vec<Option<String>>, 
     Ok(seats)
 }
 
-/// The first text that is of a rank by the number of its name which no layout has: 1,024 or above, where the texts in
+/// The first text that is of a rank by the number of its name which no layout has: 1,048,576 or above, where the texts in
 /// the order of these names tell no size of MPI_COMM_WORLD, and each name has a number and one has 0.
 pub fn text_beyond(
     alloc: Global,

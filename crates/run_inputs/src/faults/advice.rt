@@ -114,7 +114,7 @@ fn put_reason<W: fmt::Write>(
         Some(Reason::Folder) => f.write_str("  it is a folder\n"),
         Some(Reason::Long(length)) => write!(
             f,
-            "  it has {length} bytes, and a layout or a manifest has at most 16777216\n"
+            "  it has {length} bytes, and a layout or a manifest has at most 268435456\n"
         ),
     }
 }

@@ -63,7 +63,7 @@ fn put_beyond<W: fmt::Write>(f: &mut fmt::Formatter<W>, path: &str) -> fmt::Resu
     let name = FileName::new(path);
     write!(
         f,
-        "  {name} is of a rank above 1023, by the digits of its name: a layout has at most 1024 ranks\n"
+        "  {name} is of a rank above 1048575, by the digits of its name: a layout has at most 1048576 ranks\n"
     )
 }
 

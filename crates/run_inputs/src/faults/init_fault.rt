@@ -121,8 +121,8 @@ fn put_made<W: fmt::Write>(f: &mut fmt::Formatter<W>, fault: &MadeFault) -> fmt:
             let name = name_of_layout(*fault);
             write!(f, "{name} in the layout of the texts")
         }
-        MadeFault::LayoutFile => write!(f, "the layout has more than 16777216 bytes"),
-        MadeFault::ManifestFile => write!(f, "the manifest has more than 16777216 bytes"),
+        MadeFault::LayoutFile => write!(f, "the layout has more than 268435456 bytes"),
+        MadeFault::ManifestFile => write!(f, "the manifest has more than 268435456 bytes"),
     }
 }
 
@@ -169,7 +169,7 @@ impl fmt::Display for InitFault {
             InitFault::NoTexts { path } => put_file(f, path, NO_TEXTS),
             InitFault::TooMany => write!(
                 f,
-                "more than 1024 texts, which are more ranks than a layout can have"
+                "more than 1048576 texts, which are more ranks than a layout can have"
             ),
             InitFault::Twice { path } => put_file(f, path, TWICE),
             InitFault::Beyond { .. } => put_made(f, &MadeFault::Layout(LayoutFault::RankCount)),

@@ -21,7 +21,7 @@ pub(crate) fn field_text(field: Field) -> &'static str
     ensures { result.now ≡ field_text field }
 {
     match field {
-        Field::Ranks => "  `ranks` must be a number from 1 to 1024\n",
+        Field::Ranks => "  `ranks` must be a number from 1 to 1048576\n",
         Field::World =>
             "  `world` must be the `id` of a communicator, a number from 0 to 4294967295\n",
         Field::Sends => "  `sends` must be \"wait\", or \"buffer\" where sends are buffered\n",
@@ -128,8 +128,8 @@ pub fn layout_text(fault: LayoutFault) -> &'static str
     ensures { result.now ≡ layout_text fault }
 {
     match fault {
-        LayoutFault::RankCount => "  `ranks` is a number from 1 to 1024\n",
-        LayoutFault::CommCount => "  there are more than 65536 communicators\n",
+        LayoutFault::RankCount => "  `ranks` is a number from 1 to 1048576\n",
+        LayoutFault::CommCount => "  there are more than 16777216 communicators\n",
         LayoutFault::DoubleComm => "  two communicators have the same `id`\n",
         LayoutFault::EmptyComm => "  a communicator has no member\n",
         LayoutFault::MemberRange => {

@@ -15,20 +15,20 @@ returns-then-len-gt-MOST_COMMS-clause-fault c = λ _.
 
 pub returns-in-Some-clause-fault : goal.returns-in-Some-clause-fault
 returns-in-Some-clause-fault c = λ _.
-    let short : length c.args.comms.items ≤ 65536 = omega arith in
+    let short : length c.args.comms.items ≤ 16777216 = omega arith in
     let found : comm_fault c.args.ranks c.args.world c.args.comms.items ≡ Some c.in-Some.fault = search rules in
     within c.args.ranks c.args.world c.args.comms.items (omega arith) (omega arith) short ∙ found
 
 pub held_in-requires : goal.held_in-requires
 held_in-requires c =
-    let short : length c.args.comms.items ≤ 65536 = omega arith in
+    let short : length c.args.comms.items ≤ 16777216 = omega arith in
     let found : comm_fault c.args.ranks c.args.world c.args.comms.items ≡ None = search rules in
     let order : InOrder c.args.comms.items c.in_ok-comms.comms.items = search rules in
     rw c.deref-8.ensures.value (layout_known c.args.ranks c.args.world c.args.sends c.args.comms.items c.in_ok-comms.comms.items (omega arith) (omega arith) short found order).groups
 
 pub invariant_of-result : goal.invariant_of-result
 invariant_of-result c =
-    let short : length c.args.comms.items ≤ 65536 = omega arith in
+    let short : length c.args.comms.items ≤ 16777216 = omega arith in
     let found : comm_fault c.args.ranks c.args.world c.args.comms.items ≡ None = search rules in
     let free = clear c.args.ranks c.args.world c.args.comms.items found in
     let order : InOrder c.args.comms.items c.in_ok-comms.comms.items = search rules in
@@ -56,13 +56,13 @@ invariant_of-result c =
 
 pub returns-clause-rules : goal.returns-clause-rules
 returns-clause-rules c =
-    let short : length c.args.comms.items ≤ 65536 = omega arith in
+    let short : length c.args.comms.items ≤ 16777216 = omega arith in
     let found : comm_fault c.args.ranks c.args.world c.args.comms.items ≡ None = search rules in
     let order : InOrder c.args.comms.items c.in_ok-comms.comms.items = search rules in
     layout_known c.args.ranks c.args.world c.args.sends c.args.comms.items c.in_ok-comms.comms.items (omega arith) (omega arith) short found order
 
 pub returns-clause-none : goal.returns-clause-none
 returns-clause-none c =
-    let short : length c.args.comms.items ≤ 65536 = omega arith in
+    let short : length c.args.comms.items ≤ 16777216 = omega arith in
     let found : comm_fault c.args.ranks c.args.world c.args.comms.items ≡ None = search rules in
     within c.args.ranks c.args.world c.args.comms.items (omega arith) (omega arith) short ∙ found

@@ -1,6 +1,0 @@
-use Rattle.std.proofs.Common.{◌≡◌, drop}
-use Rattle.text_layouts.specs.Names.{first_from}
-use Rattle.text_layouts.proofs.order.first_from.Given as goal
-
-abbrev pub invariant-loop-place : goal.invariant-loop-place
-invariant-loop-place l = first_from l.number l.place (drop l.place l.numbers) ≡ first_from l.number l.from (drop l.from l.numbers)
