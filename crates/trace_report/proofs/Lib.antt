@@ -6,4 +6,5 @@ pub mod Shapes
 pub mod Each
 pub mod Runs
 pub mod Texts
+pub mod Eight
 pub mod Arrays

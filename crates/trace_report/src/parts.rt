@@ -1,10 +1,10 @@
 //! Parts of a condition, and the runs of ranks among them.
 
-ghost use Rattle.std.specs.Prelude.{◌≡◌, ◌≤◌, ◌<◌, ◌+◌, ◌-◌, ◌++◌, Some, decimal, drop, length, map};
+ghost use Rattle.std.specs.Prelude.{◌≡◌, IsTrue, ◌≤◌, ◌<◌, ◌+◌, ◌-◌, ◌++◌, Some, decimal, drop, length, map};
 ghost use Rattle.std.specs.List.{HoldsAt};
-ghost use Rattle.trace_stuck.specs.Shape.{Wait};
+ghost use Rattle.trace_stuck.specs.Shape.{OnRank, Wait, shape};
 ghost use Rattle.trace_report.specs.Page.{Prints, PrintsUpTo};
-ghost use Rattle.trace_report.specs.Rises.{last_of, rank_of, rise};
+ghost use Rattle.trace_report.specs.Rises.{GoesOnByEight, last_of, rank_of, rise};
 ghost use Rattle.trace_report.specs.Waits.{before_part, ranks_text, text_from, words_of};
 
 use crate::form::Form;
@@ -18,9 +18,9 @@ pub(crate) trait Part {
     /// What it waits for.
     ghost wait: { Self → Wait };
 
-    /// The rank that it is, if it is one.
-    fn rank(&self) -> Option<u32>
-        ensures { result ≡ rank_of (wait self.now) };
+    /// The last of the ranks that rise by one, from a first one over the parts behind it.
+    fn last_rank(first: u32, behind: &[Self]) -> u32
+        ensures { result ≡ first + rise (first + 1) (map rank_of (map wait behind.now)) };
 }
 
 impl Part for u32 {
@@ -28,8 +28,14 @@ impl Part for u32 {
 
     ghost wait = { OnRank };
 
-    fn rank(&self) -> Option<u32> {
-        Some(*self)
+    fn last_rank(first: u32, behind: &[u32]) -> u32 {
+        let mut last = first;
+        let mut at = 0;
+        while at + 8 <= behind.len() && are_next(last, behind, at) {
+            last += 8;
+            at += 8;
+        }
+        last_of_ranks(last, &behind[at..])
     }
 }
 
@@ -38,28 +44,58 @@ impl Part for Condition {
 
     ghost wait = { shape };
 
-    #[tactic(auto, using(crate::proofs::Shapes::shapes))]
-    fn rank(&self) -> Option<u32> {
-        match self {
-            Condition::Rank(rank) => Some(*rank),
-            _ => None,
+    fn last_rank(first: u32, behind: &[Condition]) -> u32 {
+        let mut last = first;
+        for part in behind {
+            let Some(rank) = rank_of(part) else {
+                return last;
+            };
+            if rank as u64 != last as u64 + 1 {
+                return last;
+            }
+            last = rank;
         }
+        last
     }
 }
 
-/// The last of the ranks that rise by one, from a first one over the parts behind it.
-fn last_rank<P: Part>(first: u32, behind: &[P]) -> u32
-    ensures { result ≡ first + rise (first + 1) (map rank_of (map P.wait behind.now)) }
+/// The rank that a condition is, if it is one.
+#[tactic(auto, using(crate::proofs::Shapes::shapes))]
+pub(crate) fn rank_of(part: &Condition) -> Option<u32>
+    ensures { result ≡ rank_of (shape part.now) }
+{
+    match part {
+        Condition::Rank(rank) => Some(*rank),
+        _ => None,
+    }
+}
+
+/// Whether the eight ranks from a place on are the next ones. All are compared, without a branch for each.
+fn are_next(last: u32, ranks: &[u32], at: usize) -> bool
+    requires { at + 8 ≤ length ranks.now }
+    ensures { IsTrue result → GoesOnByEight last ranks.now at }
+{
+    last <= u32::MAX - 8
+        && (ranks[at] == last + 1)
+            & (ranks[at + 1] == last + 2)
+            & (ranks[at + 2] == last + 3)
+            & (ranks[at + 3] == last + 4)
+            & (ranks[at + 4] == last + 5)
+            & (ranks[at + 5] == last + 6)
+            & (ranks[at + 6] == last + 7)
+            & (ranks[at + 7] == last + 8)
+}
+
+/// The last of the ranks that rise by one, one by one.
+fn last_of_ranks(first: u32, behind: &[u32]) -> u32
+    ensures { result ≡ first + rise (first + 1) (map rank_of (map OnRank behind.now)) }
 {
     let mut last = first;
-    for part in behind {
-        let Some(rank) = part.rank() else {
-            return last;
-        };
-        if rank as u64 != last as u64 + 1 {
+    for rank in behind {
+        if *rank as u64 != last as u64 + 1 {
             return last;
         }
-        last = rank;
+        last = *rank;
     }
     last
 }
@@ -71,7 +107,7 @@ fn last_of<P: Part>(version: Version, first: u32, behind: &[P]) -> u32
 {
     match version {
         Version::One => first,
-        Version::Two => last_rank(first, behind),
+        Version::Two => P::last_rank(first, behind),
     }
 }
 

@@ -6,7 +6,7 @@ ghost use Rattle.trace_stuck.specs.Shape.{shape, waits_of, OnRank};
 ghost use Rattle.trace_report.specs.Waits.{before_part, list_text, parts_of, text_from, wait_text, words_of};
 
 use crate::form::Form;
-use crate::parts::{Part, before_part, put_rank_run};
+use crate::parts::{before_part, put_rank_run, rank_of};
 use crate::sink::Sink;
 use crate::version::Version;
 use crate::words::put_number;
@@ -63,7 +63,7 @@ fn put_run<S: Sink>(
     ensures bound { (i < result) × (result ≤ length parts.now) }
     ensures prints { PrintsUpTo (S.page out.old) (S.page out.new) (text_from (words_of form) version i (map shape (drop i parts.now))) (text_from (words_of form) version result (map shape (drop result parts.now))) }
 {
-    match parts[i].rank() {
+    match rank_of(&parts[i]) {
         Some(rank) => put_rank_run(out, form, version, parts, i, rank),
         None => {
             put_part(out, form, version, i, &parts[i]);

@@ -1,8 +1,0 @@
-use Rattle.std.proofs.Common.{◌≡◌, ◌+◌, drop, map}
-use Rattle.trace_report.specs.Rises.{rank_of, rise}
-use Rattle.trace_report.proofs.parts.last_rank.Given as goal
-
--- the whole way is what is behind and what is left
-abbrev pub invariant-loop-part : goal.invariant-loop-part
-invariant-loop-part g l =
-    l.first + rise (l.first + 1) (map rank_of (map g.P.Part.wait l.behind)) ≡ l.last + rise (l.last + 1) (map rank_of (map g.P.Part.wait (drop l.part-index l.behind)))
